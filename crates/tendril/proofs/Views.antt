@@ -1,0 +1,29 @@
+use Rattle.std.proofs.Common.{◌≡◌, ℕ, ◌+◌, ◌-◌, ◌≤◌, List, ◌++◌, length, take, drop, ap, sym, ◌∙◌, arith, append_assoc, length-append}
+use Rattle.std.proofs.lemmas.List.{drop-take, drop-drop, take-take, drop-append-le, length-drop, length-take-le}
+use Rattle.std.proofs.Math.Seq.{take-length}
+
+-- so many bytes stand inline as it says
+pub inline_length : (l : ℕ) (buffer : List ℕ) → l ≤ 8 → length buffer ≡ 8 → length (take l buffer) ≡ l
+inline_length l buffer h e = length-take-le l buffer (omega arith)
+
+-- a view has as many bytes as it says
+pub view_length : (o l : ℕ) (xs : List ℕ) → o + l ≤ length xs → length (take l (drop o xs)) ≡ l
+view_length o l xs h = length-take-le l (drop o xs) (omega (arith, length-drop o xs))
+
+-- a part of a view is a view
+pub view_part : (o l s c : ℕ) (xs : List ℕ) → s + c ≤ l → take c (drop s (take l (drop o xs))) ≡ take c (drop (o + s) xs)
+view_part o l s c xs h =
+    let e : l ≡ s + (l - s) = omega arith in
+    ap (λ n. take c (drop s (take n (drop o xs)))) e ∙ ap (take c) (drop-take s (l - s) (drop o xs)) ∙ take-take c (l - s) (drop s (drop o xs)) (omega arith) ∙ ap (take c) (drop-drop s o xs)
+
+-- a view of a block whose end was replaced behind the first `keep` bytes of the view
+pub view_replaced : (o l keep : ℕ) (xs ys : List ℕ) → o + l ≤ length xs → keep ≤ l → take (keep + length ys) (drop o (take (o + keep) xs ++ ys)) ≡ take keep (take l (drop o xs)) ++ ys
+view_replaced o l keep xs ys h k =
+    let short : length (take (o + keep) xs) ≡ o + keep = length-take-le (o + keep) xs (omega arith) in
+    let split : drop o (take (o + keep) xs ++ ys) ≡ take keep (drop o xs) ++ ys = drop-append-le o (take (o + keep) xs) ys (omega arith) ∙ ap (λ v. v ++ ys) (drop-take o keep xs) in
+    let long : length (take keep (drop o xs) ++ ys) ≡ keep + length ys = length-append (take keep (drop o xs)) ys ∙ ap (λ n. n + length ys) (view_length o keep xs (omega arith)) in
+    ap (take (keep + length ys)) split ∙ ap (λ n. take n (take keep (drop o xs) ++ ys)) (sym long) ∙ take-length (take keep (drop o xs) ++ ys) ∙ ap (λ v. v ++ ys) (sym (take-take keep l (drop o xs) k))
+
+pub ruleset slices = (inline_length, view_length, view_part)
+
+pub ruleset replaces = (inline_length, view_length, view_replaced, length-append, append_assoc)

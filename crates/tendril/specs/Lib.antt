@@ -1,0 +1,4 @@
+pub mod Errors
+pub mod Texts
+pub mod Storages
+pub mod Refusals

@@ -1,0 +1,115 @@
+//! What no contract says: that calls succeed where there is memory, how large a text is, and when it is shared.
+
+use crate::fmt::Bytes;
+use crate::{ByteTendril, NonAtomic, SubtendrilError, Tendril};
+use std::test::Fail;
+
+const DIGITS: &[u8] = b"0123456789";
+
+#[test]
+fn a_text_is_three_words(rt: HostRuntime) {
+    assert_eq!(rt; size_of::<Tendril<Bytes, NonAtomic>>(), 24);
+    assert_eq!(rt; size_of::<ByteTendril>(), 24);
+    assert_eq!(rt; align_of::<ByteTendril>(), 8);
+}
+
+#[test]
+fn empty_text(rt: HostRuntime) {
+    let text: ByteTendril = Tendril::new(rt.alloc());
+    assert_eq!(rt; text.len32(), 0);
+    assert_eq!(rt; text.as_byte_slice(), b"".as_slice());
+    assert!(rt; !text.is_shared());
+}
+
+#[test]
+fn texts_round_the_inline_length(rt: HostRuntime) -> Result<(), Fail> {
+    for len in [0usize, 1, 7, 8, 9, 10] {
+        let bytes = &DIGITS[..len];
+        let mut text: ByteTendril = Tendril::try_from_byte_slice(rt.alloc(), bytes)?;
+        assert_eq!(rt; text.as_byte_slice(), bytes, "made of {len}");
+        assert_eq!(rt; text.clone()?.as_byte_slice(), bytes, "clone of {len}");
+        text.try_push_bytes(b"X")?;
+        assert_eq!(rt; text.len32() as usize, len + 1, "pushed onto {len}");
+        assert_eq!(rt;
+            &text.as_byte_slice()[..len],
+            bytes,
+            "kept by a push onto {len}"
+        );
+        assert_eq!(rt; text.as_byte_slice()[len], b'X', "pushed onto {len}");
+    }
+    Ok(())
+}
+
+#[test]
+fn a_push_onto_a_clone_or_its_source_leaves_the_other(rt: HostRuntime) -> Result<(), Fail> {
+    let mut source: ByteTendril = Tendril::from_slice(rt.alloc(), DIGITS)?;
+    let mut clone = source.clone()?;
+    clone.push_slice(b"X")?;
+    assert_eq!(rt; source.as_byte_slice(), DIGITS);
+    assert_eq!(rt; clone.as_byte_slice(), b"0123456789X".as_slice());
+
+    let other = source.clone()?;
+    source.push_slice(b"YZ")?;
+    source.push_slice(b"!")?;
+    assert_eq!(rt; source.as_byte_slice(), b"0123456789YZ!".as_slice());
+    assert_eq!(rt; other.as_byte_slice(), DIGITS);
+    assert_eq!(rt; clone.as_byte_slice(), b"0123456789X".as_slice());
+    Ok(())
+}
+
+#[test]
+fn a_push_onto_a_slice_cuts_what_lies_behind_it(rt: HostRuntime) -> Result<(), Fail> {
+    let mut slice = {
+        let source: ByteTendril = Tendril::from_slice(rt.alloc(), b"0123456789abcdef")?;
+        source.try_subtendril(2, 9)?
+    };
+    slice.push_slice(b"X")?;
+    assert_eq!(rt; slice.as_byte_slice(), b"23456789aX".as_slice());
+    Ok(())
+}
+
+#[test]
+fn slices_end_within_the_text(rt: HostRuntime) -> Result<(), Fail> {
+    let text: ByteTendril = Tendril::from_slice(rt.alloc(), DIGITS)?;
+    for (offset, count) in [(0u32, 10u32), (1, 9), (0, 9), (9, 1), (10, 0), (3, 2)] {
+        let slice = text.try_subtendril(offset, count)?;
+        let start = offset as usize;
+        assert!(rt; start + count as usize <= DIGITS.len());
+        assert_eq!(rt;
+            slice.as_byte_slice(),
+            &DIGITS[start..start + count as usize]
+        );
+    }
+    for (offset, count) in [(10u32, 1u32), (11, 0), (0, 11), (4294967295, 4294967295)] {
+        assert_eq!(rt;
+            text.try_subtendril(offset, count).err(),
+            Some(SubtendrilError::OutOfBounds)
+        );
+    }
+    Ok(())
+}
+
+#[test]
+fn marks_of_sharing(rt: HostRuntime) -> Result<(), Fail> {
+    let mut text: ByteTendril = Tendril::from_slice(rt.alloc(), DIGITS)?;
+    assert!(rt; !text.is_shared(), "freshly made");
+    let clone = text.clone()?;
+    assert!(rt; text.is_shared() && clone.is_shared(), "after a clone");
+    assert!(rt; clone.try_subtendril(0, 9)?.is_shared(), "a long slice");
+    assert!(rt; !clone.try_subtendril(0, 8)?.is_shared(), "a short slice");
+    text.push_slice(b"X")?;
+    assert!(rt; !text.is_shared(), "after a push");
+    Ok(())
+}
+
+#[test]
+fn a_million_bytes_one_by_one(rt: HostRuntime) -> Result<(), Fail> {
+    let mut text: ByteTendril = Tendril::new(rt.alloc());
+    for _ in 0..1000000 {
+        text.push_slice(b"a")?;
+    }
+    assert_eq!(rt; text.len32(), 1000000);
+    assert!(rt; text.as_byte_slice().iter().all(|byte| *byte == b'a'));
+    assert_eq!(rt; text.clone()?.try_subtendril(1, 999998)?.len32(), 999998);
+    Ok(())
+}

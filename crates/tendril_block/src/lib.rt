@@ -1,0 +1,21 @@
+//! Blocks of bytes that several holders share: what long texts stand in.
+//!
+//! A block is seen by contracts as a list of bytes and the number `copied` of bytes that were copied for this holder.
+//! Only a holder that is alone may change the bytes, so what one holder does is never seen by another.
+#![tactic(auto)]
+
+mod atomicity;
+mod body;
+mod copied;
+mod local;
+mod refusal;
+mod sole;
+
+pub use atomicity::{Atomicity, MAX_HOLDERS, MAX_LEN, MIN_CAP};
+pub use body::Body;
+pub use local::{LocalBlock, NonAtomic};
+pub use refusal::Refusal;
+pub use sole::Sole;
+
+#[cfg(test)]
+mod tests;

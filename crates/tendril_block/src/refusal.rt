@@ -1,0 +1,81 @@
+//! Why a call is refused: one list of reasons for the whole repository.
+ghost use Rattle.std.specs.Prelude.{◌≡◌};
+ghost use Rattle.tendril_block.specs.Refusals.{number_of, name_of};
+
+use std::error::Error;
+use std::fmt;
+
+/// Why a call was refused. The numbers and names are part of the product: programs print them.
+///
+/// Where several apply, the first of this order is answered: 13, 14, 5, 6, 4, 7, 1, 3, 2.
+#[derive(Clone, Copy, Debug, PartialEq, Eq, Hash)]
+pub enum Refusal {
+    /// The resulting text would have more than 4294967295 bytes.
+    TooLong = 1,
+    /// There was no memory for a growth.
+    Memory = 2,
+    /// The block has as many holders as it can have.
+    Count = 3,
+    /// The bytes aren't valid in the format.
+    Invalid = 4,
+    /// An offset, a length or an index past the text.
+    OutOfBounds = 5,
+    /// The text that would be cut out isn't valid in the format.
+    ValidationFailed = 6,
+    /// The format can't represent the character.
+    NotInFormat = 7,
+    /// The end of the input wasn't reached within the given number of reads.
+    TooManyReads = 8,
+    /// A read, an open or a write failed.
+    Io = 9,
+    /// The inner sink refused.
+    SinkRefused = 10,
+    /// This decoder refused before.
+    Failed = 11,
+    /// A worker couldn't be started.
+    NotStarted = 12,
+    /// No such slot, or it is gone.
+    NoSuchSlot = 13,
+    /// The command isn't there for the slot's format.
+    WrongFormat = 14,
+}
+
+impl Refusal {
+    /// The number, from 1 to 14.
+    pub fn number(self) -> u8
+        ensures { result ≡ number_of self }
+    {
+        self as u8
+    }
+
+    /// The name, as `TooLong`.
+    pub fn name(self) -> &'static str
+        ensures { result.now ≡ name_of self }
+    {
+        match self {
+            Refusal::TooLong => "TooLong",
+            Refusal::Memory => "Memory",
+            Refusal::Count => "Count",
+            Refusal::Invalid => "Invalid",
+            Refusal::OutOfBounds => "OutOfBounds",
+            Refusal::ValidationFailed => "ValidationFailed",
+            Refusal::NotInFormat => "NotInFormat",
+            Refusal::TooManyReads => "TooManyReads",
+            Refusal::Io => "Io",
+            Refusal::SinkRefused => "SinkRefused",
+            Refusal::Failed => "Failed",
+            Refusal::NotStarted => "NotStarted",
+            Refusal::NoSuchSlot => "NoSuchSlot",
+            Refusal::WrongFormat => "WrongFormat",
+        }
+    }
+}
+
+/// Prints the number and the name, as `1 TooLong`.
+impl fmt::Display for Refusal {
+    fn fmt<W: fmt::Write>(&self, f: &mut fmt::Formatter<W>) -> fmt::Result {
+        write!(f, "{} {}", self.number(), self.name())
+    }
+}
+
+impl Error for Refusal {}

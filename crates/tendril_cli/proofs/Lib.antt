@@ -1,0 +1,2 @@
+mod SessionLemmas
+mod WordLemmas

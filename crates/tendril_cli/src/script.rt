@@ -1,0 +1,151 @@
+//! A script of commands: its lines one by one, on one table.
+ghost use Rattle.std.specs.Prelude.{◌≡◌, ◌≢◌, Some, IfOk, OnOk, OnErr, [], ◌∷◌, ◌++◌, map, string_bytes};
+ghost use Rattle.std.specs.Io.KnownBytes.{Keeps, append_known};
+ghost use Rattle.std.specs.IoError.{error_kind};
+ghost use Rattle.tendril_cli.specs.Sessions.{Answers, Replies, WritesFromEmpty, WritesLine, WritesScript, lines};
+
+use crate::white_space::WhiteSpace;
+use std::alloc::{AllocError, Global};
+use std::io::{Error, ErrorKind, Write};
+use tendril::NonAtomic;
+use tendril::block::Refusal;
+use tendril_run::{Command, Reply, Table, parse_line, print_reply, run};
+
+// How many bytes are held back before they are written.
+const CHUNK: usize = 8192;
+
+const NEWLINE: u8 = b'\n';
+
+/// Runs the lines of a script on a new table, and writes one line for each that isn't empty, in chunks. It stops at the
+/// first refusal of memory or of a write; what was printed before is written then too.
+pub fn run_script<W: Write>(alloc: Global, script: &[u8], out: &mut W) -> Result<(), Refusal>
+    ensures { OnOk result (WritesScript script.now (W.contents out.old) (W.contents out.new)) }
+{
+    let Ok(lines) = split_lines(alloc, script) else {
+        return Err(Refusal::Memory);
+    };
+    let mut held = Vec::new(alloc);
+    let ran = run_lines(alloc, lines.as_slice(), &mut held, out);
+    let written = write_held(&mut held, out);
+    ran?;
+    written?;
+    match out.flush() {
+        Ok(()) => Ok(()),
+        Err(error) => Err(refusal_of(&error)),
+    }
+}
+
+// The lines of a script, without their line feeds.
+fn split_lines(alloc: Global, script: &[u8]) -> Result<Vec<&[u8]>, AllocError>
+    ensures { IfOk result (λ v. map (λ line. line.now) v.items ≡ lines script.now) }
+{
+    script.split(|byte| *byte == NEWLINE).collect(alloc)
+}
+
+// Runs lines on a new table.
+fn run_lines<W: Write>(
+    alloc: Global,
+    lines: &[&[u8]],
+    held: &mut Vec<u8>,
+    out: &mut W,
+) -> Result<(), Refusal>
+    ensures { OnOk result (WritesFromEmpty (map (λ line. line.now) lines.now) (append_known (W.contents out.old) held.old.items) (append_known (W.contents out.new) held.new.items)) }
+{
+    let mut table = Table::<NonAtomic>::new(alloc);
+    for line in lines {
+        run_line(&mut table, alloc, line, held)?;
+        write_chunk(held, out)?;
+    }
+    Ok(())
+}
+
+// Writes what is held back, where it is a chunk.
+fn write_chunk<W: Write>(held: &mut Vec<u8>, out: &mut W) -> Result<(), Refusal>
+    ensures { OnOk result (Keeps (append_known (W.contents out.old) held.old.items) (append_known (W.contents out.new) held.new.items)) }
+{
+    if held.len() < CHUNK {
+        return Ok(());
+    }
+    write_held(held, out)
+}
+
+// Writes what is held back. After a failed write nothing is held, since a part of it may have been written.
+fn write_held<W: Write>(held: &mut Vec<u8>, out: &mut W) -> Result<(), Refusal>
+    ensures written { OnOk result (Keeps (append_known (W.contents out.old) held.old.items) (W.contents out.new)) }
+    ensures held { held.new.items ≡ [] }
+{
+    let written = out.write_all(held.as_slice());
+    held.clear();
+    match written {
+        Ok(()) => Ok(()),
+        Err(error) => Err(refusal_of(&error)),
+    }
+}
+
+// Runs one line, and puts what it prints behind what is held back.
+fn run_line(
+    table: &mut Table<NonAtomic>,
+    alloc: Global,
+    line: &[u8],
+    held: &mut Vec<u8>,
+) -> Result<(), Refusal>
+    ensures { OnOk result (WritesLine table.old.cells line.now table.new.cells (Some held.old.items) (Some held.new.items)) }
+{
+    if line.is_empty() {
+        return Ok(());
+    }
+    let text = answer(table, alloc, line)?;
+    append_line(held, text.as_bytes())?;
+    Ok(())
+}
+
+// Puts a text and a line feed behind what is held back, or nothing.
+fn append_line(held: &mut Vec<u8>, text: &[u8]) -> Result<(), Refusal>
+    ensures ok { OnOk result (held.new.items ≡ held.old.items ++ (text.now ++ NEWLINE ∷ [])) }
+    ensures err { OnErr result (held.new.items ≡ held.old.items) }
+{
+    let len = held.len();
+    if held.extend_from_slice(text).is_err() {
+        return Err(Refusal::Memory);
+    }
+    if held.push(NEWLINE).is_err() {
+        held.truncate(len);
+        return Err(Refusal::Memory);
+    }
+    Ok(())
+}
+
+// What a line prints.
+fn answer(table: &mut Table<NonAtomic>, alloc: Global, line: &[u8]) -> Result<String, Refusal>
+    ensures { IfOk result (λ text. Answers table.old.cells line.now (string_bytes text) table.new.cells) }
+{
+    match parse_line(alloc, line)? {
+        Some(command) => print_reply(alloc, &reply(table, command)),
+        None => String::from_str(alloc, "malformed").map_err(|_| Refusal::Memory),
+    }
+}
+
+// The reply to one command.
+fn reply(table: &mut Table<NonAtomic>, command: Command) -> Reply
+    ensures { Replies table.old.cells command result table.new.cells }
+{
+    let mut replies = match run(table, &[command], &WhiteSpace) {
+        Ok(replies) => replies,
+        Err(refusal) => return Reply::Refused(refusal),
+    };
+    match replies.pop() {
+        Some(reply) => reply,
+        None => unreachable!(),
+    }
+}
+
+/// The refusal that an error of a reader or a writer is: of memory, or of the read or the write.
+pub fn refusal_of(error: &Error) -> Refusal
+    ensures memory { error_kind error.now ≡ ErrorKind.OutOfMemory → result ≡ Refusal.Memory }
+    ensures io { error_kind error.now ≢ ErrorKind.OutOfMemory → result ≡ Refusal.Io }
+{
+    match error.kind() {
+        ErrorKind::OutOfMemory => Refusal::Memory,
+        _ => Refusal::Io,
+    }
+}

@@ -1,0 +1,257 @@
+//! The program on scripted input: what is printed, and its status.
+
+use crate::program::program;
+use std::alloc::Global;
+use std::io;
+use std::io::{Error, ErrorKind, Read, Write};
+use std::test::Fail;
+
+/// What the program was seen to do.
+#[derive(Drop)]
+struct Seen {
+    status: u8,
+    out: Vec<u8>,
+    err: Vec<u8>,
+}
+
+fn run_program(alloc: Global, words: &[&str], mut input: &[u8]) -> Seen {
+    let mut out = Vec::new(alloc);
+    let mut err = Vec::new(alloc);
+    let status = program(alloc, words, &mut input, &mut out, &mut err);
+    Seen { status, out, err }
+}
+
+#[test]
+fn a_session_of_byte_texts(rt: HostRuntime) {
+    let script = b"from bytes 30313233343536373839\n\
+        clone 0\n\
+        push 1 58\n\
+        text 0\n\
+        text 1\n\
+        slice 0 1 9\n\
+        slice 0 10 0\n\
+        slice 0 10 1\n\
+        text 2\n\
+        text 3\n\
+        new utf8\n";
+    let printed = b"slot 0\n\
+        slot 1\n\
+        ok\n\
+        bytes 30313233343536373839\n\
+        bytes 3031323334353637383958\n\
+        slot 2\n\
+        slot 3\n\
+        refused 5 OutOfBounds\n\
+        bytes 313233343536373839\n\
+        bytes -\n\
+        malformed\n";
+    for named in [false, true] {
+        let seen = if named {
+            run_program(rt.alloc(), &["run"], script)
+        } else {
+            run_program(rt.alloc(), &[], script)
+        };
+        assert_eq!(rt; seen.status, 0);
+        assert_eq!(rt; seen.out.as_slice(), printed.as_slice());
+        assert_eq!(rt; seen.err.as_slice(), b"".as_slice());
+    }
+}
+
+#[test]
+fn empty_input_prints_nothing(rt: HostRuntime) {
+    let seen = run_program(rt.alloc(), &[], b"");
+    assert_eq!(rt; seen.status, 0);
+    assert_eq!(rt; seen.out.as_slice(), b"".as_slice());
+    assert_eq!(rt; seen.err.as_slice(), b"".as_slice());
+}
+
+#[test]
+fn the_last_line_may_lack_its_line_feed(rt: HostRuntime) {
+    let seen = run_program(rt.alloc(), &[], b"new bytes\n\n\ntext 0");
+    assert_eq!(rt; seen.out.as_slice(), b"slot 0\nbytes -\n".as_slice());
+}
+
+#[test]
+fn bad_lines_are_malformed_and_change_nothing(rt: HostRuntime) {
+    let script = b"from bytes 30\n\
+        \xff\xfe 0\n\
+        push 0\n\
+        push 0 3\n\
+        push 0 31 \n\
+        push 00 31\n\
+        push 4294967296 31\n\
+        push  0 31\n\
+        push 0 31\r\n\
+        \x20\n\
+        text 0\n";
+    let printed = b"slot 0\n\
+        malformed\n\
+        malformed\n\
+        malformed\n\
+        malformed\n\
+        malformed\n\
+        malformed\n\
+        malformed\n\
+        malformed\n\
+        malformed\n\
+        bytes 30\n";
+    let seen = run_program(rt.alloc(), &[], script);
+    assert_eq!(rt; seen.status, 0);
+    assert_eq!(rt; seen.out.as_slice(), printed.as_slice());
+}
+
+#[test]
+fn slots_that_are_not_there(rt: HostRuntime) {
+    let script =
+        b"text 0\nnew bytes\ndrop 0\ndrop 0\npush 0 31\nclone 0\nslice 0 0 0\ntext 4294967295\nnew bytes\n";
+    let printed = b"refused 13 NoSuchSlot\n\
+        slot 0\n\
+        ok\n\
+        refused 13 NoSuchSlot\n\
+        refused 13 NoSuchSlot\n\
+        refused 13 NoSuchSlot\n\
+        refused 13 NoSuchSlot\n\
+        refused 13 NoSuchSlot\n\
+        slot 1\n";
+    let seen = run_program(rt.alloc(), &[], script);
+    assert_eq!(rt; seen.status, 0);
+    assert_eq!(rt; seen.out.as_slice(), printed.as_slice());
+}
+
+#[test]
+fn texts_of_many_lengths(rt: HostRuntime) -> Result<(), Fail> {
+    let alloc = rt.alloc();
+    for len in [7u32, 8, 9, 1000000] {
+        let mut script = Vec::new(alloc);
+        let mut text = Vec::new(alloc);
+        for _ in 0..len {
+            text.extend_from_slice(b"a5")?;
+        }
+        script.extend_from_slice(b"from bytes ")?;
+        script.extend_from_slice(text.as_slice())?;
+        script.extend_from_slice(b"\nclone 0\npush 1 5A\ntext 0\ntext 1\n")?;
+
+        let mut printed = Vec::new(alloc);
+        printed.extend_from_slice(b"slot 0\nslot 1\nok\nbytes ")?;
+        printed.extend_from_slice(text.as_slice())?;
+        printed.extend_from_slice(b"\nbytes ")?;
+        printed.extend_from_slice(text.as_slice())?;
+        printed.extend_from_slice(b"5a\n")?;
+
+        let seen = run_program(alloc, &[], script.as_slice());
+        assert_eq!(rt; seen.status, 0);
+        assert!(rt; seen.out.as_slice() == printed.as_slice(), "length {len}");
+    }
+    Ok(())
+}
+
+#[test]
+fn a_script_of_a_hundred_thousand_lines(rt: HostRuntime) -> Result<(), Fail> {
+    let alloc = rt.alloc();
+    let mut script = Vec::from_slice(alloc, b"from bytes 303132333435363738\n")?;
+    let mut printed = Vec::from_slice(alloc, b"slot 0\n")?;
+    for _ in 0..50000 {
+        script.extend_from_slice(b"push 0 61\nclone 7\n")?;
+        printed.extend_from_slice(b"ok\nrefused 13 NoSuchSlot\n")?;
+    }
+    let seen = run_program(alloc, &["run"], script.as_slice());
+    assert_eq!(rt; seen.status, 0);
+    assert!(rt; seen.out.as_slice() == printed.as_slice());
+    Ok(())
+}
+
+#[test]
+fn other_words_print_the_usage(rt: HostRuntime) {
+    let usage = b"usage: tendril run | tendril decode\n";
+    for words in [
+        ["decode"].as_slice(),
+        &["runs"],
+        &[""],
+        &["run", "run"],
+        &["run", ""],
+        &["-h", "x", "y"],
+    ] {
+        let seen = run_program(rt.alloc(), words, b"new bytes\n");
+        assert_eq!(rt; seen.status, 2);
+        assert_eq!(rt; seen.out.as_slice(), b"".as_slice());
+        assert_eq!(rt; seen.err.as_slice(), usage.as_slice());
+    }
+}
+
+/// A reader that gives its bytes a few at a time, and then fails.
+#[derive(Drop)]
+struct Breaks<'a>(&'a [u8]);
+
+impl Read for Breaks<'_> {
+    fn read(&mut self, buf: &mut [u8]) -> io::Result<usize> {
+        if self.0.is_empty() || buf.is_empty() {
+            return Err(Error::from(ErrorKind::BrokenPipe));
+        }
+        buf[0] = self.0[0];
+        self.0 = &self.0[1..];
+        Ok(1)
+    }
+}
+
+#[test]
+fn a_reader_that_fails_in_the_middle(rt: HostRuntime) {
+    let mut input = Breaks(b"new bytes\ntext 0\n");
+    let mut out = Vec::new(rt.alloc());
+    let mut err = Vec::new(rt.alloc());
+    let status = program(rt.alloc(), &[], &mut input, &mut out, &mut err);
+    assert_eq!(rt; status, 1);
+    assert_eq!(rt; out.as_slice(), b"".as_slice());
+    assert_eq!(rt; err.as_slice(), b"tendril: refused 9 Io\n".as_slice());
+}
+
+/// A writer that takes a few bytes at a time, and fails once it has taken so many.
+#[derive(Drop)]
+struct Fills {
+    bytes: Vec<u8>,
+    most: usize,
+}
+
+impl Write for Fills {
+    fn write(&mut self, buf: &[u8]) -> io::Result<usize> {
+        let room = self
+            .most
+            .saturating_sub(self.bytes.len())
+            .min(1000)
+            .min(buf.len());
+        if room == 0 {
+            return Err(Error::from(ErrorKind::BrokenPipe));
+        }
+        self.bytes.extend_from_slice(&buf[..room])?;
+        Ok(room)
+    }
+
+    fn flush(&mut self) -> io::Result<()> {
+        Ok(())
+    }
+}
+
+#[test]
+fn a_writer_that_fails(rt: HostRuntime) -> Result<(), Fail> {
+    let alloc = rt.alloc();
+    let mut script = Vec::new(alloc);
+    let mut printed = Vec::new(alloc);
+    for _ in 0..5000 {
+        script.extend_from_slice(b"text 0\n")?;
+        printed.extend_from_slice(b"refused 13 NoSuchSlot\n")?;
+    }
+    // At its first write, at a later one, and in the middle of a chunk.
+    for most in [0, 1000, 8192, 50000, 109999] {
+        let mut input = script.as_slice();
+        let mut out = Fills {
+            bytes: Vec::new(alloc),
+            most,
+        };
+        let mut err = Vec::new(alloc);
+        let status = program(alloc, &[], &mut input, &mut out, &mut err);
+        assert_eq!(rt; status, 1);
+        assert_eq!(rt; out.bytes.len(), most);
+        assert!(rt; printed.starts_with(out.bytes.as_slice()));
+        assert_eq!(rt; err.as_slice(), b"tendril: refused 9 Io\n".as_slice());
+    }
+    Ok(())
+}

@@ -1,0 +1,14 @@
+//! What joining two texts changes at their seam.
+ghost use Rattle.std.specs.Prelude.{◌≡◌};
+
+/// How many bytes a join drops at the end of the left text and at the beginning of the right one, and the bytes that
+/// it puts between them, the first `insert_len` of `insert_bytes`.
+///
+/// The default drops and inserts nothing.
+#[derive(Clone, Copy, Debug, Default, PartialEq, Eq)]
+pub struct Fixup {
+    pub drop_left: u32,
+    pub drop_right: u32,
+    pub insert_len: u32,
+    pub insert_bytes: [u8; 4],
+}

@@ -1,0 +1,4 @@
+mod Chain
+mod Numbers
+mod OneChanged
+mod Reading

@@ -1,0 +1,46 @@
+use Rattle.std.proofs.Common.{◌≡◌, ℕ, ◌<◌, ◌⊎◌, List, length, get_or, set, map, ap, sym, subst, refl, ◌∙◌, Option, Some, None, Bool, true, false, if◌then◌else◌, [], ◌∷◌, ◌++◌, All, rules}
+use Rattle.std.proofs.lemmas.List.{map-set, map-append, get_or-map}
+use Rattle.std.proofs.lemmas.List.Elements.{All-set, All-push}
+use Rattle.std.proofs.Math.Seq.{map-set_same}
+use Rattle.tendril_block.specs.declared.refusal.Refusal.{Refusal}
+use Rattle.tendril_run.specs.Cells.{Cell, IsCell, gone, cell_at}
+use Rattle.tendril_run.specs.OneCell.{CellChanged}
+use Rattle.tendril_run.specs.Rules.{Outcome}
+use Rattle.tendril_run.specs.declared.command.Reply.{Reply}
+use Rattle.tendril_run.specs.declared.command.Reply.TheVariants.{Done, Made, Text, Refused}
+
+-- one cell of a table was old, and after it is new
+pub record OneChanged (cells : List Cell) (slot : ℕ) (old new : Cell) (after : List Cell) : Type 0 where
+  pub here : cell_at cells slot ≡ old
+  pub there : after ≡ set cells slot new
+  pub kept : new ≡ old → after ≡ cells
+
+pub one_changed : {S : Type 0} (f : S → Cell) (items : List S) (cells : List Cell) (slot : ℕ) (s t : S) → map f items ≡ cells → slot < length items → s ≡ get_or items slot s → OneChanged cells slot (f s) (f t) (map f (set items slot t))
+one_changed f items cells slot s t is within found = record {
+  here = ap (λ xs. get_or xs slot gone) (sym is) ∙ get_or-map f items slot s gone within ∙ ap f (sym found);
+  there = map-set f items slot t ∙ ap (λ xs. set xs slot (f t)) is;
+  kept = λ same. map-set_same f items slot t s (same ∙ ap f found) ∙ is;
+}
+
+-- the change of one cell is that of its table
+pub table_changed : (must : Cell → Option Refusal → Type 0) (may : Cell → Refusal → Type 0) (effect : Cell → Cell) (cells : List Cell) (slot : ℕ) (old new : Cell) (after : List Cell) (reply : Reply) → OneChanged cells slot old new after → CellChanged (must old) (may old) (effect old) old reply new → Outcome (must (cell_at cells slot)) (may (cell_at cells slot)) (λ reply new. (reply ≡ Done) × (new ≡ set cells slot (effect (cell_at cells slot)))) cells reply after
+table_changed must may effect cells slot old new after Done one h =
+    (subst (λ c. must c None) (sym one.here) h.0, (refl, one.there ∙ ap (λ c. set cells slot c) (h.1.1 ∙ ap effect (sym one.here))))
+table_changed must may effect cells slot old new after (Refused r) one h =
+    (one.kept h.0, subst (λ c. must c (Some r) ⊎ (must c None × may c r)) (sym one.here) h.1)
+table_changed must may effect cells slot old new after (Made n) one h = cc (h.1.0)
+table_changed must may effect cells slot old new after (Text kind z) one h = cc (h.1.0)
+
+-- cells stay cells where one of them is replaced by a cell
+pub set_cells : {S : Type 0} (f : S → Cell) (items : List S) (slot : ℕ) (s : S) → All IsCell (map f items) → IsCell (f s) → All IsCell (map f (set items slot s))
+set_cells f items slot s h one = subst (λ cells. All IsCell cells) (sym (map-set f items slot s)) (All-set IsCell (map f items) slot (f s) one h)
+
+-- and where a cell is added, or none
+pub added_cells : {S : Type 0} (f : S → Cell) (b : Bool) (items after : List S) (s : S) → after ≡ (if b then items ++ s ∷ [] else items) → All IsCell (map f items) → IsCell (f s) → All IsCell (map f after)
+added_cells f true items after s e h one =
+    subst (λ xs. All IsCell (map f xs)) (sym e) (subst (λ cells. All IsCell cells) (sym (map-append f items (s ∷ []))) (All-push IsCell (map f items) (f s) h one))
+added_cells f false items after s e h one = subst (λ xs. All IsCell (map f xs)) (sym e) h
+
+-- a cell that is added, by another name
+pub added_as : (cells after : List Cell) (one other : Cell) → after ≡ cells ++ one ∷ [] → one ≡ other → after ≡ cells ++ other ∷ []
+added_as cells after one other h e = h ∙ ap (λ c. cells ++ c ∷ []) e

@@ -1,0 +1,31 @@
+use Rattle.std.specs.Prelude.{ℕ, ◌++◌, ◌≤◌, List, length, get_or}
+use Rattle.tendril_block.specs.declared.atomicity.TheConstants.{MAX_LEN}
+use Rattle.tendril_run.specs.declared.command.Kind.{Kind}
+use Rattle.tendril_run.specs.declared.command.Kind.TheVariants.{Bytes}
+
+-- a cell of a table: a text in a format, or gone
+pub data Cell : Type 0 where
+  gone : Cell
+  text : Kind → List ℕ → Cell
+
+-- a table: its cells, and how many more it has room for
+pub record Board : Type 0 where
+  pub cells : List Cell
+  pub room : ℕ
+
+-- the lists that are valid in a format
+abbrev pub valid_in : Kind → List ℕ → Type 0
+valid_in Bytes b = Unit {0}
+
+-- two valid lists as one
+abbrev pub join_in : Kind → List ℕ → List ℕ → List ℕ
+join_in Bytes l r = l ++ r
+
+-- the cell of a number, gone past the end
+abbrev pub cell_at : List Cell → ℕ → Cell
+cell_at cells slot = get_or cells slot gone
+
+-- what a cell may be: gone, or a text that is valid in its format and not too long
+abbrev pub IsCell : Cell → Type 0
+IsCell gone = Unit {0}
+IsCell (text kind b) = valid_in kind b × (length b ≤ MAX_LEN)

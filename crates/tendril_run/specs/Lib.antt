@@ -1,0 +1,10 @@
+pub mod Cells
+pub mod CellOf
+pub mod Rules
+pub mod OneCell
+pub mod Steps
+pub mod Runs
+pub mod Words
+pub mod Lines
+pub mod Verbs
+pub mod Printed

@@ -1,0 +1,40 @@
+use Rattle.std.specs.Prelude.{ℕ, ◌≡◌, List, [], ◌∷◌, codes}
+use Rattle.tendril_run.specs.Words.{words, IsNumber, kind_name, IsHex}
+use Rattle.tendril_run.specs.declared.command.Kind.{Kind}
+use Rattle.tendril_run.specs.declared.command.Command.{Command}
+use Rattle.tendril_run.specs.declared.command.Command.TheVariants.{New, FromBytes, PushBytes, Slice, Clone, Text, Drop}
+
+-- what a word of a line stands for
+pub data Word : Type 0 where
+  name : List ℕ → Word
+  number : ℕ → Word
+  format : Kind → Word
+  bytes : List ℕ → Word
+
+-- the word that stands for it: a name for itself
+abbrev pub IsWord : Word → List ℕ → Type 0
+IsWord (name text) word = word ≡ text
+IsWord (number n) word = IsNumber n word
+IsWord (format kind) word = word ≡ kind_name kind
+IsWord (bytes b) word = IsHex b word
+
+-- one word each, and no more
+abbrev pub AreWords : List Word → List (List ℕ) → Type 0
+AreWords [] [] = Unit {0}
+AreWords (x ∷ xs) (word ∷ rest) = IsWord x word × AreWords xs rest
+AreWords [] (word ∷ rest) = ⊥
+AreWords (x ∷ xs) [] = ⊥
+
+-- the words of a command
+abbrev pub words_of : Command → List Word
+words_of (New kind) = name (codes "new") ∷ format kind ∷ []
+words_of (FromBytes kind b) = name (codes "from") ∷ format kind ∷ bytes b ∷ []
+words_of (PushBytes slot b) = name (codes "push") ∷ number slot ∷ bytes b ∷ []
+words_of (Slice slot offset length) = name (codes "slice") ∷ number slot ∷ number offset ∷ number length ∷ []
+words_of (Clone slot) = name (codes "clone") ∷ number slot ∷ []
+words_of (Text slot) = name (codes "text") ∷ number slot ∷ []
+words_of (Drop slot) = name (codes "drop") ∷ number slot ∷ []
+
+-- the line is the command's
+abbrev pub IsLine : Command → List ℕ → Type 0
+IsLine command line = AreWords (words_of command) (words line)

@@ -1,0 +1,36 @@
+use Rattle.std.specs.Prelude.{ℕ, ◌≡◌, ◌<◌, ◌+◌, ◌⊎◌, List, length, take, drop, Option, Some, None}
+use Rattle.tendril_block.specs.declared.atomicity.TheConstants.{MAX_LEN}
+use Rattle.tendril_block.specs.declared.refusal.Refusal.{Refusal}
+use Rattle.tendril_block.specs.declared.refusal.Refusal.TheVariants.{TooLong, Memory, Count, Invalid, OutOfBounds, ValidationFailed}
+use Rattle.tendril_run.specs.declared.command.Reply.{Reply}
+use Rattle.tendril_run.specs.declared.command.Reply.TheVariants.{Done, Refused}
+
+-- the refusal where the condition holds, and else what the rest says
+abbrev pub First : Type 0 → Refusal → Type 0 → Option Refusal → Type 0
+First condition refusal rest must = (condition × (must ≡ Some refusal)) ⊎ ((condition → ⊥) × rest)
+
+-- the first refusal of bytes y that are given for a text, which would have so many bytes then
+abbrev pub BytesMust : (List ℕ → Type 0) → List ℕ → ℕ → Option Refusal → Type 0
+BytesMust valid y count must = First (valid y → ⊥) Invalid (First (MAX_LEN < count) TooLong (must ≡ None) must) must
+
+-- no state rules out that memory is wanting where a text would have so many bytes
+abbrev pub MemoryMay : ℕ → Refusal → Type 0
+MemoryMay count r = (r ≡ Memory) × (8 < count)
+
+-- the first refusal of the part of b of so many bytes from the offset on
+abbrev pub SliceMust : (List ℕ → Type 0) → List ℕ → ℕ → ℕ → Option Refusal → Type 0
+SliceMust valid b offset count must = First (length b < offset + count) OutOfBounds (First (valid (take count (drop offset b)) → ⊥) ValidationFailed (must ≡ None) must) must
+
+-- no state rules out that the count is full where so many bytes would be shared
+abbrev pub CountMay : ℕ → Refusal → Type 0
+CountMay count r = (r ≡ Count) × (8 < count)
+
+-- what a call may answer and leave: a refusal that must come or one that may, and nothing changed; or its effect
+abbrev pub Outcome : {X : Type 0} → (Option Refusal → Type 0) → (Refusal → Type 0) → (Reply → X → Type 0) → X → Reply → X → Type 0
+Outcome must may effect old (Refused r) new = (new ≡ old) × (must (Some r) ⊎ (must None × may r))
+Outcome must may effect old reply new = must None × effect reply new
+
+-- a push of y onto b
+abbrev pub TextPushed : (List ℕ → Type 0) → (List ℕ → List ℕ → List ℕ) → List ℕ → List ℕ → Reply → List ℕ → Type 0
+TextPushed valid join b y reply new =
+    Outcome (BytesMust valid y (length (join b y))) (MemoryMay (length (join b y))) (λ reply new. (reply ≡ Done) × (new ≡ join b y)) b reply new

@@ -1,0 +1,79 @@
+//! What a table is asked, and what it answers.
+ghost use Rattle.std.specs.Prelude.{◌≡◌, ℕ, List};
+
+use std::marker::Model;
+use tendril::block::Refusal;
+
+/// A format, by its name.
+#[derive(Clone, Copy, Debug, PartialEq, Eq)]
+pub enum Kind {
+    Bytes,
+}
+
+/// Bytes that a command or a reply carries.
+#[derive(Debug, Drop)]
+pub struct ByteList {
+    bytes: Vec<u8>,
+}
+
+impl Model for ByteList {
+    ghost Value = { List ℕ };
+
+    ghost view = { λ b. b.bytes.items };
+}
+
+impl ByteList {
+    /// The bytes of a vector. Takes no memory.
+    pub fn new(bytes: Vec<u8>) -> Self
+        ensures { result ≡ bytes.items }
+    {
+        ByteList { bytes }
+    }
+
+    /// The bytes.
+    pub fn as_slice(&self) -> &[u8]
+        ensures { result.now ≡ self.now }
+    {
+        self.bytes.as_slice()
+    }
+
+    /// The vector of the bytes. Takes no memory.
+    pub fn into_vec(self) -> Vec<u8>
+        ensures { result.items ≡ self }
+    {
+        let Self { bytes } = self;
+        bytes
+    }
+}
+
+/// What is asked of a table. Slots are named by their numbers, from 0.
+#[derive(Debug, Drop)]
+pub enum Command {
+    /// A new slot with the empty text.
+    New(Kind),
+    /// A new slot with these bytes.
+    FromBytes(Kind, ByteList),
+    /// The bytes at the end of the slot's text.
+    PushBytes(usize, ByteList),
+    /// A new slot with the part of the text that begins at the offset and has so many bytes.
+    Slice(usize, u32, u32),
+    /// A new slot with the same text.
+    Clone(usize),
+    /// The slot's bytes.
+    Text(usize),
+    /// The slot is gone for good. Its number isn't used again.
+    Drop(usize),
+}
+
+/// What is answered to a command.
+#[derive(Debug, Drop)]
+pub enum Reply {
+    /// It is done.
+    Done,
+    /// It is done, and the text is in the new slot of this number.
+    Made(usize),
+    /// The text.
+    Text(Kind, ByteList),
+    /// It is refused, and nothing has changed.
+    Refused(Refusal),
+}

@@ -1,0 +1,25 @@
+//! Commands over tables of texts, and the lines in which they are written.
+//!
+//! A table is seen by contracts as a list of independent cells. What its texts share is never seen: each command
+//! changes the cell that it names, or adds one, and leaves all others.
+#![tactic(auto)]
+
+mod classifier;
+mod command;
+mod line;
+mod reply;
+mod runs;
+mod slot;
+mod table;
+mod words;
+
+pub use classifier::Classifier;
+pub use command::{ByteList, Command, Kind, Reply};
+pub use line::parse_line;
+pub use reply::print_reply;
+pub use runs::run;
+pub use slot::Slot;
+pub use table::Table;
+
+#[cfg(test)]
+mod tests;

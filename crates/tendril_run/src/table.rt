@@ -1,0 +1,222 @@
+//! Texts in numbered slots.
+ghost use Rattle.std.specs.Prelude.{◌≡◌, ◌≤◌, ◌<◌, ◌+◌, ◌⊎◌, ◌++◌, ◌∷◌, [], length, IfOk, IfErr, OnOk, OnErr, IsOk, Some, None, MatchOption, All};
+ghost use Rattle.tendril_run.specs.CellOf.{cell_of};
+ghost use Rattle.tendril_run.specs.Cells.{Cell, IsCell, gone, cell_at};
+ghost use Rattle.tendril_run.specs.OneCell.{CellMust, CellSliceMust, CellCloneMay, part};
+ghost use Rattle.tendril_run.specs.Rules.{CountMay};
+ghost use Rattle.tendril_run.specs.Steps.{Step};
+
+use crate::classifier::Classifier;
+use crate::command::{ByteList, Command, Kind, Reply};
+use crate::slot::Slot;
+use std::alloc::Global;
+use std::marker::Model;
+use tendril::Atomicity;
+use tendril::block::Refusal;
+
+/// Slots that are numbered from 0, each with a text or gone.
+#[derive(Drop)]
+pub struct Table<A: Atomicity> {
+    slots: Vec<Slot<A>>,
+    alloc: Global,
+}
+
+impl<A: Atomicity> Model for Table<A> {
+    ghost use Rattle.std.specs.Prelude.{◌-◌, All, map, vec_len, vec_capacity};
+    ghost use Rattle.tendril_run.specs.Cells.{Board, IsCell};
+
+    ghost Value = { Board };
+
+    ghost use Rattle.tendril_run.specs.CellOf.{cell_of};
+
+    ghost view = { λ t. record { cells = map cell_of t.slots.items; room = vec_capacity t.slots - vec_len t.slots } };
+
+    ghost invariant = { λ t. All IsCell (map cell_of t.slots.items) };
+}
+
+impl<A: Atomicity> Table<A> {
+    /// A table without slots. Takes no memory.
+    pub fn new(alloc: Global) -> Self
+        ensures { result.cells ≡ [] }
+    {
+        Table {
+            slots: Vec::new(alloc),
+            alloc,
+        }
+    }
+
+    /// Puts a slot at the end, in amortized constant time.
+    pub fn push(&mut self, slot: Slot<A>) -> Result<(), (Refusal, Slot<A>)>
+        ensures ok { OnOk result (self.new.cells ≡ self.old.cells ++ cell_of slot ∷ []) }
+        ensures err { OnErr result (self.new.cells ≡ self.old.cells) }
+        ensures refusal { IfErr result (λ e. e.0 ≡ Refusal.Memory) }
+        ensures back { IfErr result (λ e. e.1 ≡ slot) }
+
+        // Where there is room, it is used, and the push isn't refused.
+        ensures room { self.old.room ≤ self.new.room + 1 }
+        ensures succeeds { 1 ≤ self.old.room → IsOk result }
+    {
+        let _kind = slot.kind();
+        match self.slots.push(slot) {
+            Ok(()) => Ok(()),
+            Err(failed) => Err((Refusal::Memory, failed.value)),
+        }
+    }
+
+    /// The slot of a number.
+    pub fn slot(&self, index: usize) -> Option<&Slot<A>>
+        ensures { MatchOption result (length self.now.cells ≤ index) (λ s. (index < length self.now.cells) × (cell_of s.now ≡ cell_at self.now.cells index)) }
+    {
+        self.slots.get(index)
+    }
+
+    /// How many more slots can be made without memory for the table.
+    pub fn room(&self) -> usize
+        ensures { result ≡ self.now.room }
+    {
+        self.slots.capacity() - self.slots.len()
+    }
+
+    /// Makes room for so many more slots.
+    pub fn reserve_slots(&mut self, more: usize) -> Result<(), Refusal>
+        ensures ok { OnOk result (more ≤ self.new.room) }
+        ensures cells { self.new.cells ≡ self.old.cells }
+        ensures room { self.old.room ≤ self.new.room }
+        ensures refusal { IfErr result (λ r. r ≡ Refusal.Memory) }
+        ensures err { OnErr result (self.new.room ≡ self.old.room) }
+    {
+        self.slots.reserve(more).map_err(|_| Refusal::Memory)
+    }
+
+    /// Carries out one command, where there is room for the slot that it may make.
+    pub fn step<C: Classifier>(&mut self, command: &Command, _classifier: &C) -> Reply
+        requires { 1 ≤ self.old.room }
+        ensures step { Step (C.class _classifier.now) self.old.cells command.now result self.new.cells }
+        ensures room { self.old.room ≤ self.new.room + 1 }
+    {
+        match command {
+            Command::New(kind) => self.new_text(*kind),
+            Command::FromBytes(kind, bytes) => self.from_bytes(*kind, bytes),
+            Command::PushBytes(slot, bytes) => self.push_bytes(*slot, bytes),
+            Command::Slice(slot, offset, count) => self.slice(*slot, *offset, *count),
+            Command::Clone(slot) => self.clone_slot(*slot),
+            Command::Text(slot) => self.text(*slot),
+            Command::Drop(slot) => self.drop_slot(*slot),
+        }
+    }
+
+    /// The number of slots, gone ones too.
+    pub(crate) fn len(&self) -> usize
+        ensures len { result ≡ length self.now.cells }
+        ensures valid { All IsCell self.now.cells }
+    {
+        self.slots.len()
+    }
+
+    pub(crate) fn allocator(&self) -> Global {
+        self.alloc
+    }
+
+    // Puts a slot at the end, where there is room.
+    fn add(&mut self, slot: Slot<A>) -> Reply
+        requires { 1 ≤ self.old.room }
+        ensures reply { result ≡ Reply.Made (length self.old.cells) }
+        ensures cells { self.new.cells ≡ self.old.cells ++ cell_of slot ∷ [] }
+        ensures room { self.old.room ≤ self.new.room + 1 }
+    {
+        let number = self.slots.len();
+        let pushed = self.push(slot);
+        prove!(pushed.is_ok());
+        Reply::Made(number)
+    }
+
+    fn new_text(&mut self, kind: Kind) -> Reply
+        requires { 1 ≤ self.old.room }
+        ensures step { (class : _) → Step class self.old.cells (Command.New kind) result self.new.cells }
+        ensures room { self.old.room ≤ self.new.room + 1 }
+    {
+        self.add(Slot::empty(self.allocator(), kind))
+    }
+
+    fn from_bytes(&mut self, kind: Kind, bytes: &ByteList) -> Reply
+        requires { 1 ≤ self.old.room }
+        ensures step { (class : _) → Step class self.old.cells (Command.FromBytes kind bytes.now) result self.new.cells }
+        ensures room { self.old.room ≤ self.new.room + 1 }
+    {
+        match Slot::from_bytes(self.allocator(), kind, bytes) {
+            Ok(slot) => self.add(slot),
+            Err(refusal) => Reply::Refused(refusal),
+        }
+    }
+
+    fn push_bytes(&mut self, slot: usize, bytes: &ByteList) -> Reply
+        ensures step { (class : _) → Step class self.old.cells (Command.PushBytes slot bytes.now) result self.new.cells }
+        ensures room { self.old.room ≤ self.new.room }
+    {
+        if slot >= self.slots.len() {
+            return Reply::Refused(Refusal::NoSuchSlot);
+        }
+        self.slots[slot].push_bytes(bytes)
+    }
+
+    fn slice(&mut self, slot: usize, offset: u32, count: u32) -> Reply
+        requires { 1 ≤ self.old.room }
+        ensures step { (class : _) → Step class self.old.cells (Command.Slice slot offset count) result self.new.cells }
+        ensures room { self.old.room ≤ self.new.room + 1 }
+    {
+        match self.part(slot, offset, count) {
+            Ok(slot) => self.add(slot),
+            Err(refusal) => Reply::Refused(refusal),
+        }
+    }
+
+    fn part(&self, slot: usize, offset: u32, count: u32) -> Result<Slot<A>, Refusal>
+        ensures ok { IfOk result (λ s. CellSliceMust (cell_at self.now.cells slot) offset count None × (cell_of s ≡ part (cell_at self.now.cells slot) offset count)) }
+        ensures refusal { IfErr result (λ r. CellSliceMust (cell_at self.now.cells slot) offset count (Some r) ⊎ (CellSliceMust (cell_at self.now.cells slot) offset count None × CountMay count r)) }
+    {
+        match self.slot(slot) {
+            Some(slot) => slot.slice(offset, count),
+            None => Err(Refusal::NoSuchSlot),
+        }
+    }
+
+    fn clone_slot(&mut self, slot: usize) -> Reply
+        requires { 1 ≤ self.old.room }
+        ensures step { (class : _) → Step class self.old.cells (Command.Clone slot) result self.new.cells }
+        ensures room { self.old.room ≤ self.new.room + 1 }
+    {
+        match self.copy(slot) {
+            Ok(slot) => self.add(slot),
+            Err(refusal) => Reply::Refused(refusal),
+        }
+    }
+
+    fn copy(&self, slot: usize) -> Result<Slot<A>, Refusal>
+        ensures ok { IfOk result (λ s. CellMust (cell_at self.now.cells slot) None × (cell_of s ≡ cell_at self.now.cells slot)) }
+        ensures refusal { IfErr result (λ r. CellMust (cell_at self.now.cells slot) (Some r) ⊎ (CellMust (cell_at self.now.cells slot) None × CellCloneMay (cell_at self.now.cells slot) r)) }
+    {
+        match self.slot(slot) {
+            Some(slot) => slot.clone(),
+            None => Err(Refusal::NoSuchSlot),
+        }
+    }
+
+    fn text(&self, slot: usize) -> Reply
+        ensures { (class : _) → Step class self.now.cells (Command.Text slot) result self.now.cells }
+    {
+        match self.slot(slot) {
+            Some(slot) => slot.text(self.alloc),
+            None => Reply::Refused(Refusal::NoSuchSlot),
+        }
+    }
+
+    fn drop_slot(&mut self, slot: usize) -> Reply
+        ensures step { (class : _) → Step class self.old.cells (Command.Drop slot) result self.new.cells }
+        ensures room { self.old.room ≤ self.new.room }
+    {
+        if slot >= self.slots.len() {
+            return Reply::Refused(Refusal::NoSuchSlot);
+        }
+        self.slots[slot].drop_text()
+    }
+}

@@ -1,0 +1,147 @@
+//! The words of a line.
+
+ghost use Rattle.std.specs.Prelude.{◌≡◌, ◌↔◌, ℕ, List, [], ◌∷◌, map, Some, IfOk};
+ghost use Rattle.tendril_run.specs.Lines.{AreWords, number as number_word, format as format_word, bytes as bytes_word};
+ghost use Rattle.tendril_run.specs.Verbs.{verb_name};
+ghost use Rattle.tendril_run.specs.Words.{words, IsNumber, IsHex, kind_name};
+
+use crate::command::{ByteList, Kind};
+use hex::FromHexError;
+use std::alloc::{AllocError, Global};
+
+/// The first word of a command's line.
+#[derive(Clone, Copy, Debug, PartialEq, Eq)]
+pub enum Verb {
+    New,
+    From,
+    Push,
+    Slice,
+    Clone,
+    Text,
+    Drop,
+}
+
+/// The verb of a word.
+pub fn verb_of(word: &[u8]) -> Option<Verb>
+    ensures { (verb : _) → (result ≡ Some verb) ↔ (word.now ≡ verb_name verb) }
+{
+    match word {
+        b"new" => Some(Verb::New),
+        b"from" => Some(Verb::From),
+        b"push" => Some(Verb::Push),
+        b"slice" => Some(Verb::Slice),
+        b"clone" => Some(Verb::Clone),
+        b"text" => Some(Verb::Text),
+        b"drop" => Some(Verb::Drop),
+        _ => None,
+    }
+}
+
+/// The words of a line.
+pub fn split_words(alloc: Global, line: &[u8]) -> Result<Vec<&[u8]>, AllocError>
+    ensures { IfOk result (λ v. map (λ word. word.now) v.items ≡ words line.now) }
+{
+    line.split(|byte| *byte == b' ').collect(alloc)
+}
+
+/// A number without leading zeros, up to 4294967295.
+pub fn number(word: &[u8]) -> Option<u32>
+    ensures { (n : ℕ) → (result ≡ Some n) ↔ IsNumber n word.now }
+{
+    if word.is_empty() || word[0] == b'+' || (word[0] == b'0' && word.len() > 1) {
+        return None;
+    }
+    let text = str::from_utf8(word).ok()?;
+    text.parse().ok()
+}
+
+/// The format of a name.
+pub fn kind(word: &[u8]) -> Option<Kind>
+    ensures { (kind : _) → (result ≡ Some kind) ↔ (word.now ≡ kind_name kind) }
+{
+    match word {
+        b"bytes" => Some(Kind::Bytes),
+        _ => None,
+    }
+}
+
+/// Bytes in hexadecimal, or a dash for none.
+#[tactic(auto, unfolding(crate::specs::Words::IsHex))]
+pub fn bytes(alloc: Global, word: &[u8]) -> Result<Option<ByteList>, AllocError>
+    ensures { IfOk result (λ found. (b : List ℕ) → (found ≡ Some b) ↔ IsHex b word.now) }
+{
+    match word {
+        [] => Ok(None),
+        b"-" => Ok(Some(ByteList::new(Vec::new(alloc)))),
+        _ => match hex::decode(alloc, word) {
+            Ok(bytes) => Ok(Some(ByteList::new(bytes))),
+            Err(FromHexError::OutOfMemory) => Err(AllocError),
+            Err(_) => Ok(None),
+        },
+    }
+}
+
+/// The format that the words name.
+pub fn one_kind(args: &[&[u8]]) -> Option<Kind>
+    ensures { (k : _) → (result ≡ Some k) ↔ AreWords (format_word k ∷ []) (map (λ word. word.now) args.now) }
+{
+    let [name] = args else {
+        return None;
+    };
+    kind(name)
+}
+
+/// The number that the words are.
+pub fn one_number(args: &[&[u8]]) -> Option<usize>
+    ensures { (n : ℕ) → (result ≡ Some n) ↔ AreWords (number_word n ∷ []) (map (λ word. word.now) args.now) }
+{
+    let [slot] = args else {
+        return None;
+    };
+    Some(number(slot)? as usize)
+}
+
+/// The three numbers that the words are.
+pub fn three_numbers(args: &[&[u8]]) -> Option<(usize, u32, u32)>
+    ensures { (a b c : ℕ) → (result ≡ Some (a, b, c)) ↔ AreWords (number_word a ∷ number_word b ∷ number_word c ∷ []) (map (λ word. word.now) args.now) }
+{
+    let [first, second, third] = args else {
+        return None;
+    };
+    Some((number(first)? as usize, number(second)?, number(third)?))
+}
+
+/// The format and the bytes that the words are.
+pub fn kind_and_bytes(alloc: Global, args: &[&[u8]]) -> Result<Option<(Kind, ByteList)>, AllocError>
+    ensures { IfOk result (λ found. (k : _) (b : List ℕ) → (found ≡ Some (k, b)) ↔ AreWords (format_word k ∷ bytes_word b ∷ []) (map (λ word. word.now) args.now)) }
+{
+    let [first, second] = args else {
+        return Ok(None);
+    };
+    let Some(kind) = kind(first) else {
+        return Ok(None);
+    };
+    let Some(bytes) = bytes(alloc, second)? else {
+        return Ok(None);
+    };
+    Ok(Some((kind, bytes)))
+}
+
+/// The number and the bytes that the words are.
+pub fn number_and_bytes(
+    alloc: Global,
+    args: &[&[u8]],
+) -> Result<Option<(usize, ByteList)>, AllocError>
+    ensures { IfOk result (λ found. (n : ℕ) (b : List ℕ) → (found ≡ Some (n, b)) ↔ AreWords (number_word n ∷ bytes_word b ∷ []) (map (λ word. word.now) args.now)) }
+{
+    let [first, second] = args else {
+        return Ok(None);
+    };
+    let Some(slot) = number(first) else {
+        return Ok(None);
+    };
+    let Some(bytes) = bytes(alloc, second)? else {
+        return Ok(None);
+    };
+    Ok(Some((slot as usize, bytes)))
+}
