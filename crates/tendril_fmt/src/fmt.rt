@@ -3,10 +3,24 @@
 //! A `Format` is seen by contracts as two ghost members: `valid`, the lists of bytes that are valid in it, and `join`,
 //! two valid lists as one. Code above is generic in the format and proved once, from the laws of the trait alone.
 
+mod ascii;
 mod bytes;
 mod fixup;
 mod format;
+mod latin1;
+mod local;
+mod subset;
+mod theorems;
+mod utf8;
+mod wtf8;
 
+pub use ascii::ASCII;
 pub use bytes::Bytes;
 pub use fixup::Fixup;
 pub use format::Format;
+pub use latin1::Latin1;
+pub use local::{utf8_ends, wtf8_ends};
+pub use subset::SubsetOf;
+pub use theorems::laws;
+pub use utf8::UTF8;
+pub use wtf8::WTF8;

@@ -11,7 +11,7 @@ use std::alloc::{AllocError, Global};
 
 /// The first word of a command's line.
 #[derive(Clone, Copy, Debug, PartialEq, Eq)]
-pub enum Verb {
+pub(crate) enum Verb {
     New,
     From,
     Push,
@@ -22,7 +22,7 @@ pub enum Verb {
 }
 
 /// The verb of a word.
-pub fn verb_of(word: &[u8]) -> Option<Verb>
+pub(crate) fn verb_of(word: &[u8]) -> Option<Verb>
     ensures { (verb : _) → (result ≡ Some verb) ↔ (word.now ≡ verb_name verb) }
 {
     match word {
@@ -38,14 +38,14 @@ pub fn verb_of(word: &[u8]) -> Option<Verb>
 }
 
 /// The words of a line.
-pub fn split_words(alloc: Global, line: &[u8]) -> Result<Vec<&[u8]>, AllocError>
+pub(crate) fn split_words(alloc: Global, line: &[u8]) -> Result<Vec<&[u8]>, AllocError>
     ensures { IfOk result (λ v. map (λ word. word.now) v.items ≡ words line.now) }
 {
     line.split(|byte| *byte == b' ').collect(alloc)
 }
 
 /// A number without leading zeros, up to 4294967295.
-pub fn number(word: &[u8]) -> Option<u32>
+pub(crate) fn number(word: &[u8]) -> Option<u32>
     ensures { (n : ℕ) → (result ≡ Some n) ↔ IsNumber n word.now }
 {
     if word.is_empty() || word[0] == b'+' || (word[0] == b'0' && word.len() > 1) {
@@ -56,7 +56,7 @@ pub fn number(word: &[u8]) -> Option<u32>
 }
 
 /// The format of a name.
-pub fn kind(word: &[u8]) -> Option<Kind>
+pub(crate) fn kind(word: &[u8]) -> Option<Kind>
     ensures { (kind : _) → (result ≡ Some kind) ↔ (word.now ≡ kind_name kind) }
 {
     match word {
@@ -67,7 +67,7 @@ pub fn kind(word: &[u8]) -> Option<Kind>
 
 /// Bytes in hexadecimal, or a dash for none.
 #[tactic(auto, unfolding(crate::specs::Words::IsHex))]
-pub fn bytes(alloc: Global, word: &[u8]) -> Result<Option<ByteList>, AllocError>
+pub(crate) fn bytes(alloc: Global, word: &[u8]) -> Result<Option<ByteList>, AllocError>
     ensures { IfOk result (λ found. (b : List ℕ) → (found ≡ Some b) ↔ IsHex b word.now) }
 {
     match word {
@@ -82,7 +82,7 @@ pub fn bytes(alloc: Global, word: &[u8]) -> Result<Option<ByteList>, AllocError>
 }
 
 /// The format that the words name.
-pub fn one_kind(args: &[&[u8]]) -> Option<Kind>
+pub(crate) fn one_kind(args: &[&[u8]]) -> Option<Kind>
     ensures { (k : _) → (result ≡ Some k) ↔ AreWords (format_word k ∷ []) (map (λ word. word.now) args.now) }
 {
     let [name] = args else {
@@ -92,7 +92,7 @@ pub fn one_kind(args: &[&[u8]]) -> Option<Kind>
 }
 
 /// The number that the words are.
-pub fn one_number(args: &[&[u8]]) -> Option<usize>
+pub(crate) fn one_number(args: &[&[u8]]) -> Option<usize>
     ensures { (n : ℕ) → (result ≡ Some n) ↔ AreWords (number_word n ∷ []) (map (λ word. word.now) args.now) }
 {
     let [slot] = args else {
@@ -102,7 +102,7 @@ pub fn one_number(args: &[&[u8]]) -> Option<usize>
 }
 
 /// The three numbers that the words are.
-pub fn three_numbers(args: &[&[u8]]) -> Option<(usize, u32, u32)>
+pub(crate) fn three_numbers(args: &[&[u8]]) -> Option<(usize, u32, u32)>
     ensures { (a b c : ℕ) → (result ≡ Some (a, b, c)) ↔ AreWords (number_word a ∷ number_word b ∷ number_word c ∷ []) (map (λ word. word.now) args.now) }
 {
     let [first, second, third] = args else {
@@ -112,7 +112,10 @@ pub fn three_numbers(args: &[&[u8]]) -> Option<(usize, u32, u32)>
 }
 
 /// The format and the bytes that the words are.
-pub fn kind_and_bytes(alloc: Global, args: &[&[u8]]) -> Result<Option<(Kind, ByteList)>, AllocError>
+pub(crate) fn kind_and_bytes(
+    alloc: Global,
+    args: &[&[u8]],
+) -> Result<Option<(Kind, ByteList)>, AllocError>
     ensures { IfOk result (λ found. (k : _) (b : List ℕ) → (found ≡ Some (k, b)) ↔ AreWords (format_word k ∷ bytes_word b ∷ []) (map (λ word. word.now) args.now)) }
 {
     let [first, second] = args else {
@@ -128,7 +131,7 @@ pub fn kind_and_bytes(alloc: Global, args: &[&[u8]]) -> Result<Option<(Kind, Byt
 }
 
 /// The number and the bytes that the words are.
-pub fn number_and_bytes(
+pub(crate) fn number_and_bytes(
     alloc: Global,
     args: &[&[u8]],
 ) -> Result<Option<(usize, ByteList)>, AllocError>

@@ -3,9 +3,13 @@
 use crate::fmt::fixup::Fixup;
 
 /// A set of lists of bytes, and how two of them join.
+///
+/// The three tests of parts may be asked of any bytes. They need not read all of them: what they promise has the
+/// condition that the bytes are a front, an end or a slice of valid ones.
 pub trait Format {
     ghost use Rattle.std.specs.Prelude.{◌≡◌, ◌≤◌, ℕ, List, [], length, IsTrue, ◌↔◌};
     ghost use Rattle.tendril_fmt.specs.Joins.{joined_by};
+    ghost use Rattle.tendril_fmt.specs.Parts.{IsFrontOf, IsEndOf, IsSliceOf};
 
     /// The lists of bytes that are valid.
     ghost valid: { List ℕ → Type 0 };
@@ -16,6 +20,27 @@ pub trait Format {
     /// Whether the bytes are valid. Reads each byte once.
     fn validate(bytes: &[u8]) -> bool
         ensures { IsTrue result ↔ valid bytes.now };
+
+    /// Whether a front of valid bytes is valid.
+    fn validate_prefix(front: &[u8]) -> bool
+        ensures { (whole : List ℕ) → valid whole → IsFrontOf front.now whole → (IsTrue result ↔ valid front.now) }
+    {
+        Self::validate(front)
+    }
+
+    /// Whether an end of valid bytes is valid.
+    fn validate_suffix(end: &[u8]) -> bool
+        ensures { (whole : List ℕ) → valid whole → IsEndOf end.now whole → (IsTrue result ↔ valid end.now) }
+    {
+        Self::validate(end)
+    }
+
+    /// Whether a slice of valid bytes is valid.
+    fn validate_subseq(slice: &[u8]) -> bool
+        ensures { (whole : List ℕ) → valid whole → IsSliceOf slice.now whole → (IsTrue result ↔ valid slice.now) }
+    {
+        Self::validate(slice)
+    }
 
     /// What the join of two valid texts changes at their seam. A format whose texts join as they are answers
     /// `Fixup::default()`.

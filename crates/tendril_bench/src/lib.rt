@@ -1,0 +1,7 @@
+//! Tests of what no contract says, and a format of a user's own.
+#![tactic(auto)]
+
+pub mod callers;
+pub mod pairs;
+#[cfg(test)]
+mod tests;

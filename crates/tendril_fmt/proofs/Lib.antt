@@ -1,0 +1,12 @@
+pub mod AsciiParts
+pub mod Cuts
+pub mod Decodings
+pub mod FourBytes
+pub mod Fronts
+pub mod LocalTests
+pub mod Parts
+pub mod Rests
+pub mod Seams
+pub mod Sequences
+pub mod Unique
+pub mod Wtf8Joins

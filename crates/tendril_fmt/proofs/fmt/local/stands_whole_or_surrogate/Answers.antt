@@ -1,0 +1,9 @@
+use Rattle.tendril_fmt.specs.Local.{IsWholeOrSurrogate}
+use Rattle.tendril_fmt.proofs.Unique.{accepts-round}
+use Rattle.tendril_fmt.proofs.fmt.local.stands_whole_or_surrogate.Goals as goal
+
+pub returns-in-Some : goal.returns-in-Some
+returns-in-Some c =
+    let r = accepts-round c.args.bytes.now c.args.index IsWholeOrSurrogate c.in-Some.found c.in-Some.ensures.found in
+    let e = c.is_whole_or_surrogate.ensures in
+    (λ t. r.0 (e.0 t), λ a. e.1 (r.1 a))

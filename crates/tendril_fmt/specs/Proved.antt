@@ -1,0 +1,4 @@
+-- Lemmas that a format's laws rest on. They stand here since an `impl` may cite nothing else of its own crate.
+pub mod Encodings
+pub mod Units
+pub mod Unpaired

@@ -1,0 +1,55 @@
+//! ASCII.
+
+use crate::fmt::fixup::Fixup;
+use crate::fmt::format::Format;
+use crate::fmt::latin1::Latin1;
+use crate::fmt::subset::SubsetOf;
+use crate::fmt::utf8::UTF8;
+
+/// ASCII: each byte is at most 7F, so any part of a text is one.
+#[derive(Clone, Copy, Debug, Default)]
+pub struct ASCII;
+
+impl Format for ASCII {
+    ghost use Rattle.std.specs.Prelude.{◌++◌, IsAscii};
+    ghost use Rattle.std.proofs.lemmas.Str.{IsAscii-append};
+    ghost use Rattle.std.proofs.lemmas.Str.Ascii.{IsAscii-nil};
+
+    ghost valid = { IsAscii };
+
+    ghost join = { λ l r. l ++ r };
+
+    ghost empty_valid = { IsAscii-nil };
+
+    ghost join_valid = { IsAscii-append };
+
+    fn validate(bytes: &[u8]) -> bool {
+        bytes.is_ascii()
+    }
+
+    fn validate_prefix(_bytes: &[u8]) -> bool {
+        true
+    }
+
+    fn validate_suffix(_bytes: &[u8]) -> bool {
+        true
+    }
+
+    fn validate_subseq(_bytes: &[u8]) -> bool {
+        true
+    }
+
+    fn fixup(_left: &[u8], _right: &[u8]) -> Fixup {
+        Fixup::default()
+    }
+}
+
+impl SubsetOf<UTF8> for ASCII {
+    ghost use Rattle.std.proofs.lemmas.Str.{IsUtf8-from_ascii};
+
+    ghost subset_valid = { IsUtf8-from_ascii };
+}
+
+impl SubsetOf<Latin1> for ASCII {
+    ghost subset_valid = { λ _ _. tt };
+}

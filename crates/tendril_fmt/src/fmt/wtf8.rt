@@ -1,0 +1,112 @@
+//! WTF-8.
+ghost use Rattle.std.specs.Prelude.{◌≡◌, ◌+◌, ◌*◌, ◌-◌, ◌<◌, ◌≤◌, ◌∷◌, [], ◌++◌, ℕ, List, MatchOption, length, encode_utf8};
+ghost use Rattle.std.specs.Char.Utf16.{surrogate_pair_char};
+ghost use Rattle.tendril_fmt.specs.CodePoints.{EndsWithCodePoint, BeginsWithCodePoint};
+
+use crate::fmt::fixup::Fixup;
+use crate::fmt::format::Format;
+use crate::fmt::local::{first_four, last_four, wtf8_ends};
+use crate::futf::{Meaning, decode, split_code_point};
+
+/// WTF-8: UTF-8 that also holds lone surrogates, in three bytes each, and so any list of 16-bit units
+/// (<https://simonsapin.github.io/wtf-8/>).
+///
+/// The three bytes of a lead surrogate right before those of a trail aren't valid: the two units have the four bytes
+/// of their character. So where the one ends a text and the other begins the next, a join puts these in their place.
+#[derive(Clone, Copy, Debug, Default)]
+pub struct WTF8;
+
+// The lead surrogate that ends the bytes, by its index.
+fn lead_at_end(bytes: &[u8]) -> Option<u16>
+    ensures { MatchOption result ((i : ℕ) → i < 0x400 → ¬ (EndsWithCodePoint bytes.now (0xD800 + i)))
+        (λ i. (i < 0x400) × EndsWithCodePoint bytes.now (0xD800 + i)) }
+{
+    let start = bytes.len().checked_sub(3)?;
+    match decode(&bytes[start..])? {
+        Meaning::LeadSurrogate(index) => Some(index),
+        _ => None,
+    }
+}
+
+// The trail surrogate that begins the bytes, by its index.
+fn trail_at_front(bytes: &[u8]) -> Option<u16>
+    ensures { MatchOption result ((i : ℕ) → i < 0x400 → ¬ (BeginsWithCodePoint bytes.now (0xDC00 + i)))
+        (λ i. (i < 0x400) × BeginsWithCodePoint bytes.now (0xDC00 + i)) }
+{
+    match decode(bytes.get(..3)?)? {
+        Meaning::TrailSurrogate(index) => Some(index),
+        _ => None,
+    }
+}
+
+// The four bytes of the character of a surrogate pair, in place of its two times three.
+fn pair_fixup(lead: u16, trail: u16) -> Fixup
+    requires lead { lead < 0x400 }
+    requires trail { trail < 0x400 }
+    ensures drop_left { result.drop_left ≡ 3 }
+    ensures drop_right { result.drop_right ≡ 3 }
+    ensures insert_len { result.insert_len ≡ 4 }
+    ensures insert_bytes { result.insert_bytes ≡ encode_utf8 (surrogate_pair_char (0xD800 + lead) (0xDC00 + trail)) }
+{
+    let code = 0x1_0000 + (lead as u32) * 0x400 + (trail as u32);
+    Fixup {
+        drop_left: 3,
+        drop_right: 3,
+        insert_len: 4,
+        insert_bytes: [
+            (0xF0 + code / 0x4_0000) as u8,
+            (0x80 + code / 0x1000 % 0x40) as u8,
+            (0x80 + code / 0x40 % 0x40) as u8,
+            (0x80 + code % 0x40) as u8,
+        ],
+    }
+}
+
+impl Format for WTF8 {
+    ghost use Rattle.tendril_fmt.specs.Wtf8.{IsWtf8, wtf8_join};
+    ghost use Rattle.tendril_fmt.specs.Proved.Units.{IsWtf8-nil, IsWtf8-join};
+
+    ghost valid = { IsWtf8 };
+
+    ghost join = { wtf8_join };
+
+    ghost empty_valid = { IsWtf8-nil };
+
+    ghost join_valid = { IsWtf8-join };
+
+    fn validate(bytes: &[u8]) -> bool {
+        let mut rest = bytes;
+        let mut after_lead = false;
+        while !rest.is_empty() {
+            let Some((meaning, after)) = split_code_point(rest) else {
+                return false;
+            };
+            if after_lead && matches!(meaning, Meaning::TrailSurrogate(_)) {
+                return false;
+            }
+            after_lead = matches!(meaning, Meaning::LeadSurrogate(_));
+            rest = after;
+        }
+        true
+    }
+
+    fn validate_prefix(bytes: &[u8]) -> bool {
+        wtf8_ends(&[], last_four(bytes))
+    }
+
+    fn validate_suffix(bytes: &[u8]) -> bool {
+        wtf8_ends(first_four(bytes), &[])
+    }
+
+    fn validate_subseq(bytes: &[u8]) -> bool {
+        wtf8_ends(first_four(bytes), last_four(bytes))
+    }
+
+    /// Reads three bytes of each side at most.
+    fn fixup(left: &[u8], right: &[u8]) -> Fixup {
+        match (lead_at_end(left), trail_at_front(right)) {
+            (Some(lead), Some(trail)) => pair_fixup(lead, trail),
+            _ => Fixup::default(),
+        }
+    }
+}

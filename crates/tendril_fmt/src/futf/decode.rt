@@ -1,0 +1,110 @@
+//! One code point from its bytes.
+ghost use Rattle.std.specs.Prelude.{◌≡◌, ◌∷◌, [], ◌<◌, ◌↔◌, IsTrue, MatchOption};
+ghost use Rattle.tendril_fmt.specs.CodePoints.{IsContinuation, sequence_len, IsMeaningOf, IsDecoded, EncodeNone, Encode, SplitsIntoNone, SplitsInto};
+
+use crate::futf::Meaning;
+
+pub(super) fn is_continuation(byte: u8) -> bool
+    ensures { IsTrue result ↔ IsContinuation byte }
+{
+    0x80 <= byte && byte < 0xC0
+}
+
+// How many bytes a sequence has that `byte` starts, and 0 where it starts none.
+pub(super) fn sequence_len_of(byte: u8) -> usize
+    ensures { result ≡ sequence_len byte }
+{
+    match byte {
+        0x00..0x80 => 1,
+        0x80..0xC0 => 0,
+        0xC0..0xE0 => 2,
+        0xE0..0xF0 => 3,
+        0xF0..0xF8 => 4,
+        0xF8..=0xFF => 0,
+    }
+}
+
+// The code point that two bytes encode.
+fn code_point_2(a: u8, b: u8) -> Option<u32>
+    ensures { IsDecoded (a ∷ b ∷ []) result }
+{
+    if a < 0xC2 || 0xE0 <= a || !is_continuation(b) {
+        return None;
+    }
+    Some(((a as u32) - 0xC0) * 64 + ((b as u32) - 0x80))
+}
+
+// The code point that three bytes encode.
+fn code_point_3(a: u8, b: u8, c: u8) -> Option<u32>
+    ensures { IsDecoded (a ∷ b ∷ c ∷ []) result }
+{
+    if a < 0xE0 || 0xF0 <= a || !is_continuation(b) || !is_continuation(c) {
+        return None;
+    }
+    let code = ((a as u32) - 0xE0) * 4096 + ((b as u32) - 0x80) * 64 + ((c as u32) - 0x80);
+    if code < 0x800 {
+        return None;
+    }
+    Some(code)
+}
+
+// The code point that four bytes encode.
+fn code_point_4(a: u8, b: u8, c: u8, d: u8) -> Option<u32>
+    ensures { IsDecoded (a ∷ b ∷ c ∷ d ∷ []) result }
+{
+    if a < 0xF0 || 0xF8 <= a || !is_continuation(b) || !is_continuation(c) || !is_continuation(d) {
+        return None;
+    }
+    let code = ((a as u32) - 0xF0) * 262144
+        + ((b as u32) - 0x80) * 4096
+        + ((c as u32) - 0x80) * 64
+        + ((d as u32) - 0x80);
+    if code < 0x1_0000 || 0x11_0000 <= code {
+        return None;
+    }
+    Some(code)
+}
+
+// The code point that the bytes encode.
+fn code_point_of(bytes: &[u8]) -> Option<u32>
+    ensures { IsDecoded bytes.now result }
+{
+    match *bytes {
+        [a] if a < 0x80 => Some(a as u32),
+        [a, b] => code_point_2(a, b),
+        [a, b, c] => code_point_3(a, b, c),
+        [a, b, c, d] => code_point_4(a, b, c, d),
+        _ => None,
+    }
+}
+
+// What a code point means.
+fn meaning_of(code: u32) -> Meaning
+    requires { code < 0x11_0000 }
+    ensures { IsMeaningOf code result }
+{
+    match code {
+        0xD800..0xDC00 => Meaning::LeadSurrogate((code - 0xD800) as u16),
+        0xDC00..0xE000 => Meaning::TrailSurrogate((code - 0xDC00) as u16),
+        _ => Meaning::Whole(char::from_u32(code).unwrap()),
+    }
+}
+
+/// What the bytes mean, if they are those of one code point and no more.
+pub(crate) fn decode(bytes: &[u8]) -> Option<Meaning>
+    ensures { MatchOption result (EncodeNone bytes.now) (Encode bytes.now) }
+{
+    Some(meaning_of(code_point_of(bytes)?))
+}
+
+/// What the code point at the front means, and the bytes after it.
+pub(crate) fn split_code_point(bytes: &[u8]) -> Option<(Meaning, &[u8])>
+    ensures { MatchOption result (SplitsIntoNone bytes.now) (λ p. SplitsInto bytes.now p.0 p.1.now) }
+{
+    let len = sequence_len_of(*bytes.first()?);
+    if bytes.len() < len {
+        return None;
+    }
+    let (front, rest) = bytes.split_at(len);
+    Some((decode(front)?, rest))
+}
