@@ -21,3 +21,9 @@ abbrev pub SliceRefused : (List ℕ → Type 0) → List ℕ → ℕ → ℕ →
 SliceRefused valid b offset count OutOfBounds = length b < offset + count
 SliceRefused valid b offset count ValidationFailed = (offset + count ≤ length b) × (valid (take count (drop offset b)) → ⊥)
 SliceRefused valid b offset count Count = (offset + count ≤ length b) × valid (take count (drop offset b)) × (8 < count)
+
+-- when a pop of so many bytes of b, which would leave the rest, is refused
+abbrev pub PopRefused : (List ℕ → Type 0) → List ℕ → ℕ → List ℕ → SubtendrilError → Type 0
+PopRefused valid b count rest OutOfBounds = length b < count
+PopRefused valid b count rest ValidationFailed = (count ≤ length b) × (valid rest → ⊥)
+PopRefused valid b count rest Count = ⊥

@@ -5,13 +5,12 @@
 mod error;
 mod storage;
 mod tendril;
+mod view;
 
 pub use crate::error::SubtendrilError;
-pub use crate::tendril::{ByteTendril, Tendril};
+pub use crate::tendril::{ByteTendril, StrTendril, Tendril, slice_to_tendril, str_to_tendril};
+pub use crate::view::View;
 pub use tendril_block as block;
 pub use tendril_block::{Atomicity, NonAtomic};
-pub use tendril_fmt::fmt;
 pub use tendril_fmt::fmt::Format;
-
-#[cfg(test)]
-mod tests;
+pub use tendril_fmt::{fmt, futf};

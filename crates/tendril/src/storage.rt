@@ -65,6 +65,32 @@ impl<A: Atomicity> Storage<A> {
         }
     }
 
+    /// No bytes, and room for so many.
+    pub(crate) fn with_capacity(alloc: Global, capacity: u32) -> Result<Self, Refusal>
+        ensures bytes { IfOk result (λ s. s.bytes ≡ []) }
+        ensures copied { IfOk result (λ s. s.copied ≡ 0) }
+        ensures refusal { IfErr result (λ r. (r ≡ Refusal.Memory) × (8 < capacity)) }
+    {
+        if capacity as usize <= INLINE {
+            return Ok(Self::new(alloc));
+        }
+        let Ok(bytes) = Vec::with_capacity(alloc, capacity.max(MIN_CAP) as usize) else {
+            return Err(Refusal::Memory);
+        };
+        let Ok(block) = A::make(bytes) else {
+            return Err(Refusal::Memory);
+        };
+        Ok(Storage {
+            held: Held::View {
+                shared: Cell::new(false),
+                block,
+                offset: 0,
+                len: 0,
+            },
+            alloc,
+        })
+    }
+
     /// A copy of three parts, one behind the other.
     pub(crate) fn from_parts(
         alloc: Global,
@@ -202,6 +228,132 @@ impl<A: Atomicity> Storage<A> {
         }
     }
 
+    /// Keeps the bytes from the offset on alone: few inline, many in the same view.
+    pub(crate) fn keep_part(&mut self, offset: u32, count: u32)
+        requires { offset + count ≤ length self.old.bytes }
+        ensures bytes { self.new.bytes ≡ take count (drop offset self.old.bytes) }
+        ensures short { count ≤ 8 → self.new.copied ≤ 8 }
+        ensures long { 8 < count → self.new.copied ≡ self.old.copied }
+    {
+        if count as usize <= INLINE {
+            let part = self.inline_part(offset, count);
+            *self = part;
+            return;
+        }
+        self.keep_view(offset, count);
+    }
+
+    #[tactic(auto, using(crate::proofs::Views::slices))]
+    fn keep_view(&mut self, offset: u32, count: u32)
+        requires within { offset + count ≤ length self.old.bytes }
+        requires long { 8 < count }
+        ensures bytes { self.new.bytes ≡ take count (drop offset self.old.bytes) }
+        ensures copied { self.new.copied ≡ self.old.copied }
+    {
+        match &mut self.held {
+            Held::Inline { .. } => unreachable!(),
+            Held::View {
+                shared,
+                offset: first,
+                len,
+                ..
+            } => {
+                if count < *len {
+                    shared.set(true);
+                }
+                *first += offset;
+                *len = count;
+            }
+        }
+    }
+
+    /// No bytes any more. A block that no other holds is kept for the next ones.
+    pub(crate) fn clear(&mut self)
+        ensures bytes { self.new.bytes ≡ [] }
+        ensures copied { self.new.copied ≤ self.old.copied }
+    {
+        if !self.clears_in_place() {
+            *self = Self::new(self.alloc);
+        }
+    }
+
+    fn clears_in_place(&mut self) -> bool
+        ensures bytes { result ≡ true → self.new.bytes ≡ [] }
+        ensures copied { self.new.copied ≡ self.old.copied }
+    {
+        match &mut self.held {
+            Held::Inline { .. } => false,
+            Held::View {
+                shared,
+                block,
+                offset,
+                len,
+            } => {
+                if !replaces_alone::<A>(block, 0, &[], &[]) {
+                    return false;
+                }
+                *offset = 0;
+                *len = 0;
+                shared.set(false);
+                true
+            }
+        }
+    }
+
+    /// Makes room for so many more bytes, unless the bytes are shared.
+    pub(crate) fn reserve(&mut self, more: usize) -> Result<(), Refusal>
+        requires { length self.old.bytes + more ≤ MAX_LEN }
+        ensures bytes { self.new.bytes ≡ self.old.bytes }
+        ensures copied { self.new.copied ≤ max self.old.copied (length self.old.bytes) }
+        ensures refusal { IfErr result (λ r. (r ≡ Refusal.Memory) × (8 < length self.old.bytes + more)) }
+        ensures err { OnErr result (self.new ≡ self.old) }
+    {
+        let total = self.as_slice().len() + more;
+        if total <= INLINE {
+            return Ok(());
+        }
+        match &mut self.held {
+            Held::Inline { .. } => self.spill(total),
+            Held::View {
+                shared,
+                block,
+                offset,
+                ..
+            } => {
+                if shared.get() {
+                    return Ok(());
+                }
+                reserve_alone::<A>(block, *offset as usize + total)
+            }
+        }
+    }
+
+    // Inline bytes in a block with room for so many.
+    fn spill(&mut self, capacity: usize) -> Result<(), Refusal>
+        ensures bytes { self.new.bytes ≡ self.old.bytes }
+        ensures copied { OnOk result (self.new.copied ≡ length self.old.bytes) }
+        ensures refusal { IfErr result (λ r. r ≡ Refusal.Memory) }
+        ensures err { OnErr result (self.new ≡ self.old) }
+    {
+        let Ok(mut bytes) = Vec::with_capacity(self.alloc, capacity.max(MIN_CAP as usize)) else {
+            return Err(Refusal::Memory);
+        };
+        let Ok(()) = bytes.extend_from_slice(self.as_slice()) else {
+            return Err(Refusal::Memory);
+        };
+        let len = bytes.len() as u32;
+        let Ok(block) = A::make(bytes) else {
+            return Err(Refusal::Memory);
+        };
+        self.held = Held::View {
+            shared: Cell::new(false),
+            block,
+            offset: 0,
+            len,
+        };
+        Ok(())
+    }
+
     /// Puts two parts in the place of all bytes from `keep` on: where they stand, if the block has one holder, else in
     /// a copy of the bytes that stay.
     pub(crate) fn replace_end(
@@ -285,6 +437,19 @@ fn replaces_alone<A: Atomicity>(
     match A::alone_mut(block) {
         Some(body) => body.replace_end(keep, middle, more).is_ok(),
         None => false,
+    }
+}
+
+// Makes room in a block for so many bytes in all, where no other holds it.
+fn reserve_alone<A: Atomicity>(block: &mut A::Block, capacity: usize) -> Result<(), Refusal>
+    ensures bytes { A.bytes_of block.new ≡ A.bytes_of block.old }
+    ensures copied { A.copied block.new ≡ A.copied block.old }
+    ensures refusal { IfErr result (λ r. r ≡ Refusal.Memory) }
+{
+    let missing = capacity.saturating_sub(A::bytes(block).len());
+    match A::alone_mut(block) {
+        Some(body) => body.reserve(missing),
+        None => Ok(()),
     }
 }
 

@@ -6,7 +6,7 @@ use crate::{
 use std::alloc::Global;
 use std::test::Fail;
 use tendril::block::Refusal;
-use tendril::{NonAtomic, Tendril};
+use tendril::{NonAtomic, slice_to_tendril};
 
 struct OneClass;
 
@@ -65,7 +65,7 @@ fn a_slot_is_pushed_and_found(rt: HostRuntime) -> Result<(), Fail> {
     let mut table = Table::<NonAtomic>::new(rt.alloc());
     table.reserve_slots(3)?;
     assert!(rt; table.room() >= 3);
-    let text = Tendril::from_slice(rt.alloc(), b"0123456789")?;
+    let text = slice_to_tendril(rt.alloc(), b"0123456789")?;
     assert!(rt; table.push(Slot::Bytes(text)).is_ok());
     assert!(rt; table.push(Slot::Gone).is_ok());
     let Some(Slot::Bytes(text)) = table.slot(0) else {

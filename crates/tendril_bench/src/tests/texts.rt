@@ -1,8 +1,11 @@
-//! What no contract says: that calls succeed where there is memory, how large a text is, and when it is shared.
+//! Texts: that calls succeed where there is memory, how large a text is, and when it is shared.
 
-use crate::fmt::Bytes;
-use crate::{ByteTendril, NonAtomic, SubtendrilError, Tendril};
 use std::test::Fail;
+use tendril::block::Refusal;
+use tendril::fmt::Bytes;
+use tendril::{
+    ByteTendril, NonAtomic, StrTendril, SubtendrilError, Tendril, slice_to_tendril, str_to_tendril,
+};
 
 const DIGITS: &[u8] = b"0123456789";
 
@@ -15,10 +18,13 @@ fn a_text_is_three_words(rt: HostRuntime) {
 
 #[test]
 fn empty_text(rt: HostRuntime) {
-    let text: ByteTendril = Tendril::new(rt.alloc());
+    let mut text: ByteTendril = Tendril::new(rt.alloc());
     assert_eq!(rt; text.len32(), 0);
     assert_eq!(rt; text.as_byte_slice(), b"".as_slice());
     assert!(rt; !text.is_shared());
+    assert_eq!(rt; text.try_pop_front(0), Ok(()));
+    assert_eq!(rt; text.try_pop_front(1), Err(SubtendrilError::OutOfBounds));
+    assert_eq!(rt; text.try_pop_back(1), Err(SubtendrilError::OutOfBounds));
 }
 
 #[test]
@@ -42,7 +48,7 @@ fn texts_round_the_inline_length(rt: HostRuntime) -> Result<(), Fail> {
 
 #[test]
 fn a_push_onto_a_clone_or_its_source_leaves_the_other(rt: HostRuntime) -> Result<(), Fail> {
-    let mut source: ByteTendril = Tendril::from_slice(rt.alloc(), DIGITS)?;
+    let mut source: ByteTendril = ByteTendril::from_slice(rt.alloc(), DIGITS)?;
     let mut clone = source.clone()?;
     clone.push_slice(b"X")?;
     assert_eq!(rt; source.as_byte_slice(), DIGITS);
@@ -60,7 +66,7 @@ fn a_push_onto_a_clone_or_its_source_leaves_the_other(rt: HostRuntime) -> Result
 #[test]
 fn a_push_onto_a_slice_cuts_what_lies_behind_it(rt: HostRuntime) -> Result<(), Fail> {
     let mut slice = {
-        let source: ByteTendril = Tendril::from_slice(rt.alloc(), b"0123456789abcdef")?;
+        let source: ByteTendril = ByteTendril::from_slice(rt.alloc(), b"0123456789abcdef")?;
         source.try_subtendril(2, 9)?
     };
     slice.push_slice(b"X")?;
@@ -70,7 +76,7 @@ fn a_push_onto_a_slice_cuts_what_lies_behind_it(rt: HostRuntime) -> Result<(), F
 
 #[test]
 fn slices_end_within_the_text(rt: HostRuntime) -> Result<(), Fail> {
-    let text: ByteTendril = Tendril::from_slice(rt.alloc(), DIGITS)?;
+    let text: ByteTendril = ByteTendril::from_slice(rt.alloc(), DIGITS)?;
     for (offset, count) in [(0u32, 10u32), (1, 9), (0, 9), (9, 1), (10, 0), (3, 2)] {
         let slice = text.try_subtendril(offset, count)?;
         let start = offset as usize;
@@ -91,7 +97,7 @@ fn slices_end_within_the_text(rt: HostRuntime) -> Result<(), Fail> {
 
 #[test]
 fn marks_of_sharing(rt: HostRuntime) -> Result<(), Fail> {
-    let mut text: ByteTendril = Tendril::from_slice(rt.alloc(), DIGITS)?;
+    let mut text: ByteTendril = ByteTendril::from_slice(rt.alloc(), DIGITS)?;
     assert!(rt; !text.is_shared(), "freshly made");
     let clone = text.clone()?;
     assert!(rt; text.is_shared() && clone.is_shared(), "after a clone");
@@ -99,6 +105,70 @@ fn marks_of_sharing(rt: HostRuntime) -> Result<(), Fail> {
     assert!(rt; !clone.try_subtendril(0, 8)?.is_shared(), "a short slice");
     text.push_slice(b"X")?;
     assert!(rt; !text.is_shared(), "after a push");
+    Ok(())
+}
+
+#[test]
+fn texts_of_slices_and_strings(rt: HostRuntime) -> Result<(), Fail> {
+    let mut text: StrTendril = StrTendril::from_slice(rt.alloc(), "0123456789")?;
+    text.push_slice("ab")?;
+    assert_eq!(rt; text.as_byte_slice(), b"0123456789ab".as_slice());
+    let text: StrTendril = str_to_tendril(rt.alloc(), "0123456789")?;
+    assert_eq!(rt; text.as_byte_slice(), DIGITS);
+    let text: ByteTendril = slice_to_tendril(rt.alloc(), DIGITS)?;
+    assert_eq!(rt; text.as_byte_slice(), DIGITS);
+    let text: ByteTendril = Tendril::from_byte_slice_without_validating(rt.alloc(), DIGITS)?;
+    assert_eq!(rt; text.as_byte_slice(), DIGITS);
+    Ok(())
+}
+
+#[test]
+fn room_for_more(rt: HostRuntime) -> Result<(), Fail> {
+    for capacity in [0u32, 8, 9, 1000] {
+        let mut text: ByteTendril = Tendril::with_capacity(rt.alloc(), capacity)?;
+        assert_eq!(rt; text.len32(), 0);
+        for len in [3usize, 10] {
+            text.reserve(100)?;
+            text.push_slice(&DIGITS[..len])?;
+        }
+        assert_eq!(rt;
+            text.as_byte_slice(),
+            b"0120123456789".as_slice(),
+            "capacity {capacity}"
+        );
+        let clone = text.clone()?;
+        text.reserve(1000)?;
+        text.clear();
+        assert_eq!(rt; text.as_byte_slice(), b"".as_slice());
+        text.push_bytes_without_validating(b"x")?;
+        assert_eq!(rt; text.as_byte_slice(), b"x".as_slice());
+        assert_eq!(rt; clone.as_byte_slice(), b"0120123456789".as_slice());
+    }
+    Ok(())
+}
+
+#[test]
+fn too_long(rt: HostRuntime) -> Result<(), Fail> {
+    let mut text: ByteTendril = ByteTendril::from_slice(rt.alloc(), b"abc")?;
+    assert_eq!(rt; text.reserve(4294967293).err(), Some(Refusal::TooLong));
+    assert_eq!(rt; text.as_byte_slice(), b"abc".as_slice());
+
+    // Also where the text is shared.
+    let mut text: ByteTendril = ByteTendril::from_slice(rt.alloc(), DIGITS)?;
+    let mut clone = text.clone()?;
+    assert_eq!(rt; text.reserve(4294967295).err(), Some(Refusal::TooLong));
+    assert_eq!(rt; clone.reserve(4294967295).err(), Some(Refusal::TooLong));
+    clone.reserve(0)?;
+    Ok(())
+}
+
+#[test]
+fn a_text_pushed_on_its_clone(rt: HostRuntime) -> Result<(), Fail> {
+    let mut text: ByteTendril = ByteTendril::from_slice(rt.alloc(), DIGITS)?;
+    let clone = text.clone()?;
+    text.push_tendril(&clone)?;
+    assert_eq!(rt; text.as_byte_slice(), b"01234567890123456789".as_slice());
+    assert_eq!(rt; clone.as_byte_slice(), DIGITS);
     Ok(())
 }
 

@@ -1,0 +1,88 @@
+//! Texts seen in another format.
+ghost use Rattle.std.specs.Prelude.{◌≡◌, ◌<◌, ◌≤◌, ◌+◌, length, take, drop, IfOk, IfErr, OnOk};
+ghost use Rattle.tendril.specs.Refusals.{SliceRefused};
+
+use crate::error::SubtendrilError;
+use crate::storage::Storage;
+use crate::tendril::{Tendril, share, try_part};
+use std::marker::{Model, PhantomData};
+use tendril_block::{Atomicity, MAX_LEN, Refusal};
+use tendril_fmt::fmt::{Format, UTF8};
+
+/// A text that is lent and seen in the format `F`, in which it is valid. It stands for a reference to a text in `F`.
+#[derive(Drop)]
+pub struct View<'a, F: Format, A: Atomicity> {
+    storage: &'a Storage<A>,
+    format: PhantomData<F>,
+}
+
+impl<'a, F: Format, A: Atomicity> Model for View<'a, F, A> {
+    ghost use Rattle.tendril.specs.Texts.{Text};
+
+    ghost Value = { Text };
+
+    ghost view = { λ v. v.storage.now };
+
+    ghost invariant = { λ v. F.valid v.storage.now.bytes };
+}
+
+impl<'a, F: Format, A: Atomicity> View<'a, F, A> {
+    ghost use Rattle.tendril.specs.Texts.{Shares};
+
+    /// The view of bytes that are valid in the format.
+    pub(crate) fn new(storage: &'a Storage<A>) -> Self
+        requires { F.valid storage.now.bytes }
+        ensures { result ≡ storage.now }
+    {
+        View {
+            storage,
+            format: PhantomData,
+        }
+    }
+
+    /// The number of bytes.
+    pub fn len32(&self) -> u32
+        ensures { result ≡ length self.now.bytes }
+    {
+        self.storage.len32()
+    }
+
+    /// The bytes.
+    pub fn as_byte_slice(&self) -> &[u8]
+        ensures value { result.now ≡ self.now.bytes }
+        ensures valid { F.valid self.now.bytes }
+        ensures short { length self.now.bytes ≤ MAX_LEN }
+    {
+        self.storage.as_slice()
+    }
+
+    /// The part of so many bytes from the offset on, as a text, where it is there and valid in the format. A long part
+    /// shares the text's bytes.
+    pub fn try_subtendril(&self, offset: u32, count: u32) -> Result<Tendril<F, A>, SubtendrilError>
+        ensures within { OnOk result (offset + count ≤ length self.now.bytes) }
+        ensures valid { OnOk result (F.valid (take count (drop offset self.now.bytes))) }
+        ensures bytes { IfOk result (λ t. t.bytes ≡ take count (drop offset self.now.bytes)) }
+        ensures copied { IfOk result Shares }
+        ensures refusal { IfErr result (SliceRefused F.valid self.now.bytes offset count) }
+    {
+        try_part(self.storage, offset, count)
+    }
+
+    /// The text in the view's format, which shares the bytes of a long one.
+    pub fn to_tendril(&self) -> Result<Tendril<F, A>, Refusal>
+        ensures bytes { IfOk result (λ t. t.bytes ≡ self.now.bytes) }
+        ensures copied { IfOk result Shares }
+        ensures refusal { IfErr result (λ r. (r ≡ Refusal.Count) × (8 < length self.now.bytes)) }
+    {
+        share(self.storage)
+    }
+}
+
+impl<A: Atomicity> View<'_, UTF8, A> {
+    /// The text as a string.
+    pub fn as_str(&self) -> &str
+        ensures { result.now ≡ self.now.bytes }
+    {
+        unsafe { str::from_utf8_unchecked(self.as_byte_slice()) }
+    }
+}
