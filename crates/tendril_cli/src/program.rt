@@ -1,5 +1,5 @@
 //! The program over any reader and writers.
-ghost use Rattle.std.specs.Prelude.{◌≡◌, ◌≤◌, ◌↔◌, map, IsTrue, OnOk};
+ghost use Rattle.std.specs.Prelude.{◌≡◌, ◌≤◌, ◌↔◌, ◌⊎◌, map, IsTrue, IfErr, OnOk};
 ghost use Rattle.tendril_cli.specs.Words.{AskToRun};
 ghost use Rattle.tendril_cli.specs.Sessions.{Ran};
 
@@ -62,7 +62,8 @@ pub fn refuse<E: Write>(refusal: Refusal, err: &mut E) -> u8
 
 // Runs the script that the input has.
 fn run_input<R: Read, W: Write>(alloc: Global, input: &mut R, out: &mut W) -> Result<(), Refusal>
-    ensures { OnOk result (Ran (R.remaining input.old) (W.contents out.old) (W.contents out.new)) }
+    ensures ok { OnOk result (Ran (R.remaining input.old) (W.contents out.old) (W.contents out.new)) }
+    ensures refusal { IfErr result (λ r. (r ≡ Refusal.Memory) ⊎ (r ≡ Refusal.Io)) }
 {
     let mut script = Vec::new(alloc);
     if let Err(error) = input.read_to_end(&mut script) {

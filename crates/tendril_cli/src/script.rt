@@ -1,5 +1,5 @@
 //! A script of commands: its lines one by one, on one table.
-ghost use Rattle.std.specs.Prelude.{◌≡◌, ◌≢◌, Some, IfOk, OnOk, OnErr, [], ◌∷◌, ◌++◌, map, string_bytes};
+ghost use Rattle.std.specs.Prelude.{◌≡◌, ◌≢◌, ◌⊎◌, Some, IfOk, IfErr, OnOk, OnErr, [], ◌∷◌, ◌++◌, map, string_bytes};
 ghost use Rattle.std.specs.Io.KnownBytes.{Keeps, append_known};
 ghost use Rattle.std.specs.IoError.{error_kind};
 ghost use Rattle.tendril_cli.specs.Sessions.{Answers, Replies, WritesFromEmpty, WritesLine, WritesScript, lines};
@@ -19,7 +19,8 @@ const NEWLINE: u8 = b'\n';
 /// Runs the lines of a script on a new table, and writes one line for each that isn't empty, in chunks. It stops at the
 /// first refusal of memory or of a write; what was printed before is written then too.
 pub fn run_script<W: Write>(alloc: Global, script: &[u8], out: &mut W) -> Result<(), Refusal>
-    ensures { OnOk result (WritesScript script.now (W.contents out.old) (W.contents out.new)) }
+    ensures ok { OnOk result (WritesScript script.now (W.contents out.old) (W.contents out.new)) }
+    ensures refusal { IfErr result (λ r. (r ≡ Refusal.Memory) ⊎ (r ≡ Refusal.Io)) }
 {
     let Ok(lines) = split_lines(alloc, script) else {
         return Err(Refusal::Memory);
@@ -49,7 +50,8 @@ fn run_lines<W: Write>(
     held: &mut Vec<u8>,
     out: &mut W,
 ) -> Result<(), Refusal>
-    ensures { OnOk result (WritesFromEmpty (map (λ line. line.now) lines.now) (append_known (W.contents out.old) held.old.items) (append_known (W.contents out.new) held.new.items)) }
+    ensures ok { OnOk result (WritesFromEmpty (map (λ line. line.now) lines.now) (append_known (W.contents out.old) held.old.items) (append_known (W.contents out.new) held.new.items)) }
+    ensures refusal { IfErr result (λ r. (r ≡ Refusal.Memory) ⊎ (r ≡ Refusal.Io)) }
 {
     let mut table = Table::<NonAtomic>::new(alloc);
     for line in lines {
@@ -61,7 +63,8 @@ fn run_lines<W: Write>(
 
 // Writes what is held back, where it is a chunk.
 fn write_chunk<W: Write>(held: &mut Vec<u8>, out: &mut W) -> Result<(), Refusal>
-    ensures { OnOk result (Keeps (append_known (W.contents out.old) held.old.items) (append_known (W.contents out.new) held.new.items)) }
+    ensures ok { OnOk result (Keeps (append_known (W.contents out.old) held.old.items) (append_known (W.contents out.new) held.new.items)) }
+    ensures refusal { IfErr result (λ r. (r ≡ Refusal.Memory) ⊎ (r ≡ Refusal.Io)) }
 {
     if held.len() < CHUNK {
         return Ok(());
@@ -73,6 +76,7 @@ fn write_chunk<W: Write>(held: &mut Vec<u8>, out: &mut W) -> Result<(), Refusal>
 fn write_held<W: Write>(held: &mut Vec<u8>, out: &mut W) -> Result<(), Refusal>
     ensures written { OnOk result (Keeps (append_known (W.contents out.old) held.old.items) (W.contents out.new)) }
     ensures held { held.new.items ≡ [] }
+    ensures refusal { IfErr result (λ r. (r ≡ Refusal.Memory) ⊎ (r ≡ Refusal.Io)) }
 {
     let written = out.write_all(held.as_slice());
     held.clear();
@@ -89,7 +93,8 @@ fn run_line(
     line: &[u8],
     held: &mut Vec<u8>,
 ) -> Result<(), Refusal>
-    ensures { OnOk result (WritesLine table.old.cells line.now table.new.cells (Some held.old.items) (Some held.new.items)) }
+    ensures ok { OnOk result (WritesLine table.old.cells line.now table.new.cells (Some held.old.items) (Some held.new.items)) }
+    ensures refusal { IfErr result (λ r. r ≡ Refusal.Memory) }
 {
     if line.is_empty() {
         return Ok(());
@@ -103,6 +108,7 @@ fn run_line(
 fn append_line(held: &mut Vec<u8>, text: &[u8]) -> Result<(), Refusal>
     ensures ok { OnOk result (held.new.items ≡ held.old.items ++ (text.now ++ NEWLINE ∷ [])) }
     ensures err { OnErr result (held.new.items ≡ held.old.items) }
+    ensures refusal { IfErr result (λ r. r ≡ Refusal.Memory) }
 {
     let len = held.len();
     if held.extend_from_slice(text).is_err() {
@@ -117,7 +123,8 @@ fn append_line(held: &mut Vec<u8>, text: &[u8]) -> Result<(), Refusal>
 
 // What a line prints.
 fn answer(table: &mut Table<NonAtomic>, alloc: Global, line: &[u8]) -> Result<String, Refusal>
-    ensures { IfOk result (λ text. Answers table.old.cells line.now (string_bytes text) table.new.cells) }
+    ensures ok { IfOk result (λ text. Answers table.old.cells line.now (string_bytes text) table.new.cells) }
+    ensures refusal { IfErr result (λ r. r ≡ Refusal.Memory) }
 {
     match parse_line(alloc, line)? {
         Some(command) => print_reply(alloc, &reply(table, command)),

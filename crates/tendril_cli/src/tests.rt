@@ -1,5 +1,9 @@
 //! The program on scripted input: what is printed, and its status.
 
+mod malformed;
+mod refusals;
+mod sessions;
+
 use crate::program::program;
 use std::alloc::Global;
 use std::io;
@@ -21,38 +25,35 @@ fn run_program(alloc: Global, words: &[&str], mut input: &[u8]) -> Seen {
     Seen { status, out, err }
 }
 
-#[test]
-fn a_session_of_byte_texts(rt: HostRuntime) {
-    let script = b"from bytes 30313233343536373839\n\
-        clone 0\n\
-        push 1 58\n\
-        text 0\n\
-        text 1\n\
-        slice 0 1 9\n\
-        slice 0 10 0\n\
-        slice 0 10 1\n\
-        text 2\n\
-        text 3\n\
-        new utf8\n";
-    let printed = b"slot 0\n\
-        slot 1\n\
-        ok\n\
-        bytes 30313233343536373839\n\
-        bytes 3031323334353637383958\n\
-        slot 2\n\
-        slot 3\n\
-        refused 5 OutOfBounds\n\
-        bytes 313233343536373839\n\
-        bytes -\n\
-        malformed\n";
-    for named in [false, true] {
-        let seen = if named {
-            run_program(rt.alloc(), &["run"], script)
-        } else {
-            run_program(rt.alloc(), &[], script)
+/// Runs the commands on the left of the arrows, one after another, and compares what is printed with the right.
+fn check_session(alloc: Global, rows: &str) -> Result<(), Fail> {
+    let mut script = Vec::new(alloc);
+    let mut printed = Vec::new(alloc);
+    for row in rows.lines() {
+        let Some((command, reply)) = row.trim().split_once(" => ") else {
+            return Err(Fail::from(row));
         };
+        writeln!(script, "{command}")?;
+        writeln!(printed, "{reply}")?;
+    }
+    check_script(alloc, script.as_slice(), printed.as_slice())
+}
+
+fn check_script(alloc: Global, script: &[u8], printed: &[u8]) -> Result<(), Fail> {
+    let seen = run_program(alloc, &[], script);
+    if seen.status == 0 && seen.out.as_slice() == printed && seen.err.is_empty() {
+        Ok(())
+    } else {
+        Err(Fail::new(str::from_utf8(seen.out.as_slice())?))
+    }
+}
+
+#[test]
+fn the_word_run_may_be_left_out(rt: HostRuntime) {
+    for words in [[].as_slice(), &["run"]] {
+        let seen = run_program(rt.alloc(), words, b"new bytes\ntext 0\n");
         assert_eq!(rt; seen.status, 0);
-        assert_eq!(rt; seen.out.as_slice(), printed.as_slice());
+        assert_eq!(rt; seen.out.as_slice(), b"slot 0\nbytes -\n".as_slice());
         assert_eq!(rt; seen.err.as_slice(), b"".as_slice());
     }
 }
@@ -69,53 +70,6 @@ fn empty_input_prints_nothing(rt: HostRuntime) {
 fn the_last_line_may_lack_its_line_feed(rt: HostRuntime) {
     let seen = run_program(rt.alloc(), &[], b"new bytes\n\n\ntext 0");
     assert_eq!(rt; seen.out.as_slice(), b"slot 0\nbytes -\n".as_slice());
-}
-
-#[test]
-fn bad_lines_are_malformed_and_change_nothing(rt: HostRuntime) {
-    let script = b"from bytes 30\n\
-        \xff\xfe 0\n\
-        push 0\n\
-        push 0 3\n\
-        push 0 31 \n\
-        push 00 31\n\
-        push 4294967296 31\n\
-        push  0 31\n\
-        push 0 31\r\n\
-        \x20\n\
-        text 0\n";
-    let printed = b"slot 0\n\
-        malformed\n\
-        malformed\n\
-        malformed\n\
-        malformed\n\
-        malformed\n\
-        malformed\n\
-        malformed\n\
-        malformed\n\
-        malformed\n\
-        bytes 30\n";
-    let seen = run_program(rt.alloc(), &[], script);
-    assert_eq!(rt; seen.status, 0);
-    assert_eq!(rt; seen.out.as_slice(), printed.as_slice());
-}
-
-#[test]
-fn slots_that_are_not_there(rt: HostRuntime) {
-    let script =
-        b"text 0\nnew bytes\ndrop 0\ndrop 0\npush 0 31\nclone 0\nslice 0 0 0\ntext 4294967295\nnew bytes\n";
-    let printed = b"refused 13 NoSuchSlot\n\
-        slot 0\n\
-        ok\n\
-        refused 13 NoSuchSlot\n\
-        refused 13 NoSuchSlot\n\
-        refused 13 NoSuchSlot\n\
-        refused 13 NoSuchSlot\n\
-        refused 13 NoSuchSlot\n\
-        slot 1\n";
-    let seen = run_program(rt.alloc(), &[], script);
-    assert_eq!(rt; seen.status, 0);
-    assert_eq!(rt; seen.out.as_slice(), printed.as_slice());
 }
 
 #[test]

@@ -1,4 +1,5 @@
 mod Chain
+mod Joined
 mod Numbers
 mod OneChanged
 mod Reading

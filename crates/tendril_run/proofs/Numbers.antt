@@ -1,4 +1,4 @@
-use Rattle.std.proofs.Common.{ℕ, ◌≡◌, ◌<◌, ◌^◌, ◌≤◌, ◌≢◌, ◌↔◌, ◌⊎◌, List, length, get_or, Result, Ok, Err, Option, Some, None, arith, refl, sym, ◌∙◌, ap, rules, inl, inr, tests, subst}
+use Rattle.std.proofs.Common.{ℕ, ◌≡◌, ◌<◌, ◌^◌, ◌≢◌, List, length, get_or, Result, Ok, Err, Some, None, arith, sym, ◌∙◌, ap, inl, inr, subst}
 use Rattle.std.proofs.lemmas.Bool.{cases_lt}
 use Rattle.std.specs.Result.{result_ok, OkIff, MatchResult}
 use Rattle.std.specs.Fmt.{decimal}

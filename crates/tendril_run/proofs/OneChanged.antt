@@ -1,11 +1,10 @@
-use Rattle.std.proofs.Common.{◌≡◌, ℕ, ◌<◌, ◌⊎◌, List, length, get_or, set, map, ap, sym, subst, refl, ◌∙◌, Option, Some, None, Bool, true, false, if◌then◌else◌, [], ◌∷◌, ◌++◌, All, rules}
-use Rattle.std.proofs.lemmas.List.{map-set, map-append, get_or-map}
+use Rattle.std.proofs.Common.{◌≡◌, ◌≢◌, ℕ, zero, suc, ◌<◌, ◌⊎◌, List, length, get_or, set, map, ap, sym, subst, refl, ◌∙◌, Option, Some, None, Bool, true, false, if◌then◌else◌, [], ◌∷◌, ◌++◌, All}
+use Rattle.std.proofs.lemmas.List.{map-set, map-append, get_or-map, get_or-set_other, length-map}
 use Rattle.std.proofs.lemmas.List.Elements.{All-set, All-push}
 use Rattle.std.proofs.Math.Seq.{map-set_same}
 use Rattle.tendril_block.specs.declared.refusal.Refusal.{Refusal}
 use Rattle.tendril_run.specs.Cells.{Cell, IsCell, gone, cell_at}
-use Rattle.tendril_run.specs.OneCell.{CellChanged}
-use Rattle.tendril_run.specs.Rules.{Outcome}
+use Rattle.tendril_run.specs.Rules.{Outcome, Changed}
 use Rattle.tendril_run.specs.declared.command.Reply.{Reply}
 use Rattle.tendril_run.specs.declared.command.Reply.TheVariants.{Done, Made, Text, Refused}
 
@@ -22,8 +21,28 @@ one_changed f items cells slot s t is within found = record {
   kept = λ same. map-set_same f items slot t s (same ∙ ap f found) ∙ is;
 }
 
+-- a place of a table is one of its items
+pub within_items : {S : Type 0} (f : S → Cell) (items : List S) (cells : List Cell) (slot : ℕ) → map f items ≡ cells → slot < length cells → slot < length items
+within_items f items cells slot is within = subst (λ n. slot < n) (ap length (sym is) ∙ length-map items f) within
+
+-- what was put in a place is gone where something else is put there
+set_twice : {S : Type 0} (items : List S) (i : ℕ) (s t : S) → set (set items i s) i t ≡ set items i t
+set_twice [] i s t = refl
+set_twice (x ∷ items) zero s t = refl
+set_twice (x ∷ items) (suc i) s t = ap (λ xs. x ∷ xs) (set_twice items i s t)
+
+-- the same, where the item was taken out of its place and something else stood there meanwhile
+pub taken_changed : {S : Type 0} (f : S → Cell) (items : List S) (cells : List Cell) (slot : ℕ) (s meanwhile t : S) → map f items ≡ cells → slot < length items → s ≡ get_or items slot s → OneChanged cells slot (f s) (f t) (map f (set (set items slot meanwhile) slot t))
+taken_changed f items cells slot s meanwhile t is within found =
+    subst (λ xs. OneChanged cells slot (f s) (f t) (map f xs)) (sym (set_twice items slot meanwhile t)) (one_changed f items cells slot s t is within found)
+
+-- another cell stays meanwhile
+pub other_cell : {S : Type 0} (f : S → Cell) (items : List S) (cells : List Cell) (slot other : ℕ) (s meanwhile : S) → map f items ≡ cells → other < length items → slot ≢ other → s ≡ get_or (set items slot meanwhile) other s → cell_at cells other ≡ f s
+other_cell f items cells slot other s meanwhile is within apart found =
+    (one_changed f items cells other s s is within (found ∙ get_or-set_other items slot other meanwhile s (λ e. apart (sym e)))).here
+
 -- the change of one cell is that of its table
-pub table_changed : (must : Cell → Option Refusal → Type 0) (may : Cell → Refusal → Type 0) (effect : Cell → Cell) (cells : List Cell) (slot : ℕ) (old new : Cell) (after : List Cell) (reply : Reply) → OneChanged cells slot old new after → CellChanged (must old) (may old) (effect old) old reply new → Outcome (must (cell_at cells slot)) (may (cell_at cells slot)) (λ reply new. (reply ≡ Done) × (new ≡ set cells slot (effect (cell_at cells slot)))) cells reply after
+pub table_changed : (must : Cell → Option Refusal → Type 0) (may : Cell → Refusal → Type 0) (effect : Cell → Cell) (cells : List Cell) (slot : ℕ) (old new : Cell) (after : List Cell) (reply : Reply) → OneChanged cells slot old new after → Changed (must old) (may old) (effect old) old reply new → Outcome (must (cell_at cells slot)) (may (cell_at cells slot)) (λ reply new. (reply ≡ Done) × (new ≡ set cells slot (effect (cell_at cells slot)))) cells reply after
 table_changed must may effect cells slot old new after Done one h =
     (subst (λ c. must c None) (sym one.here) h.0, (refl, one.there ∙ ap (λ c. set cells slot c) (h.1.1 ∙ ap effect (sym one.here))))
 table_changed must may effect cells slot old new after (Refused r) one h =

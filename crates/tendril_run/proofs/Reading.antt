@@ -1,10 +1,10 @@
-use Rattle.std.proofs.Common.{ℕ, ◌≡◌, ◌↔◌, List, [], ◌∷◌, Option, Some, None, refl, Result, Ok, Err}
+use Rattle.std.proofs.Common.{ℕ, ◌≡◌, ◌↔◌, List, ◌∷◌, Option, Some, None, refl, Result, Ok, Err}
 use Rattle.std.specs.Result.{IfOk}
 use Rattle.std.specs.Option.{MatchOption, IsSomeAnd}
 use Rattle.tendril_run.specs.Lines.{AreWords, words_of}
 use Rattle.tendril_run.specs.Verbs.{Reads, verb_name}
 use Rattle.tendril_run.specs.declared.command.Command.{Command}
-use Rattle.tendril_run.specs.declared.command.Command.TheVariants.{New, FromBytes, PushBytes, Slice, Clone, Text, Drop}
+use Rattle.tendril_run.specs.declared.command.Command.TheVariants.{New, FromBytes, PushBytes, PushTendril, Slice, PopFront, PopBack, Clone, Clear, Reserve, Reinterpret, ToSuperset, ToSubset, Text, Drop}
 use Rattle.tendril_run.specs.declared.words.Verb.{Verb}
 use Rattle.tendril_run.specs.declared.words.Verb.TheVariants as verb
 
@@ -22,8 +22,16 @@ pub to_verb : (c : Command) (word : List ℕ) (args : List (List ℕ)) → AreWo
 to_verb (New kind) word args h = (verb.New, h.0, (kind, refl, h.1))
 to_verb (FromBytes kind b) word args h = (verb.From, h.0, ((kind, b), refl, h.1))
 to_verb (PushBytes slot b) word args h = (verb.Push, h.0, ((slot, b), refl, h.1))
+to_verb (PushTendril to from) word args h = (verb.Join, h.0, ((to, from), refl, h.1))
 to_verb (Slice slot offset length) word args h = (verb.Slice, h.0, ((slot, offset, length), refl, h.1))
+to_verb (PopFront slot count) word args h = (verb.Front, h.0, ((slot, count), refl, h.1))
+to_verb (PopBack slot count) word args h = (verb.Back, h.0, ((slot, count), refl, h.1))
 to_verb (Clone slot) word args h = (verb.Clone, h.0, (slot, refl, h.1))
+to_verb (Clear slot) word args h = (verb.Clear, h.0, (slot, refl, h.1))
+to_verb (Reserve slot more) word args h = (verb.Reserve, h.0, ((slot, more), refl, h.1))
+to_verb (Reinterpret slot kind) word args h = (verb.As, h.0, ((slot, kind), refl, h.1))
+to_verb (ToSuperset slot kind) word args h = (verb.Up, h.0, ((slot, kind), refl, h.1))
+to_verb (ToSubset slot kind) word args h = (verb.Down, h.0, ((slot, kind), refl, h.1))
 to_verb (Text slot) word args h = (verb.Text, h.0, (slot, refl, h.1))
 to_verb (Drop slot) word args h = (verb.Drop, h.0, (slot, refl, h.1))
 
@@ -31,8 +39,16 @@ pub from_verb : (v : Verb) (args : List (List ℕ)) (c : Command) → Reads v ar
 from_verb verb.New args c (x, e, p) = rw e (refl, p)
 from_verb verb.From args c (x, e, p) = rw e (refl, p)
 from_verb verb.Push args c (x, e, p) = rw e (refl, p)
+from_verb verb.Join args c (x, e, p) = rw e (refl, p)
 from_verb verb.Slice args c (x, e, p) = rw e (refl, p)
+from_verb verb.Front args c (x, e, p) = rw e (refl, p)
+from_verb verb.Back args c (x, e, p) = rw e (refl, p)
 from_verb verb.Clone args c (x, e, p) = rw e (refl, p)
+from_verb verb.Clear args c (x, e, p) = rw e (refl, p)
+from_verb verb.Reserve args c (x, e, p) = rw e (refl, p)
+from_verb verb.As args c (x, e, p) = rw e (refl, p)
+from_verb verb.Up args c (x, e, p) = rw e (refl, p)
+from_verb verb.Down args c (x, e, p) = rw e (refl, p)
 from_verb verb.Text args c (x, e, p) = rw e (refl, p)
 from_verb verb.Drop args c (x, e, p) = rw e (refl, p)
 

@@ -1,7 +1,8 @@
-use Rattle.std.specs.Prelude.{ℕ, ◌++◌, ◌≤◌, List, length, get_or}
+use Rattle.std.specs.Prelude.{ℕ, ◌++◌, ◌≤◌, List, length, get_or, IsAscii, IsUtf8}
 use Rattle.tendril_block.specs.declared.atomicity.TheConstants.{MAX_LEN}
+use Rattle.tendril_fmt.specs.Wtf8.{IsWtf8, wtf8_join}
 use Rattle.tendril_run.specs.declared.command.Kind.{Kind}
-use Rattle.tendril_run.specs.declared.command.Kind.TheVariants.{Bytes}
+use Rattle.tendril_run.specs.declared.command.Kind.TheVariants.{Bytes, Ascii, Utf8, Wtf8, Latin1}
 
 -- a cell of a table: a text in a format, or gone
 pub data Cell : Type 0 where
@@ -16,10 +17,22 @@ pub record Board : Type 0 where
 -- the lists that are valid in a format
 abbrev pub valid_in : Kind → List ℕ → Type 0
 valid_in Bytes b = Unit {0}
+valid_in Ascii b = IsAscii b
+valid_in Utf8 b = IsUtf8 b
+valid_in Wtf8 b = IsWtf8 b
+valid_in Latin1 b = Unit {0}
 
 -- two valid lists as one
 abbrev pub join_in : Kind → List ℕ → List ℕ → List ℕ
-join_in Bytes l r = l ++ r
+join_in Wtf8 l r = wtf8_join l r
+join_in kind l r = l ++ r
+
+-- the texts of the first format are all texts of the second
+abbrev pub IsPartOf : Kind → Kind → Type 0
+IsPartOf Ascii Utf8 = Unit {0}
+IsPartOf Ascii Latin1 = Unit {0}
+IsPartOf Utf8 Wtf8 = Unit {0}
+IsPartOf part whole = ⊥
 
 -- the cell of a number, gone past the end
 abbrev pub cell_at : List Cell → ℕ → Cell

@@ -2,7 +2,7 @@ use Rattle.std.specs.Prelude.{ℕ, ◌≡◌, List, [], ◌∷◌, codes}
 use Rattle.tendril_run.specs.Words.{words, IsNumber, kind_name, IsHex}
 use Rattle.tendril_run.specs.declared.command.Kind.{Kind}
 use Rattle.tendril_run.specs.declared.command.Command.{Command}
-use Rattle.tendril_run.specs.declared.command.Command.TheVariants.{New, FromBytes, PushBytes, Slice, Clone, Text, Drop}
+use Rattle.tendril_run.specs.declared.command.Command.TheVariants.{New, FromBytes, PushBytes, PushTendril, Slice, PopFront, PopBack, Clone, Clear, Reserve, Reinterpret, ToSuperset, ToSubset, Text, Drop}
 
 -- what a word of a line stands for
 pub data Word : Type 0 where
@@ -30,8 +30,16 @@ abbrev pub words_of : Command → List Word
 words_of (New kind) = name (codes "new") ∷ format kind ∷ []
 words_of (FromBytes kind b) = name (codes "from") ∷ format kind ∷ bytes b ∷ []
 words_of (PushBytes slot b) = name (codes "push") ∷ number slot ∷ bytes b ∷ []
+words_of (PushTendril to from) = name (codes "join") ∷ number to ∷ number from ∷ []
 words_of (Slice slot offset length) = name (codes "slice") ∷ number slot ∷ number offset ∷ number length ∷ []
+words_of (PopFront slot count) = name (codes "front") ∷ number slot ∷ number count ∷ []
+words_of (PopBack slot count) = name (codes "back") ∷ number slot ∷ number count ∷ []
 words_of (Clone slot) = name (codes "clone") ∷ number slot ∷ []
+words_of (Clear slot) = name (codes "clear") ∷ number slot ∷ []
+words_of (Reserve slot more) = name (codes "reserve") ∷ number slot ∷ number more ∷ []
+words_of (Reinterpret slot kind) = name (codes "as") ∷ number slot ∷ format kind ∷ []
+words_of (ToSuperset slot kind) = name (codes "up") ∷ number slot ∷ format kind ∷ []
+words_of (ToSubset slot kind) = name (codes "down") ∷ number slot ∷ format kind ∷ []
 words_of (Text slot) = name (codes "text") ∷ number slot ∷ []
 words_of (Drop slot) = name (codes "drop") ∷ number slot ∷ []
 

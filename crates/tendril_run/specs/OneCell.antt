@@ -1,62 +1,119 @@
-use Rattle.std.specs.Prelude.{ℕ, ◌≡◌, List, length, take, drop, Option, Some, None}
+use Rattle.std.specs.Prelude.{ℕ, ◌≡◌, ◌⊎◌, List, length, take, drop, Option, Some, None}
 use Rattle.tendril_block.specs.declared.refusal.Refusal.{Refusal}
-use Rattle.tendril_block.specs.declared.refusal.Refusal.TheVariants.{Memory, NoSuchSlot}
-use Rattle.tendril_run.specs.Cells.{Cell, gone, text, valid_in, join_in}
-use Rattle.tendril_run.specs.Rules.{BytesMust, MemoryMay, SliceMust, CountMay, Outcome}
+use Rattle.tendril_block.specs.declared.refusal.Refusal.TheVariants.{Memory, NoSuchSlot, WrongFormat}
+use Rattle.tendril_run.specs.Cells.{Cell, gone, text, valid_in, join_in, IsPartOf}
+use Rattle.tendril_run.specs.Edits.{EditMust, EditMay, edited}
+use Rattle.tendril_run.specs.Rules.{First, LengthMust, ValidMust, BytesMust, MemoryMay, SliceMust, CountMay, Outcome, Changed}
+use Rattle.tendril_run.specs.declared.change.Conversion.{Conversion}
+use Rattle.tendril_run.specs.declared.change.Conversion.TheVariants.{Reinterpret, ToSuperset, ToSubset}
+use Rattle.tendril_run.specs.declared.change.Edit.{Edit}
+use Rattle.tendril_run.specs.declared.command.Kind.{Kind}
 use Rattle.tendril_run.specs.declared.command.Reply.{Reply}
-use Rattle.tendril_run.specs.declared.command.Reply.TheVariants.{Done, Text}
+use Rattle.tendril_run.specs.declared.command.Reply.TheVariants.{Text}
 
 -- the first refusal of a call that a cell only needs to be there for
 abbrev pub CellMust : Cell → Option Refusal → Type 0
 CellMust gone must = must ≡ Some NoSuchSlot
 CellMust (text kind b) must = must ≡ None
 
--- of a push of y onto a cell
-abbrev pub CellPushMust : Cell → List ℕ → Option Refusal → Type 0
-CellPushMust gone y must = must ≡ Some NoSuchSlot
-CellPushMust (text kind b) y must = BytesMust (valid_in kind) y (length (join_in kind b y)) must
-
 -- of a part of a cell
 abbrev pub CellSliceMust : Cell → ℕ → ℕ → Option Refusal → Type 0
 CellSliceMust gone offset count must = must ≡ Some NoSuchSlot
 CellSliceMust (text kind b) offset count must = SliceMust (valid_in kind) b offset count must
-
--- the refusals of a push that no state rules out
-abbrev pub CellPushMay : Cell → List ℕ → Refusal → Type 0
-CellPushMay gone y r = ⊥
-CellPushMay (text kind b) y r = MemoryMay (length (join_in kind b y)) r
-
--- and those of a clone
-abbrev pub CellCloneMay : Cell → Refusal → Type 0
-CellCloneMay gone r = ⊥
-CellCloneMay (text kind b) r = CountMay (length b) r
 
 -- a part of a cell
 abbrev pub part : Cell → ℕ → ℕ → Cell
 part gone offset count = gone
 part (text kind b) offset count = text kind (take count (drop offset b))
 
+-- the refusals of a clone that no state rules out
+abbrev pub CellCloneMay : Cell → Refusal → Type 0
+CellCloneMay gone r = ⊥
+CellCloneMay (text kind b) r = CountMay (length b) r
+
+-- the first refusal of a push of the bytes y onto a cell
+abbrev pub PushMust : Cell → List ℕ → Option Refusal → Type 0
+PushMust gone y must = must ≡ Some NoSuchSlot
+PushMust (text kind b) y must = BytesMust (valid_in kind) y (length (join_in kind b y)) must
+
+-- the refusals of a push that no state rules out
+abbrev pub PushMay : Cell → List ℕ → Refusal → Type 0
+PushMay gone y r = ⊥
+PushMay (text kind b) y r = MemoryMay (length (join_in kind b y)) r
+
 -- the cell with y at its end
 abbrev pub pushed : Cell → List ℕ → Cell
 pushed gone y = gone
 pushed (text kind b) y = text kind (join_in kind b y)
 
--- a call that changes one cell: by what must and may be refused, and the cell that it leaves
-abbrev pub CellChanged : (Option Refusal → Type 0) → (Refusal → Type 0) → Cell → Cell → Reply → Cell → Type 0
-CellChanged must may left old reply new = Outcome must may (λ reply new. (reply ≡ Done) × (new ≡ left)) old reply new
+-- the first refusal of a push of one cell onto another
+abbrev pub JoinMust : Cell → Cell → Option Refusal → Type 0
+JoinMust gone other must = must ≡ Some NoSuchSlot
+JoinMust (text kind b) gone must = must ≡ Some NoSuchSlot
+JoinMust (text kind b) (text format y) must = First (kind ≡ format → ⊥) WrongFormat (LengthMust (length (join_in kind b y)) must) must
 
--- a push onto a cell
-abbrev pub CellPushed : Cell → List ℕ → Reply → Cell → Type 0
-CellPushed cell y reply new = CellChanged (CellPushMust cell y) (CellPushMay cell y) (pushed cell y) cell reply new
+-- the refusals of it that no state rules out: a slot that is pushed onto itself is shared first
+abbrev pub JoinMay : ℕ → ℕ → Cell → Cell → Refusal → Type 0
+JoinMay to from (text kind b) (text format y) r = MemoryMay (length (join_in kind b y)) r ⊎ ((to ≡ from) × CountMay (length b) r)
+JoinMay to from cell other r = ⊥
 
--- a cell that is dropped
-abbrev pub CellDropped : Cell → Reply → Cell → Type 0
-CellDropped cell reply new = CellChanged (CellMust cell) (λ r. ⊥) gone cell reply new
+-- the cell with the other's text at its end
+abbrev pub joined : Cell → Cell → Cell
+joined (text kind b) (text format y) = text kind (join_in kind b y)
+joined cell other = cell
+
+-- the first refusal of an edit of a cell
+abbrev pub CellEditMust : Cell → Edit → Option Refusal → Type 0
+CellEditMust gone edit must = must ≡ Some NoSuchSlot
+CellEditMust (text kind b) edit must = EditMust (valid_in kind) b edit must
+
+-- the cell after an edit
+abbrev pub edited_cell : Cell → Edit → Cell
+edited_cell gone edit = gone
+edited_cell (text kind b) edit = text kind (edited b edit)
+
+-- the first refusal of a conversion of a cell
+abbrev pub ConversionMust : Cell → Conversion → Option Refusal → Type 0
+ConversionMust gone conversion must = must ≡ Some NoSuchSlot
+ConversionMust (text kind b) (Reinterpret other) must = ValidMust (valid_in other) b must
+ConversionMust (text kind b) (ToSuperset other) must = First (IsPartOf kind other → ⊥) WrongFormat (must ≡ None) must
+ConversionMust (text kind b) (ToSubset other) must = First (IsPartOf other kind → ⊥) WrongFormat (ValidMust (valid_in other) b must) must
+
+-- the format that is asked for
+abbrev pub target : Conversion → Kind
+target (Reinterpret kind) = kind
+target (ToSuperset kind) = kind
+target (ToSubset kind) = kind
+
+-- the cell after a conversion
+abbrev pub converted : Cell → Conversion → Cell
+converted gone conversion = gone
+converted (text kind b) conversion = text (target conversion) b
 
 -- the reply that tells the cell
 abbrev pub Tells : Cell → Reply → Type 0
 Tells gone reply = ⊥
 Tells (text kind b) reply = reply ≡ Text kind b
+
+-- a push onto a cell
+abbrev pub CellPushed : Cell → List ℕ → Reply → Cell → Type 0
+CellPushed cell y reply new = Changed (PushMust cell y) (PushMay cell y) (pushed cell y) cell reply new
+
+-- a push of the cell of one slot onto that of another
+abbrev pub CellJoined : ℕ → ℕ → Cell → Cell → Reply → Cell → Type 0
+CellJoined to from cell other reply new = Changed (JoinMust cell other) (JoinMay to from cell other) (joined cell other) cell reply new
+
+-- an edit of a cell
+abbrev pub CellEdited : Cell → Edit → Reply → Cell → Type 0
+CellEdited cell edit reply new = Changed (CellEditMust cell edit) (EditMay edit) (edited_cell cell edit) cell reply new
+
+-- a conversion of a cell
+abbrev pub CellConverted : Cell → Conversion → Reply → Cell → Type 0
+CellConverted cell conversion reply new = Changed (ConversionMust cell conversion) (λ r. ⊥) (converted cell conversion) cell reply new
+
+-- a cell that is dropped
+abbrev pub CellDropped : Cell → Reply → Cell → Type 0
+CellDropped cell reply new = Changed (CellMust cell) (λ r. ⊥) gone cell reply new
 
 -- what is answered to a question for the cell's text
 abbrev pub CellTold : Cell → Reply → Type 0

@@ -9,17 +9,33 @@ use Rattle.tendril_run.specs.declared.command.Reply.TheVariants.{Done, Refused}
 abbrev pub First : Type 0 → Refusal → Type 0 → Option Refusal → Type 0
 First condition refusal rest must = (condition × (must ≡ Some refusal)) ⊎ ((condition → ⊥) × rest)
 
--- the first refusal of bytes y that are given for a text, which would have so many bytes then
+-- the first refusal of a text that would have so many bytes
+abbrev pub LengthMust : ℕ → Option Refusal → Type 0
+LengthMust count must = First (MAX_LEN < count) TooLong (must ≡ None) must
+
+-- of bytes y that are to be valid
+abbrev pub ValidMust : (List ℕ → Type 0) → List ℕ → Option Refusal → Type 0
+ValidMust valid y must = First (valid y → ⊥) Invalid (must ≡ None) must
+
+-- of bytes y that are given for a text, which would have so many bytes then
 abbrev pub BytesMust : (List ℕ → Type 0) → List ℕ → ℕ → Option Refusal → Type 0
-BytesMust valid y count must = First (valid y → ⊥) Invalid (First (MAX_LEN < count) TooLong (must ≡ None) must) must
+BytesMust valid y count must = First (valid y → ⊥) Invalid (LengthMust count must) must
+
+-- of a part that is cut out where the bound is kept, and is to be valid
+abbrev pub CutMust : (List ℕ → Type 0) → Type 0 → List ℕ → Option Refusal → Type 0
+CutMust valid past cut must = First past OutOfBounds (First (valid cut → ⊥) ValidationFailed (must ≡ None) must) must
+
+-- of the part of b of so many bytes from the offset on
+abbrev pub SliceMust : (List ℕ → Type 0) → List ℕ → ℕ → ℕ → Option Refusal → Type 0
+SliceMust valid b offset count must = CutMust valid (length b < offset + count) (take count (drop offset b)) must
+
+-- of what is left of b without so many bytes
+abbrev pub PopMust : (List ℕ → Type 0) → List ℕ → ℕ → List ℕ → Option Refusal → Type 0
+PopMust valid b count rest must = CutMust valid (length b < count) rest must
 
 -- no state rules out that memory is wanting where a text would have so many bytes
 abbrev pub MemoryMay : ℕ → Refusal → Type 0
 MemoryMay count r = (r ≡ Memory) × (8 < count)
-
--- the first refusal of the part of b of so many bytes from the offset on
-abbrev pub SliceMust : (List ℕ → Type 0) → List ℕ → ℕ → ℕ → Option Refusal → Type 0
-SliceMust valid b offset count must = First (length b < offset + count) OutOfBounds (First (valid (take count (drop offset b)) → ⊥) ValidationFailed (must ≡ None) must) must
 
 -- no state rules out that the count is full where so many bytes would be shared
 abbrev pub CountMay : ℕ → Refusal → Type 0
@@ -30,7 +46,10 @@ abbrev pub Outcome : {X : Type 0} → (Option Refusal → Type 0) → (Refusal �
 Outcome must may effect old (Refused r) new = (new ≡ old) × (must (Some r) ⊎ (must None × may r))
 Outcome must may effect old reply new = must None × effect reply new
 
--- a push of y onto b
-abbrev pub TextPushed : (List ℕ → Type 0) → (List ℕ → List ℕ → List ℕ) → List ℕ → List ℕ → Reply → List ℕ → Type 0
-TextPushed valid join b y reply new =
-    Outcome (BytesMust valid y (length (join b y))) (MemoryMay (length (join b y))) (λ reply new. (reply ≡ Done) × (new ≡ join b y)) b reply new
+-- a call that is done and leaves one thing, or is refused and changes nothing
+abbrev pub Changed : {X : Type 0} → (Option Refusal → Type 0) → (Refusal → Type 0) → X → X → Reply → X → Type 0
+Changed must may left old reply new = Outcome must may (λ reply new. (reply ≡ Done) × (new ≡ left)) old reply new
+
+-- a push of y onto b, which would make the text z of them
+abbrev pub TextPushed : (List ℕ → Type 0) → List ℕ → List ℕ → List ℕ → Reply → List ℕ → Type 0
+TextPushed valid y z b reply new = Changed (BytesMust valid y (length z)) (MemoryMay (length z)) z b reply new

@@ -2,10 +2,15 @@ use Rattle.std.specs.Prelude.{ℕ, ◌≡◌, List, [], ◌∷◌, ◌++◌, len
 use Rattle.tendril_block.specs.declared.refusal.Refusal.{Refusal}
 use Rattle.tendril_block.specs.declared.refusal.Refusal.TheVariants.{Memory}
 use Rattle.tendril_run.specs.Cells.{Cell, gone, text, valid_in, cell_at}
+use Rattle.tendril_run.specs.Edits.{EditMay}
 use Rattle.tendril_run.specs.Rules.{BytesMust, MemoryMay, CountMay, Outcome}
-use Rattle.tendril_run.specs.OneCell.{CellMust, CellPushMust, CellPushMay, CellSliceMust, CellCloneMay, pushed, part, Tells}
+use Rattle.tendril_run.specs.OneCell.{CellMust, CellSliceMust, CellCloneMay, part, PushMust, PushMay, pushed, JoinMust, JoinMay, joined, CellEditMust, edited_cell, ConversionMust, converted, Tells}
+use Rattle.tendril_run.specs.declared.change.Conversion.{Conversion}
+use Rattle.tendril_run.specs.declared.change.Conversion.TheVariants as conversion
+use Rattle.tendril_run.specs.declared.change.Edit.{Edit}
+use Rattle.tendril_run.specs.declared.change.Edit.TheVariants as edit
 use Rattle.tendril_run.specs.declared.command.Command.{Command}
-use Rattle.tendril_run.specs.declared.command.Command.TheVariants.{New, FromBytes, PushBytes, Slice, Clone, Text, Drop}
+use Rattle.tendril_run.specs.declared.command.Command.TheVariants.{New, FromBytes, PushBytes, PushTendril, Slice, PopFront, PopBack, Clone, Clear, Reserve, Reinterpret, ToSuperset, ToSubset, Text, Drop}
 use Rattle.tendril_run.specs.declared.command.Reply.{Reply}
 use Rattle.tendril_run.specs.declared.command.Reply.TheVariants as reply
 
@@ -13,21 +18,30 @@ use Rattle.tendril_run.specs.declared.command.Reply.TheVariants as reply
 abbrev pub Must : List Cell → Command → Option Refusal → Type 0
 Must old (New kind) must = must ≡ None
 Must old (FromBytes kind y) must = BytesMust (valid_in kind) y (length y) must
-Must old (PushBytes slot y) must = CellPushMust (cell_at old slot) y must
+Must old (PushBytes slot y) must = PushMust (cell_at old slot) y must
+Must old (PushTendril to from) must = JoinMust (cell_at old to) (cell_at old from) must
 Must old (Slice slot offset count) must = CellSliceMust (cell_at old slot) offset count must
+Must old (PopFront slot count) must = CellEditMust (cell_at old slot) (edit.PopFront count) must
+Must old (PopBack slot count) must = CellEditMust (cell_at old slot) (edit.PopBack count) must
 Must old (Clone slot) must = CellMust (cell_at old slot) must
+Must old (Clear slot) must = CellEditMust (cell_at old slot) edit.Clear must
+Must old (Reserve slot more) must = CellEditMust (cell_at old slot) (edit.Reserve more) must
+Must old (Reinterpret slot kind) must = ConversionMust (cell_at old slot) (conversion.Reinterpret kind) must
+Must old (ToSuperset slot kind) must = ConversionMust (cell_at old slot) (conversion.ToSuperset kind) must
+Must old (ToSubset slot kind) must = ConversionMust (cell_at old slot) (conversion.ToSubset kind) must
 Must old (Text slot) must = CellMust (cell_at old slot) must
 Must old (Drop slot) must = CellMust (cell_at old slot) must
 
 -- the refusals that no state rules out: memory that is wanting, and a count that is full
 abbrev pub May : List Cell → Command → Refusal → Type 0
-May old (New kind) r = ⊥
 May old (FromBytes kind y) r = MemoryMay (length y) r
-May old (PushBytes slot y) r = CellPushMay (cell_at old slot) y r
+May old (PushBytes slot y) r = PushMay (cell_at old slot) y r
+May old (PushTendril to from) r = JoinMay to from (cell_at old to) (cell_at old from) r
 May old (Slice slot offset count) r = CountMay count r
 May old (Clone slot) r = CellCloneMay (cell_at old slot) r
+May old (Reserve slot more) r = r ≡ Memory
 May old (Text slot) r = r ≡ Memory
-May old (Drop slot) r = ⊥
+May old command r = ⊥
 
 -- the reply names the new last cell
 abbrev pub Adds : List Cell → Cell → Reply → List Cell → Type 0
@@ -37,13 +51,29 @@ Adds old cell answer new = (answer ≡ reply.Made (length old)) × (new ≡ old 
 abbrev pub Becomes : List Cell → ℕ → Cell → Reply → List Cell → Type 0
 Becomes old slot cell answer new = (answer ≡ reply.Done) × (new ≡ slice_set old slot cell)
 
+-- an edit of one cell of a table
+abbrev pub TableEdited : List Cell → ℕ → Edit → Reply → List Cell → Type 0
+TableEdited old slot edit answer new = Outcome (CellEditMust (cell_at old slot) edit) (EditMay edit) (Becomes old slot (edited_cell (cell_at old slot) edit)) old answer new
+
+-- a conversion of one cell of a table
+abbrev pub TableConverted : List Cell → ℕ → Conversion → Reply → List Cell → Type 0
+TableConverted old slot conversion answer new = Outcome (ConversionMust (cell_at old slot) conversion) (λ r. ⊥) (Becomes old slot (converted (cell_at old slot) conversion)) old answer new
+
 -- what a command does and answers, where it isn't refused; `class` sorts characters
 abbrev pub Effect : (ℕ → ℕ) → List Cell → Command → Reply → List Cell → Type 0
 Effect class old (New kind) answer new = Adds old (text kind []) answer new
 Effect class old (FromBytes kind y) answer new = Adds old (text kind y) answer new
 Effect class old (PushBytes slot y) answer new = Becomes old slot (pushed (cell_at old slot) y) answer new
+Effect class old (PushTendril to from) answer new = Becomes old to (joined (cell_at old to) (cell_at old from)) answer new
 Effect class old (Slice slot offset count) answer new = Adds old (part (cell_at old slot) offset count) answer new
+Effect class old (PopFront slot count) answer new = Becomes old slot (edited_cell (cell_at old slot) (edit.PopFront count)) answer new
+Effect class old (PopBack slot count) answer new = Becomes old slot (edited_cell (cell_at old slot) (edit.PopBack count)) answer new
 Effect class old (Clone slot) answer new = Adds old (cell_at old slot) answer new
+Effect class old (Clear slot) answer new = Becomes old slot (edited_cell (cell_at old slot) edit.Clear) answer new
+Effect class old (Reserve slot more) answer new = Becomes old slot (edited_cell (cell_at old slot) (edit.Reserve more)) answer new
+Effect class old (Reinterpret slot kind) answer new = Becomes old slot (converted (cell_at old slot) (conversion.Reinterpret kind)) answer new
+Effect class old (ToSuperset slot kind) answer new = Becomes old slot (converted (cell_at old slot) (conversion.ToSuperset kind)) answer new
+Effect class old (ToSubset slot kind) answer new = Becomes old slot (converted (cell_at old slot) (conversion.ToSubset kind)) answer new
 Effect class old (Text slot) answer new = Tells (cell_at old slot) answer × (new ≡ old)
 Effect class old (Drop slot) answer new = Becomes old slot gone answer new
 

@@ -1,9 +1,9 @@
-use Rattle.std.specs.Prelude.{ℕ, ◌≡◌, ◌≤◌, ◌<◌, ◌==◌, ◌⊎◌, List, [], ◌∷◌, length, codes, Ok}
+use Rattle.std.specs.Prelude.{ℕ, ◌≡◌, ◌≤◌, ◌<◌, ◌==◌, ◌⊎◌, List, [], length, codes, Ok}
 use Rattle.std.specs.Fmt.{decimal}
 use Rattle.std.specs.List.{slice_split}
 use Rattle.hex.specs.Hex.{decode_of}
 use Rattle.tendril_run.specs.declared.command.Kind.{Kind}
-use Rattle.tendril_run.specs.declared.command.Kind.TheVariants.{Bytes}
+use Rattle.tendril_run.specs.declared.command.Kind.TheVariants.{Bytes, Ascii, Utf8, Wtf8, Latin1}
 
 -- the words of a line: what stands between two spaces next to each other is a word too, an empty one
 abbrev pub words : List ℕ → List (List ℕ)
@@ -16,6 +16,10 @@ IsNumber n word = (n ≤ 4294967295) × (word ≡ decimal n)
 -- the name of a format
 abbrev pub kind_name : Kind → List ℕ
 kind_name Bytes = codes "bytes"
+kind_name Ascii = codes "ascii"
+kind_name Utf8 = codes "utf8"
+kind_name Wtf8 = codes "wtf8"
+kind_name Latin1 = codes "latin1"
 
 -- bytes: two hexadecimal digits each, in either case, or a dash for none
 unfoldable pub IsHex : List ℕ → List ℕ → Type 0

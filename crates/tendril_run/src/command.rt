@@ -8,6 +8,10 @@ use tendril::block::Refusal;
 #[derive(Clone, Copy, Debug, PartialEq, Eq)]
 pub enum Kind {
     Bytes,
+    Ascii,
+    Utf8,
+    Wtf8,
+    Latin1,
 }
 
 /// Bytes that a command or a reply carries.
@@ -55,10 +59,26 @@ pub enum Command {
     FromBytes(Kind, ByteList),
     /// The bytes at the end of the slot's text.
     PushBytes(usize, ByteList),
+    /// The text of the second slot at the end of the first slot's text, in the one format that both have.
+    PushTendril(usize, usize),
     /// A new slot with the part of the text that begins at the offset and has so many bytes.
     Slice(usize, u32, u32),
+    /// So many bytes are dropped from the front of the slot's text.
+    PopFront(usize, u32),
+    /// So many bytes are dropped from the back of the slot's text.
+    PopBack(usize, u32),
     /// A new slot with the same text.
     Clone(usize),
+    /// The slot's text becomes empty.
+    Clear(usize),
+    /// Room for so many more bytes in the slot's text.
+    Reserve(usize, u32),
+    /// The slot's bytes in another format, where they are valid in it.
+    Reinterpret(usize, Kind),
+    /// The slot's bytes in a format of which theirs is a part.
+    ToSuperset(usize, Kind),
+    /// The slot's bytes in a part of their format, where they are valid in it.
+    ToSubset(usize, Kind),
     /// The slot's bytes.
     Text(usize),
     /// The slot is gone for good. Its number isn't used again.

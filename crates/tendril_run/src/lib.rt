@@ -4,6 +4,7 @@
 //! changes the cell that it names, or adds one, and leaves all others.
 #![tactic(auto)]
 
+mod change;
 mod classifier;
 mod command;
 mod line;
@@ -11,6 +12,7 @@ mod reply;
 mod runs;
 mod slot;
 mod table;
+mod text;
 mod words;
 
 pub use classifier::Classifier;

@@ -5,8 +5,8 @@ ghost use Rattle.tendril_run.specs.Verbs.{Reads};
 
 use crate::command::Command;
 use crate::words::{
-    Verb, kind_and_bytes, number_and_bytes, one_kind, one_number, split_words, three_numbers,
-    verb_of,
+    Verb, kind_and_bytes, number_and_bytes, number_and_kind, one_kind, one_number, split_words,
+    three_numbers, two_numbers, two_slots, verb_of,
 };
 use std::alloc::{AllocError, Global};
 use tendril::block::Refusal;
@@ -15,7 +15,8 @@ use tendril::block::Refusal;
 ///
 /// The words of a line are parted by one space each. A slot, an offset or a length is a decimal number up to
 /// 4294967295 without leading zeros; bytes are hexadecimal digits in either case, or `-` for none:
-/// `new F`, `from F H`, `push S H`, `slice S O L`, `clone S`, `text S`, `drop S`.
+/// `new F`, `from F H`, `push S H`, `join S S`, `slice S O L`, `front S N`, `back S N`, `clone S`, `clear S`,
+/// `reserve S N`, `as S F`, `up S F`, `down S F`, `text S`, `drop S`.
 pub fn parse_line(alloc: Global, line: &[u8]) -> Result<Option<Command>, Refusal>
     ensures found { IfOk result (λ found. (c : _) → (found ≡ Some c) ↔ IsLine c line.now) }
     ensures refusal { IfErr result (λ r. r ≡ Refusal.Memory) }
@@ -54,10 +55,28 @@ fn read(alloc: Global, verb: Verb, arguments: &[&[u8]]) -> Result<Option<Command
         Verb::Push => Ok(number_and_bytes(alloc, arguments)?.map(|(slot, bytes)| Command::PushBytes(
             slot, bytes,
         ))),
+        Verb::Join => Ok(two_slots(arguments).map(|(to, from)| Command::PushTendril(to, from))),
         Verb::Slice => Ok(three_numbers(arguments).map(|(slot, offset, count)| Command::Slice(
             slot, offset, count,
         ))),
+        Verb::Front => Ok(two_numbers(arguments).map(|(slot, count)| Command::PopFront(
+            slot, count,
+        ))),
+        Verb::Back => Ok(two_numbers(arguments).map(|(slot, count)| Command::PopBack(slot, count))),
         Verb::Clone => Ok(one_number(arguments).map(|slot| Command::Clone(slot))),
+        Verb::Clear => Ok(one_number(arguments).map(|slot| Command::Clear(slot))),
+        Verb::Reserve => Ok(two_numbers(arguments).map(|(slot, more)| Command::Reserve(
+            slot, more,
+        ))),
+        Verb::As => Ok(number_and_kind(arguments).map(|(slot, kind)| Command::Reinterpret(
+            slot, kind,
+        ))),
+        Verb::Up => Ok(number_and_kind(arguments).map(|(slot, kind)| Command::ToSuperset(
+            slot, kind,
+        ))),
+        Verb::Down => Ok(number_and_kind(arguments).map(|(slot, kind)| Command::ToSubset(
+            slot, kind,
+        ))),
         Verb::Text => Ok(one_number(arguments).map(|slot| Command::Text(slot))),
         Verb::Drop => Ok(one_number(arguments).map(|slot| Command::Drop(slot))),
     }

@@ -52,5 +52,9 @@ fn name_of_kind(kind: Kind) -> &'static str
 {
     match kind {
         Kind::Bytes => "bytes",
+        Kind::Ascii => "ascii",
+        Kind::Utf8 => "utf8",
+        Kind::Wtf8 => "wtf8",
+        Kind::Latin1 => "latin1",
     }
 }

@@ -1,20 +1,27 @@
-//! One slot of a table. The format is picked here, once for each call; the code below is generic in it.
-ghost use Rattle.std.specs.Prelude.{◌≡◌, ◌≤◌, ◌+◌, ◌⊎◌, [], length, IfOk, IfErr, Some, None, take, drop};
+//! One slot of a table. The format is picked here, once for each call; `text` is generic in it.
+ghost use Rattle.std.specs.Prelude.{◌≡◌, ◌⊎◌, ℕ, [], length, IfOk, IfErr, None, Some};
 ghost use Rattle.tendril_run.specs.CellOf.{cell_of};
-ghost use Rattle.tendril_run.specs.Cells.{Cell, IsCell, text, valid_in};
-ghost use Rattle.tendril_run.specs.OneCell.{CellPushed, CellDropped, CellTold, CellMust, CellSliceMust, CellCloneMay, part};
-ghost use Rattle.tendril_run.specs.Rules.{TextPushed, BytesMust, MemoryMay, SliceMust, CountMay};
+ghost use Rattle.tendril_run.specs.Cells.{IsCell, text as text_cell, valid_in};
+ghost use Rattle.tendril_run.specs.OneCell.{CellPushed, CellJoined, CellEdited, CellConverted, CellDropped, CellTold, CellMust, CellSliceMust, CellCloneMay, ConversionMust, converted, part};
+ghost use Rattle.tendril_run.specs.Rules.{BytesMust, MemoryMay, CountMay};
 
+use crate::change::{Conversion, Edit};
 use crate::command::{ByteList, Kind, Reply};
+use crate::text;
 use std::alloc::Global;
+use std::mem;
 use tendril::block::Refusal;
-use tendril::fmt::{Bytes, Format};
+use tendril::fmt::{ASCII, Bytes, Latin1, UTF8, WTF8};
 use tendril::{Atomicity, Tendril};
 
 /// A text in one of the formats, or nothing any more.
 #[derive(Drop)]
 pub enum Slot<A: Atomicity> {
     Bytes(Tendril<Bytes, A>),
+    Ascii(Tendril<ASCII, A>),
+    Utf8(Tendril<UTF8, A>),
+    Wtf8(Tendril<WTF8, A>),
+    Latin1(Tendril<Latin1, A>),
     Gone,
 }
 
@@ -26,6 +33,22 @@ macro_rules! on_text {
                 let $kind = Kind::Bytes;
                 $body
             }
+            Slot::Ascii($text) => {
+                let $kind = Kind::Ascii;
+                $body
+            }
+            Slot::Utf8($text) => {
+                let $kind = Kind::Utf8;
+                $body
+            }
+            Slot::Wtf8($text) => {
+                let $kind = Kind::Wtf8;
+                $body
+            }
+            Slot::Latin1($text) => {
+                let $kind = Kind::Latin1;
+                $body
+            }
             Slot::Gone => $gone,
         }
     };
@@ -35,9 +58,39 @@ macro_rules! on_text {
 macro_rules! like_text {
     ($slot:expr, $text:ident => $body:expr, $gone:expr) => {
         match $slot {
+            Slot::Bytes($text) => Ok(Slot::Bytes($body?)),
+            Slot::Ascii($text) => Ok(Slot::Ascii($body?)),
+            Slot::Utf8($text) => Ok(Slot::Utf8($body?)),
+            Slot::Wtf8($text) => Ok(Slot::Wtf8($body?)),
+            Slot::Latin1($text) => Ok(Slot::Latin1($body?)),
+            Slot::Gone => $gone,
+        }
+    };
+}
+
+// The same, for what takes the text and gives another slot, or the text back.
+macro_rules! from_text {
+    ($slot:expr, $text:ident => $body:expr, $refusal:expr, $gone:expr) => {
+        match $slot {
             Slot::Bytes($text) => match $body {
-                Ok(made) => Ok(Slot::Bytes(made)),
-                Err(refusal) => Err(refusal),
+                Ok(made) => Ok(made),
+                Err(back) => Err(($refusal, Slot::Bytes(back))),
+            },
+            Slot::Ascii($text) => match $body {
+                Ok(made) => Ok(made),
+                Err(back) => Err(($refusal, Slot::Ascii(back))),
+            },
+            Slot::Utf8($text) => match $body {
+                Ok(made) => Ok(made),
+                Err(back) => Err(($refusal, Slot::Utf8(back))),
+            },
+            Slot::Wtf8($text) => match $body {
+                Ok(made) => Ok(made),
+                Err(back) => Err(($refusal, Slot::Wtf8(back))),
+            },
+            Slot::Latin1($text) => match $body {
+                Ok(made) => Ok(made),
+                Err(back) => Err(($refusal, Slot::Latin1(back))),
             },
             Slot::Gone => $gone,
         }
@@ -47,20 +100,28 @@ macro_rules! like_text {
 impl<A: Atomicity> Slot<A> {
     /// The empty text of a format.
     pub(crate) fn empty(alloc: Global, kind: Kind) -> Self
-        ensures { cell_of result ≡ text kind [] }
+        ensures { cell_of result ≡ text_cell kind [] }
     {
         match kind {
             Kind::Bytes => Slot::Bytes(Tendril::new(alloc)),
+            Kind::Ascii => Slot::Ascii(Tendril::new(alloc)),
+            Kind::Utf8 => Slot::Utf8(Tendril::new(alloc)),
+            Kind::Wtf8 => Slot::Wtf8(Tendril::new(alloc)),
+            Kind::Latin1 => Slot::Latin1(Tendril::new(alloc)),
         }
     }
 
     /// A text of these bytes.
     pub(crate) fn from_bytes(alloc: Global, kind: Kind, bytes: &ByteList) -> Result<Self, Refusal>
-        ensures ok { IfOk result (λ s. BytesMust (valid_in kind) bytes.now (length bytes.now) None × (cell_of s ≡ text kind bytes.now)) }
+        ensures ok { IfOk result (λ s. BytesMust (valid_in kind) bytes.now (length bytes.now) None × (cell_of s ≡ text_cell kind bytes.now)) }
         ensures refusal { IfErr result (λ r. BytesMust (valid_in kind) bytes.now (length bytes.now) (Some r) ⊎ (BytesMust (valid_in kind) bytes.now (length bytes.now) None × MemoryMay (length bytes.now) r)) }
     {
         match kind {
-            Kind::Bytes => Ok(Slot::Bytes(text_from(alloc, bytes)?)),
+            Kind::Bytes => Ok(Slot::Bytes(text::from_bytes(alloc, bytes)?)),
+            Kind::Ascii => Ok(Slot::Ascii(text::from_bytes(alloc, bytes)?)),
+            Kind::Utf8 => Ok(Slot::Utf8(text::from_bytes(alloc, bytes)?)),
+            Kind::Wtf8 => Ok(Slot::Wtf8(text::from_bytes(alloc, bytes)?)),
+            Kind::Latin1 => Ok(Slot::Latin1(text::from_bytes(alloc, bytes)?)),
         }
     }
 
@@ -85,15 +146,126 @@ impl<A: Atomicity> Slot<A> {
         ensures pushed { CellPushed (cell_of self.old) bytes.now result (cell_of self.new) }
         ensures valid { IsCell (cell_of self.new) }
     {
-        let reply = self.push_text(bytes);
+        let reply = on_text!(self, _kind, text => text::push(text, bytes), gone());
         let _kind = self.kind();
         reply
     }
 
-    fn push_text(&mut self, bytes: &ByteList) -> Reply
-        ensures { CellPushed (cell_of self.old) bytes.now result (cell_of self.new) }
+    /// Puts the text of another slot at the end of the text.
+    pub(crate) fn join(&mut self, other: &Slot<A>) -> Reply
+        ensures joined { (to from : ℕ) → CellJoined to from (cell_of self.old) (cell_of other.now) result (cell_of self.new) }
+        ensures valid { IsCell (cell_of self.new) }
     {
-        on_text!(self, _kind, text => push_reply(text, bytes), Reply::Refused(Refusal::NoSuchSlot))
+        let reply = match (&mut *self, other) {
+            (Slot::Bytes(text), Slot::Bytes(more)) => text::join(text, more),
+            (Slot::Ascii(text), Slot::Ascii(more)) => text::join(text, more),
+            (Slot::Utf8(text), Slot::Utf8(more)) => text::join(text, more),
+            (Slot::Wtf8(text), Slot::Wtf8(more)) => text::join(text, more),
+            (Slot::Latin1(text), Slot::Latin1(more)) => text::join(text, more),
+            (Slot::Gone, _) | (_, Slot::Gone) => gone(),
+            _ => Reply::Refused(Refusal::WrongFormat),
+        };
+        let _kind = self.kind();
+        reply
+    }
+
+    /// Puts the text at its own end.
+    pub(crate) fn join_self(&mut self) -> Reply
+        ensures joined { (slot : ℕ) → CellJoined slot slot (cell_of self.old) (cell_of self.old) result (cell_of self.new) }
+        ensures valid { IsCell (cell_of self.new) }
+    {
+        let reply = on_text!(self, _kind, text => text::join_self(text), gone());
+        let _kind = self.kind();
+        reply
+    }
+
+    /// Changes the text's bytes.
+    pub(crate) fn edit(&mut self, edit: Edit) -> Reply
+        ensures edited { CellEdited (cell_of self.old) edit result (cell_of self.new) }
+        ensures valid { IsCell (cell_of self.new) }
+    {
+        let reply = on_text!(self, _kind, text => text::edit(text, edit), gone());
+        let _kind = self.kind();
+        reply
+    }
+
+    /// Changes the text's format.
+    pub(crate) fn convert(&mut self, conversion: Conversion) -> Reply
+        ensures converted { CellConverted (cell_of self.old) conversion result (cell_of self.new) }
+        ensures valid { IsCell (cell_of self.new) }
+    {
+        let old = mem::replace(self, Slot::Gone);
+        let reply = match old.converted(conversion) {
+            Ok(new) => {
+                *self = new;
+                Reply::Done
+            }
+            Err((refusal, back)) => {
+                *self = back;
+                Reply::Refused(refusal)
+            }
+        };
+        let _kind = self.kind();
+        reply
+    }
+
+    // The text in another format, or back with the refusal.
+    fn converted(self, conversion: Conversion) -> Result<Self, (Refusal, Self)>
+        ensures ok { IfOk result (λ s. ConversionMust (cell_of self) conversion None × (cell_of s ≡ converted (cell_of self) conversion)) }
+        ensures refusal { IfErr result (λ e. ConversionMust (cell_of self) conversion (Some e.0) × (cell_of e.1 ≡ cell_of self)) }
+    {
+        match conversion {
+            Conversion::Reinterpret(kind) => self.reinterpreted(kind),
+            Conversion::ToSuperset(kind) => self.into_superset(kind),
+            Conversion::ToSubset(kind) => self.into_subset(kind),
+        }
+    }
+
+    fn reinterpreted(self, kind: Kind) -> Result<Self, (Refusal, Self)>
+        ensures ok { IfOk result (λ s. ConversionMust (cell_of self) (Conversion.Reinterpret kind) None × (cell_of s ≡ converted (cell_of self) (Conversion.Reinterpret kind))) }
+        ensures refusal { IfErr result (λ e. ConversionMust (cell_of self) (Conversion.Reinterpret kind) (Some e.0) × (cell_of e.1 ≡ cell_of self)) }
+    {
+        from_text!(
+            self,
+            text => text::reinterpreted(text, kind),
+            Refusal::Invalid,
+            Err((Refusal::NoSuchSlot, Slot::Gone))
+        )
+    }
+
+    fn into_superset(self, kind: Kind) -> Result<Self, (Refusal, Self)>
+        ensures ok { IfOk result (λ s. ConversionMust (cell_of self) (Conversion.ToSuperset kind) None × (cell_of s ≡ converted (cell_of self) (Conversion.ToSuperset kind))) }
+        ensures refusal { IfErr result (λ e. ConversionMust (cell_of self) (Conversion.ToSuperset kind) (Some e.0) × (cell_of e.1 ≡ cell_of self)) }
+    {
+        match (self, kind) {
+            (Slot::Ascii(text), Kind::Utf8) => Ok(Slot::Utf8(text.into_superset())),
+            (Slot::Ascii(text), Kind::Latin1) => Ok(Slot::Latin1(text.into_superset())),
+            (Slot::Utf8(text), Kind::Wtf8) => Ok(Slot::Wtf8(text.into_superset())),
+            (Slot::Gone, _) => Err((Refusal::NoSuchSlot, Slot::Gone)),
+            (other, _) => Err((Refusal::WrongFormat, other)),
+        }
+    }
+
+    fn into_subset(self, kind: Kind) -> Result<Self, (Refusal, Self)>
+        ensures ok { IfOk result (λ s. ConversionMust (cell_of self) (Conversion.ToSubset kind) None × (cell_of s ≡ converted (cell_of self) (Conversion.ToSubset kind))) }
+        ensures refusal { IfErr result (λ e. ConversionMust (cell_of self) (Conversion.ToSubset kind) (Some e.0) × (cell_of e.1 ≡ cell_of self)) }
+    {
+        match (self, kind) {
+            (Slot::Utf8(text), Kind::Ascii) => match text.try_into_subset() {
+                Ok(text) => Ok(Slot::Ascii(text)),
+                Err(text) => Err((Refusal::Invalid, Slot::Utf8(text))),
+            },
+            (Slot::Latin1(text), Kind::Ascii) => match text.try_into_subset() {
+                Ok(text) => Ok(Slot::Ascii(text)),
+                Err(text) => Err((Refusal::Invalid, Slot::Latin1(text))),
+            },
+            (Slot::Wtf8(text), Kind::Utf8) => match text.try_into_subset() {
+                Ok(text) => Ok(Slot::Utf8(text)),
+                Err(text) => Err((Refusal::Invalid, Slot::Wtf8(text))),
+            },
+            (Slot::Gone, _) => Err((Refusal::NoSuchSlot, Slot::Gone)),
+            (other, _) => Err((Refusal::WrongFormat, other)),
+        }
     }
 
     /// A part of the text.
@@ -101,7 +273,7 @@ impl<A: Atomicity> Slot<A> {
         ensures ok { IfOk result (λ s. CellSliceMust (cell_of self.now) offset count None × (cell_of s ≡ part (cell_of self.now) offset count)) }
         ensures refusal { IfErr result (λ r. CellSliceMust (cell_of self.now) offset count (Some r) ⊎ (CellSliceMust (cell_of self.now) offset count None × CountMay count r)) }
     {
-        like_text!(self, text => text_slice(text, offset, count), Err(Refusal::NoSuchSlot))
+        like_text!(self, text => text::slice(text, offset, count), Err(Refusal::NoSuchSlot))
     }
 
     /// The same text once more.
@@ -116,12 +288,7 @@ impl<A: Atomicity> Slot<A> {
     pub(crate) fn text(&self, alloc: Global) -> Reply
         ensures { CellTold (cell_of self.now) result }
     {
-        on_text!(
-            self,
-            kind,
-            text => text_reply(alloc, kind, text.as_byte_slice()),
-            Reply::Refused(Refusal::NoSuchSlot)
-        )
+        on_text!(self, kind, text => text::told(alloc, kind, text.as_byte_slice()), gone())
     }
 
     /// The slot is gone.
@@ -130,48 +297,16 @@ impl<A: Atomicity> Slot<A> {
         ensures valid { IsCell (cell_of self.new) }
     {
         if let Slot::Gone = self {
-            return Reply::Refused(Refusal::NoSuchSlot);
+            return gone();
         }
         *self = Slot::Gone;
         Reply::Done
     }
 }
 
-fn text_from<F: Format, A: Atomicity>(
-    alloc: Global,
-    bytes: &ByteList,
-) -> Result<Tendril<F, A>, Refusal>
-    ensures ok { IfOk result (λ t. BytesMust F.valid bytes.now (length bytes.now) None × (t.bytes ≡ bytes.now)) }
-    ensures refusal { IfErr result (λ r. BytesMust F.valid bytes.now (length bytes.now) (Some r) ⊎ (BytesMust F.valid bytes.now (length bytes.now) None × MemoryMay (length bytes.now) r)) }
+/// The reply where a slot isn't there any more.
+pub(crate) fn gone() -> Reply
+    ensures { result ≡ Reply.Refused Refusal.NoSuchSlot }
 {
-    Tendril::try_from_byte_slice(alloc, bytes.as_slice())
-}
-
-fn push_reply<F: Format, A: Atomicity>(text: &mut Tendril<F, A>, bytes: &ByteList) -> Reply
-    ensures { TextPushed F.valid F.join text.old.bytes bytes.now result text.new.bytes }
-{
-    match text.try_push_bytes(bytes.as_slice()) {
-        Ok(()) => Reply::Done,
-        Err(refusal) => Reply::Refused(refusal),
-    }
-}
-
-fn text_slice<F: Format, A: Atomicity>(
-    text: &Tendril<F, A>,
-    offset: u32,
-    count: u32,
-) -> Result<Tendril<F, A>, Refusal>
-    ensures ok { IfOk result (λ t. SliceMust F.valid text.now.bytes offset count None × (t.bytes ≡ take count (drop offset text.now.bytes))) }
-    ensures refusal { IfErr result (λ r. SliceMust F.valid text.now.bytes offset count (Some r) ⊎ (SliceMust F.valid text.now.bytes offset count None × CountMay count r)) }
-{
-    Ok(text.try_subtendril(offset, count)?)
-}
-
-fn text_reply(alloc: Global, kind: Kind, bytes: &[u8]) -> Reply
-    ensures { CellTold (text kind bytes.now) result }
-{
-    match Vec::from_slice(alloc, bytes) {
-        Ok(bytes) => Reply::Text(kind, ByteList::new(bytes)),
-        Err(_) => Reply::Refused(Refusal::Memory),
-    }
+    Reply::Refused(Refusal::NoSuchSlot)
 }

@@ -1,16 +1,18 @@
 //! Texts in numbered slots.
-ghost use Rattle.std.specs.Prelude.{◌≡◌, ◌≤◌, ◌<◌, ◌+◌, ◌⊎◌, ◌++◌, ◌∷◌, [], length, IfOk, IfErr, OnOk, OnErr, IsOk, Some, None, MatchOption, All};
+ghost use Rattle.std.specs.Prelude.{◌≡◌, ◌≤◌, ◌<◌, ◌+◌, ◌⊎◌, ◌++◌, ◌∷◌, ◌≢◌, [], length, IfOk, IfErr, OnOk, OnErr, IsOk, Some, None, MatchOption, All};
 ghost use Rattle.tendril_run.specs.CellOf.{cell_of};
 ghost use Rattle.tendril_run.specs.Cells.{Cell, IsCell, gone, cell_at};
 ghost use Rattle.tendril_run.specs.OneCell.{CellMust, CellSliceMust, CellCloneMay, part};
 ghost use Rattle.tendril_run.specs.Rules.{CountMay};
-ghost use Rattle.tendril_run.specs.Steps.{Step};
+ghost use Rattle.tendril_run.specs.Steps.{Step, TableEdited, TableConverted};
 
+use crate::change::{Conversion, Edit};
 use crate::classifier::Classifier;
 use crate::command::{ByteList, Command, Kind, Reply};
-use crate::slot::Slot;
+use crate::slot::{Slot, gone};
 use std::alloc::Global;
 use std::marker::Model;
+use std::mem;
 use tendril::Atomicity;
 use tendril::block::Refusal;
 
@@ -98,8 +100,16 @@ impl<A: Atomicity> Table<A> {
             Command::New(kind) => self.new_text(*kind),
             Command::FromBytes(kind, bytes) => self.from_bytes(*kind, bytes),
             Command::PushBytes(slot, bytes) => self.push_bytes(*slot, bytes),
+            Command::PushTendril(to, from) => self.join(*to, *from),
             Command::Slice(slot, offset, count) => self.slice(*slot, *offset, *count),
+            Command::PopFront(slot, count) => self.edit(*slot, Edit::PopFront(*count)),
+            Command::PopBack(slot, count) => self.edit(*slot, Edit::PopBack(*count)),
             Command::Clone(slot) => self.clone_slot(*slot),
+            Command::Clear(slot) => self.edit(*slot, Edit::Clear),
+            Command::Reserve(slot, more) => self.edit(*slot, Edit::Reserve(*more)),
+            Command::Reinterpret(slot, kind) => self.convert(*slot, Conversion::Reinterpret(*kind)),
+            Command::ToSuperset(slot, kind) => self.convert(*slot, Conversion::ToSuperset(*kind)),
+            Command::ToSubset(slot, kind) => self.convert(*slot, Conversion::ToSubset(*kind)),
             Command::Text(slot) => self.text(*slot),
             Command::Drop(slot) => self.drop_slot(*slot),
         }
@@ -154,9 +164,57 @@ impl<A: Atomicity> Table<A> {
         ensures room { self.old.room ≤ self.new.room }
     {
         if slot >= self.slots.len() {
-            return Reply::Refused(Refusal::NoSuchSlot);
+            return gone();
         }
         self.slots[slot].push_bytes(bytes)
+    }
+
+    fn join(&mut self, to: usize, from: usize) -> Reply
+        ensures step { (class : _) → Step class self.old.cells (Command.PushTendril to from) result self.new.cells }
+        ensures room { self.old.room ≤ self.new.room }
+    {
+        if to >= self.slots.len() || from >= self.slots.len() {
+            return gone();
+        }
+        if to == from {
+            self.slots[to].join_self()
+        } else {
+            self.join_other(to, from)
+        }
+    }
+
+    // The slot is taken out of the table while another is read.
+    fn join_other(&mut self, to: usize, from: usize) -> Reply
+        requires to { to < length self.old.cells }
+        requires from { from < length self.old.cells }
+        requires other { to ≢ from }
+        ensures step { (class : _) → Step class self.old.cells (Command.PushTendril to from) result self.new.cells }
+        ensures room { self.old.room ≤ self.new.room }
+    {
+        let mut text = mem::replace(&mut self.slots[to], Slot::Gone);
+        let reply = text.join(&self.slots[from]);
+        self.slots[to] = text;
+        reply
+    }
+
+    fn edit(&mut self, slot: usize, edit: Edit) -> Reply
+        ensures edited { TableEdited self.old.cells slot edit result self.new.cells }
+        ensures room { self.old.room ≤ self.new.room }
+    {
+        if slot >= self.slots.len() {
+            return gone();
+        }
+        self.slots[slot].edit(edit)
+    }
+
+    fn convert(&mut self, slot: usize, conversion: Conversion) -> Reply
+        ensures converted { TableConverted self.old.cells slot conversion result self.new.cells }
+        ensures room { self.old.room ≤ self.new.room }
+    {
+        if slot >= self.slots.len() {
+            return gone();
+        }
+        self.slots[slot].convert(conversion)
     }
 
     fn slice(&mut self, slot: usize, offset: u32, count: u32) -> Reply
@@ -206,7 +264,7 @@ impl<A: Atomicity> Table<A> {
     {
         match self.slot(slot) {
             Some(slot) => slot.text(self.alloc),
-            None => Reply::Refused(Refusal::NoSuchSlot),
+            None => gone(),
         }
     }
 
@@ -215,7 +273,7 @@ impl<A: Atomicity> Table<A> {
         ensures room { self.old.room ≤ self.new.room }
     {
         if slot >= self.slots.len() {
-            return Reply::Refused(Refusal::NoSuchSlot);
+            return gone();
         }
         self.slots[slot].drop_text()
     }

@@ -104,6 +104,24 @@ fn lines_of_commands(rt: HostRuntime) -> Result<(), Fail> {
             Some(Command::Slice(0, 4294967295, 1))
         )
     );
+    assert!(rt;
+        matches!(
+            parse_line(alloc, b"join 3 3")?,
+            Some(Command::PushTendril(3, 3))
+        )
+    );
+    assert!(rt;
+        matches!(
+            parse_line(alloc, b"reserve 1 4294967295")?,
+            Some(Command::Reserve(1, 4294967295))
+        )
+    );
+    assert!(rt;
+        matches!(
+            parse_line(alloc, b"as 0 latin1")?,
+            Some(Command::Reinterpret(0, Kind::Latin1))
+        )
+    );
     let Some(Command::PushBytes(2, list)) = parse_line(alloc, b"push 2 aBAb")? else {
         return Err(Fail::from("push"));
     };
@@ -132,6 +150,16 @@ fn lines_of_no_command(rt: HostRuntime) -> Result<(), Fail> {
         b"from bytes 30 31",
         b"push 0",
         b"push -0 30",
+        b"join 0",
+        b"join 0 0 0",
+        b"front 0",
+        b"back 0 ",
+        b"clear",
+        b"reserve 0 -1",
+        b"as 0",
+        b"as latin1 0",
+        b"up 0 utf",
+        b"down 0 ASCII",
         b"slice 0 0",
         b"slice 0 01 1",
         b"slice 0 +1 1",

@@ -15,8 +15,16 @@ pub(crate) enum Verb {
     New,
     From,
     Push,
+    Join,
     Slice,
+    Front,
+    Back,
     Clone,
+    Clear,
+    Reserve,
+    As,
+    Up,
+    Down,
     Text,
     Drop,
 }
@@ -29,8 +37,16 @@ pub(crate) fn verb_of(word: &[u8]) -> Option<Verb>
         b"new" => Some(Verb::New),
         b"from" => Some(Verb::From),
         b"push" => Some(Verb::Push),
+        b"join" => Some(Verb::Join),
         b"slice" => Some(Verb::Slice),
+        b"front" => Some(Verb::Front),
+        b"back" => Some(Verb::Back),
         b"clone" => Some(Verb::Clone),
+        b"clear" => Some(Verb::Clear),
+        b"reserve" => Some(Verb::Reserve),
+        b"as" => Some(Verb::As),
+        b"up" => Some(Verb::Up),
+        b"down" => Some(Verb::Down),
         b"text" => Some(Verb::Text),
         b"drop" => Some(Verb::Drop),
         _ => None,
@@ -61,6 +77,10 @@ pub(crate) fn kind(word: &[u8]) -> Option<Kind>
 {
     match word {
         b"bytes" => Some(Kind::Bytes),
+        b"ascii" => Some(Kind::Ascii),
+        b"utf8" => Some(Kind::Utf8),
+        b"wtf8" => Some(Kind::Wtf8),
+        b"latin1" => Some(Kind::Latin1),
         _ => None,
     }
 }
@@ -99,6 +119,36 @@ pub(crate) fn one_number(args: &[&[u8]]) -> Option<usize>
         return None;
     };
     Some(number(slot)? as usize)
+}
+
+/// The two slots that the words are.
+pub(crate) fn two_slots(args: &[&[u8]]) -> Option<(usize, usize)>
+    ensures { (a b : ℕ) → (result ≡ Some (a, b)) ↔ AreWords (number_word a ∷ number_word b ∷ []) (map (λ word. word.now) args.now) }
+{
+    let [first, second] = args else {
+        return None;
+    };
+    Some((number(first)? as usize, number(second)? as usize))
+}
+
+/// The slot and the number that the words are.
+pub(crate) fn two_numbers(args: &[&[u8]]) -> Option<(usize, u32)>
+    ensures { (a b : ℕ) → (result ≡ Some (a, b)) ↔ AreWords (number_word a ∷ number_word b ∷ []) (map (λ word. word.now) args.now) }
+{
+    let [first, second] = args else {
+        return None;
+    };
+    Some((number(first)? as usize, number(second)?))
+}
+
+/// The slot and the format that the words are.
+pub(crate) fn number_and_kind(args: &[&[u8]]) -> Option<(usize, Kind)>
+    ensures { (a : ℕ) (k : _) → (result ≡ Some (a, k)) ↔ AreWords (number_word a ∷ format_word k ∷ []) (map (λ word. word.now) args.now) }
+{
+    let [first, second] = args else {
+        return None;
+    };
+    Some((number(first)? as usize, kind(second)?))
 }
 
 /// The three numbers that the words are.

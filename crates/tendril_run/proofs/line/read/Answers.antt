@@ -1,4 +1,4 @@
-use Rattle.std.proofs.Common.{rules, ◌≡◌, ℕ, List, [], ◌∷◌, map}
+use Rattle.std.proofs.Common.{rules, [], ◌∷◌, map}
 use Rattle.tendril_run.specs.Lines.{AreWords, number, format, bytes}
 use Rattle.tendril_run.proofs.Reading.{taken}
 use Rattle.tendril_run.specs.declared.command.Command.TheVariants as command
@@ -24,3 +24,27 @@ returns-in-Text c = rw c.in-Text.is (taken (λ x. AreWords (number x ∷ []) (ma
 
 pub returns-in-Drop : goal.returns-in-Drop
 returns-in-Drop c = rw c.in-Drop.is (taken (λ x. AreWords (number x ∷ []) (map (λ word. word.now) c.args.arguments.now)) (λ x. command.Drop x) _ _ _ (λ x y q. search rules) (λ x. c.one_number-in-Drop.ensures x) c.map-in-Drop.ensures.cases)
+
+pub returns-in-Join : goal.returns-in-Join
+returns-in-Join c = rw c.in-Join.is (taken (λ x. AreWords (number x.0 ∷ number x.1 ∷ []) (map (λ word. word.now) c.args.arguments.now)) (λ x. command.PushTendril x.0 x.1) _ _ _ (λ x y q. search rules) (λ x. c.two_slots.ensures x.0 x.1) c.map-in-Join.ensures.cases)
+
+pub returns-in-Front : goal.returns-in-Front
+returns-in-Front c = rw c.in-Front.is (taken (λ x. AreWords (number x.0 ∷ number x.1 ∷ []) (map (λ word. word.now) c.args.arguments.now)) (λ x. command.PopFront x.0 x.1) _ _ _ (λ x y q. search rules) (λ x. c.two_numbers.ensures x.0 x.1) c.map-in-Front.ensures.cases)
+
+pub returns-in-Back : goal.returns-in-Back
+returns-in-Back c = rw c.in-Back.is (taken (λ x. AreWords (number x.0 ∷ number x.1 ∷ []) (map (λ word. word.now) c.args.arguments.now)) (λ x. command.PopBack x.0 x.1) _ _ _ (λ x y q. search rules) (λ x. c.two_numbers-in-Back.ensures x.0 x.1) c.map-in-Back.ensures.cases)
+
+pub returns-in-Clear : goal.returns-in-Clear
+returns-in-Clear c = rw c.in-Clear.is (taken (λ x. AreWords (number x ∷ []) (map (λ word. word.now) c.args.arguments.now)) (λ x. command.Clear x) _ _ _ (λ x y q. search rules) (λ x. c.one_number-in-Clear.ensures x) c.map-in-Clear.ensures.cases)
+
+pub returns-in-Reserve : goal.returns-in-Reserve
+returns-in-Reserve c = rw c.in-Reserve.is (taken (λ x. AreWords (number x.0 ∷ number x.1 ∷ []) (map (λ word. word.now) c.args.arguments.now)) (λ x. command.Reserve x.0 x.1) _ _ _ (λ x y q. search rules) (λ x. c.two_numbers-in-Reserve.ensures x.0 x.1) c.map-in-Reserve.ensures.cases)
+
+pub returns-in-As : goal.returns-in-As
+returns-in-As c = rw c.in-As.is (taken (λ x. AreWords (number x.0 ∷ format x.1 ∷ []) (map (λ word. word.now) c.args.arguments.now)) (λ x. command.Reinterpret x.0 x.1) _ _ _ (λ x y q. search rules) (λ x. c.number_and_kind.ensures x.0 x.1) c.map-in-As.ensures.cases)
+
+pub returns-in-Up : goal.returns-in-Up
+returns-in-Up c = rw c.in-Up.is (taken (λ x. AreWords (number x.0 ∷ format x.1 ∷ []) (map (λ word. word.now) c.args.arguments.now)) (λ x. command.ToSuperset x.0 x.1) _ _ _ (λ x y q. search rules) (λ x. c.number_and_kind-in-Up.ensures x.0 x.1) c.map-in-Up.ensures.cases)
+
+pub returns-in-Down : goal.returns-in-Down
+returns-in-Down c = rw c.in-Down.is (taken (λ x. AreWords (number x.0 ∷ format x.1 ∷ []) (map (λ word. word.now) c.args.arguments.now)) (λ x. command.ToSubset x.0 x.1) _ _ _ (λ x y q. search rules) (λ x. c.number_and_kind-in-Down.ensures x.0 x.1) c.map-in-Down.ensures.cases)

@@ -1,4 +1,4 @@
-use Rattle.std.proofs.Common.{◌≡◌, ℕ, List, map}
+use Rattle.std.proofs.Common.{map}
 use Rattle.tendril_run.proofs.Reading.{joined_ok, no_verb}
 use Rattle.tendril_run.proofs.line.read_words.Goals as goal
 

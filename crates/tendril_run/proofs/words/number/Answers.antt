@@ -1,8 +1,7 @@
-use Rattle.std.proofs.Common.{rules, Ok, refl, get_or, ◌≡◌, ◌↔◌, ℕ, List, Option, Some, None, ◌<◌, ◌≤◌, length, arith, sym, ◌∙◌}
+use Rattle.std.proofs.Common.{Ok, refl, get_or, ◌≡◌, length, arith, sym, ◌∙◌}
 use Rattle.tendril_run.proofs.Numbers.{shape_of, number_parsed, number_parses, at_none, at_some, from_result_ok}
 use Rattle.std.specs.Str.{IsUtf8}
 use Rattle.std.specs.Str.Parse.{ParsesUnsigned}
-use Rattle.tendril_run.specs.Words.{IsNumber}
 use Rattle.std.proofs.lemmas.Bool.Decides.{nat_tests}
 use Rattle.tendril_run.proofs.words.number.Goals as goal
 use Rattle.tendril_run.proofs.words.number.Goals.{then-is_empty-via-then-is_empty, then-is_empty-via-else-is_empty+then-word-eq43, then-is_empty-via-else-is_empty+else-word-eq43+then-word-gt1, then-word-eq48, else-word-eq48}

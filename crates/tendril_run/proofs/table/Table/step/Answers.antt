@@ -20,3 +20,27 @@ returns-in-Text-clause-step g c = rw c.in-Text.is (c.text.ensures (g.C.Classifie
 
 pub returns-in-Drop-clause-step : goal.returns-in-Drop-clause-step
 returns-in-Drop-clause-step g c = rw c.in-Drop.is (c.drop_slot.ensures.step (g.C.Classifier.class c.args._classifier.now))
+
+pub returns-in-PushTendril-clause-step : goal.returns-in-PushTendril-clause-step
+returns-in-PushTendril-clause-step g c = rw c.in-PushTendril.is (c.join.ensures.step (g.C.Classifier.class c.args._classifier.now))
+
+pub returns-in-PopFront-clause-step : goal.returns-in-PopFront-clause-step
+returns-in-PopFront-clause-step g c = rw c.in-PopFront.is (c.edit.ensures.edited)
+
+pub returns-in-PopBack-clause-step : goal.returns-in-PopBack-clause-step
+returns-in-PopBack-clause-step g c = rw c.in-PopBack.is (c.edit-in-PopBack.ensures.edited)
+
+pub returns-in-Clear-clause-step : goal.returns-in-Clear-clause-step
+returns-in-Clear-clause-step g c = rw c.in-Clear.is (c.edit-in-Clear.ensures.edited)
+
+pub returns-in-Reserve-clause-step : goal.returns-in-Reserve-clause-step
+returns-in-Reserve-clause-step g c = rw c.in-Reserve.is (c.edit-in-Reserve.ensures.edited)
+
+pub returns-in-Reinterpret-clause-step : goal.returns-in-Reinterpret-clause-step
+returns-in-Reinterpret-clause-step g c = rw c.in-Reinterpret.is (c.convert.ensures.converted)
+
+pub returns-in-ToSuperset-clause-step : goal.returns-in-ToSuperset-clause-step
+returns-in-ToSuperset-clause-step g c = rw c.in-ToSuperset.is (c.convert-in-ToSuperset.ensures.converted)
+
+pub returns-in-ToSubset-clause-step : goal.returns-in-ToSubset-clause-step
+returns-in-ToSubset-clause-step g c = rw c.in-ToSubset.is (c.convert-in-ToSubset.ensures.converted)

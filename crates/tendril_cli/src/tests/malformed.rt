@@ -1,0 +1,43 @@
+//! Lines of no command.
+
+use super::check_script;
+use std::test::Fail;
+
+#[test]
+fn a_malformed_line_changes_nothing(rt: HostRuntime) -> Result<(), Fail> {
+    let script = b"from utf8 3031\n\
+        push 0\n\
+        push 0 3\n\
+        push 0 31 \n\
+        push  0 31\n\
+        push 00 31\n\
+        push 4294967296 31\n\
+        push 0 31\r\n\
+        from bytes 3\n\
+        from koi8 30\n\
+        new  utf8\n\
+        join 0\n\
+        front 0 01\n\
+        front 0 4294967296\n\
+        back 0 +1\n\
+        clear 0 \n\
+        clear\n\
+        reserve 0 -\n\
+        as 0\n\
+        as 0 UTF8\n\
+        up utf8 0\n\
+        down 0 ascii ascii\n\
+        char 0 55296\n\
+        set 0 0 3031\n\
+        text 0 \n\
+        \x20\n\
+        \xff\xfe 0\n\
+        text \xff\n\
+        text 0\n";
+    let mut printed = Vec::from_slice(rt.alloc(), b"slot 0\n")?;
+    for _ in 0..27 {
+        printed.extend_from_slice(b"malformed\n")?;
+    }
+    printed.extend_from_slice(b"utf8 3031\n")?;
+    check_script(rt.alloc(), script, printed.as_slice())
+}

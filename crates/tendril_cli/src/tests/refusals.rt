@@ -1,0 +1,139 @@
+//! Each refusal that a command has, and which one comes where two apply.
+
+use super::check_session;
+use std::test::Fail;
+
+#[test]
+fn no_such_slot(rt: HostRuntime) -> Result<(), Fail> {
+    check_session(
+        rt.alloc(),
+        "new bytes => slot 0
+        drop 0 => ok
+        push 0 31 => refused 13 NoSuchSlot
+        join 0 0 => refused 13 NoSuchSlot
+        slice 0 0 0 => refused 13 NoSuchSlot
+        front 0 0 => refused 13 NoSuchSlot
+        back 0 0 => refused 13 NoSuchSlot
+        clone 0 => refused 13 NoSuchSlot
+        clear 0 => refused 13 NoSuchSlot
+        reserve 0 0 => refused 13 NoSuchSlot
+        as 0 utf8 => refused 13 NoSuchSlot
+        up 0 utf8 => refused 13 NoSuchSlot
+        down 0 ascii => refused 13 NoSuchSlot
+        text 0 => refused 13 NoSuchSlot
+        drop 0 => refused 13 NoSuchSlot
+        text 1 => refused 13 NoSuchSlot
+        text 4294967295 => refused 13 NoSuchSlot
+        new bytes => slot 1
+        join 0 1 => refused 13 NoSuchSlot
+        join 1 0 => refused 13 NoSuchSlot
+        join 1 2 => refused 13 NoSuchSlot
+        join 2 1 => refused 13 NoSuchSlot
+        text 1 => bytes -",
+    )
+}
+
+#[test]
+fn no_such_slot_comes_first(rt: HostRuntime) -> Result<(), Fail> {
+    check_session(
+        rt.alloc(),
+        "new utf8 => slot 0
+        drop 0 => ok
+        push 0 ff => refused 13 NoSuchSlot
+        slice 0 1 1 => refused 13 NoSuchSlot
+        front 0 1 => refused 13 NoSuchSlot
+        reserve 0 4294967295 => refused 13 NoSuchSlot
+        up 0 bytes => refused 13 NoSuchSlot
+        down 0 bytes => refused 13 NoSuchSlot
+        new bytes => slot 1
+        join 1 0 => refused 13 NoSuchSlot",
+    )
+}
+
+#[test]
+fn wrong_format(rt: HostRuntime) -> Result<(), Fail> {
+    check_session(
+        rt.alloc(),
+        "new bytes => slot 0
+        new ascii => slot 1
+        new utf8 => slot 2
+        new wtf8 => slot 3
+        new latin1 => slot 4
+        join 0 1 => refused 14 WrongFormat
+        join 2 3 => refused 14 WrongFormat
+        up 0 bytes => refused 14 WrongFormat
+        up 1 ascii => refused 14 WrongFormat
+        up 1 wtf8 => refused 14 WrongFormat
+        up 2 latin1 => refused 14 WrongFormat
+        up 2 bytes => refused 14 WrongFormat
+        up 3 utf8 => refused 14 WrongFormat
+        down 0 ascii => refused 14 WrongFormat
+        down 3 ascii => refused 14 WrongFormat
+        down 4 utf8 => refused 14 WrongFormat
+        down 2 utf8 => refused 14 WrongFormat
+        down 1 ascii => refused 14 WrongFormat",
+    )
+}
+
+#[test]
+fn wrong_format_comes_before_invalid(rt: HostRuntime) -> Result<(), Fail> {
+    check_session(
+        rt.alloc(),
+        "from bytes ff => slot 0
+        down 0 ascii => refused 14 WrongFormat
+        from wtf8 eda0bd => slot 1
+        down 1 ascii => refused 14 WrongFormat
+        text 1 => wtf8 eda0bd",
+    )
+}
+
+#[test]
+fn out_of_bounds_comes_before_validation_failed(rt: HostRuntime) -> Result<(), Fail> {
+    check_session(
+        rt.alloc(),
+        "from utf8 ea99ae => slot 0
+        slice 0 1 3 => refused 5 OutOfBounds
+        slice 0 1 4294967295 => refused 5 OutOfBounds
+        slice 0 1 2 => refused 6 ValidationFailed
+        front 0 4 => refused 5 OutOfBounds
+        front 0 2 => refused 6 ValidationFailed
+        back 0 4 => refused 5 OutOfBounds
+        back 0 2 => refused 6 ValidationFailed
+        text 0 => utf8 ea99ae",
+    )
+}
+
+#[test]
+fn invalid(rt: HostRuntime) -> Result<(), Fail> {
+    check_session(
+        rt.alloc(),
+        "from ascii 80 => refused 4 Invalid
+        from utf8 eda0bd => refused 4 Invalid
+        from wtf8 eda0bdedb2a9 => refused 4 Invalid
+        from wtf8 c59191 => refused 4 Invalid
+        from latin1 ff => slot 0
+        push 0 80 => ok
+        down 0 ascii => refused 4 Invalid
+        as 0 ascii => refused 4 Invalid
+        as 0 utf8 => refused 4 Invalid
+        as 0 wtf8 => refused 4 Invalid
+        text 0 => latin1 ff80
+        new ascii => slot 1
+        push 1 80 => refused 4 Invalid
+        text 1 => ascii -",
+    )
+}
+
+#[test]
+fn too_long(rt: HostRuntime) -> Result<(), Fail> {
+    check_session(
+        rt.alloc(),
+        "from bytes 616263 => slot 0
+        reserve 0 4294967293 => refused 1 TooLong
+        reserve 0 4294967295 => refused 1 TooLong
+        text 0 => bytes 616263
+        reserve 0 0 => ok
+        reserve 0 1000 => ok
+        text 0 => bytes 616263",
+    )
+}

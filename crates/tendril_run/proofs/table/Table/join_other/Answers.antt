@@ -1,0 +1,20 @@
+use Rattle.std.proofs.Common.{ap, subst, set}
+use Rattle.tendril_run.proofs.Joined.{joined_apart}
+use Rattle.tendril_run.proofs.OneChanged.{set_cells}
+use Rattle.tendril_run.specs.CellOf.{cell_of}
+use Rattle.tendril_run.specs.OneCell.{CellJoined}
+use Rattle.tendril_run.proofs.table.Table.join_other.Goals as goal
+
+pub returns-clause-step : goal.returns-clause-step
+returns-clause-step g c class =
+    joined_apart cell_of c.self.inside.slots.items c.args.self.now.cells c.args.to c.args.from c.index_mut.result.now c.index.result.now c.replace-text.new.dest c.join-reply.new.self c.join-reply.result
+    (ap (λ t. t.cells) c.self.view_is) c.requires.to c.requires.from c.requires.other c.index_mut.ensures.value c.index.ensures
+    (subst (λ s. CellJoined c.args.to c.args.from (cell_of s) (cell_of c.index.result.now) c.join-reply.result (cell_of c.join-reply.new.self)) c.replace-text.ensures.value (c.join-reply.ensures.joined c.args.to c.args.from))
+
+pub invariant_of-self : goal.invariant_of-self
+invariant_of-self g c =
+    let items = c.self.inside.slots.items in
+    let meanwhile = c.replace-text.new.dest in
+    set_cells cell_of (set items c.args.to meanwhile) c.args.to c.join-reply.new.self
+    (set_cells cell_of items c.args.to meanwhile c.self.invariant (rw c.replace-text.ensures.after tt))
+    c.join-reply.ensures.valid

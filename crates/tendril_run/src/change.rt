@@ -1,0 +1,20 @@
+//! What a command changes in the one text that it names.
+
+use crate::command::Kind;
+
+/// A change of a text's bytes, which keeps its format.
+#[derive(Clone, Copy, Debug, PartialEq, Eq)]
+pub(crate) enum Edit {
+    PopFront(u32),
+    PopBack(u32),
+    Clear,
+    Reserve(u32),
+}
+
+/// A change of a text's format, which keeps its bytes.
+#[derive(Clone, Copy, Debug, PartialEq, Eq)]
+pub(crate) enum Conversion {
+    Reinterpret(Kind),
+    ToSuperset(Kind),
+    ToSubset(Kind),
+}

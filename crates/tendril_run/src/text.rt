@@ -1,0 +1,138 @@
+//! What commands do to a text, in any format.
+ghost use Rattle.std.specs.Prelude.{◌≡◌, ◌<◌, ◌⊎◌, ◌↔◌, length, take, drop, IsTrue, IfOk, IfErr, OnOk, None, Some};
+ghost use Rattle.tendril.specs.Errors.{refusal_of};
+ghost use Rattle.tendril_run.specs.CellOf.{cell_of};
+ghost use Rattle.tendril_run.specs.Cells.{text as text_cell, valid_in};
+ghost use Rattle.tendril_run.specs.Edits.{TextEdited};
+ghost use Rattle.tendril_run.specs.OneCell.{CellTold};
+ghost use Rattle.tendril_run.specs.Rules.{TextPushed, Changed, LengthMust, BytesMust, MemoryMay, SliceMust, CountMay};
+
+use crate::change::Edit;
+use crate::command::{ByteList, Kind, Reply};
+use crate::slot::Slot;
+use std::alloc::Global;
+use tendril::block::{MAX_LEN, Refusal};
+use tendril::fmt::Format;
+use tendril::{Atomicity, SubtendrilError, Tendril};
+
+/// A text of these bytes.
+pub(crate) fn from_bytes<F: Format, A: Atomicity>(
+    alloc: Global,
+    bytes: &ByteList,
+) -> Result<Tendril<F, A>, Refusal>
+    ensures ok { IfOk result (λ t. BytesMust F.valid bytes.now (length bytes.now) None × (t.bytes ≡ bytes.now)) }
+    ensures refusal { IfErr result (λ r. BytesMust F.valid bytes.now (length bytes.now) (Some r) ⊎ (BytesMust F.valid bytes.now (length bytes.now) None × MemoryMay (length bytes.now) r)) }
+{
+    Tendril::try_from_byte_slice(alloc, bytes.as_slice())
+}
+
+/// Puts bytes at the end of the text.
+pub(crate) fn push<F: Format, A: Atomicity>(text: &mut Tendril<F, A>, bytes: &ByteList) -> Reply
+    ensures { TextPushed F.valid bytes.now (F.join text.old.bytes bytes.now) text.old.bytes result text.new.bytes }
+{
+    match text.try_push_bytes(bytes.as_slice()) {
+        Ok(()) => Reply::Done,
+        Err(refusal) => Reply::Refused(refusal),
+    }
+}
+
+/// Puts another text at the end of the text.
+pub(crate) fn join<F: Format, A: Atomicity>(text: &mut Tendril<F, A>, more: &Tendril<F, A>) -> Reply
+    ensures { Changed (LengthMust (length (F.join text.old.bytes more.now.bytes))) (MemoryMay (length (F.join text.old.bytes more.now.bytes))) (F.join text.old.bytes more.now.bytes) text.old.bytes result text.new.bytes }
+{
+    match text.push_tendril(more) {
+        Ok(()) => Reply::Done,
+        Err(refusal) => Reply::Refused(refusal),
+    }
+}
+
+/// Puts the text at its own end. It is shared for that, where the result isn't too long.
+pub(crate) fn join_self<F: Format, A: Atomicity>(text: &mut Tendril<F, A>) -> Reply
+    ensures { Changed (LengthMust (length (F.join text.old.bytes text.old.bytes))) (λ r. MemoryMay (length (F.join text.old.bytes text.old.bytes)) r ⊎ CountMay (length text.old.bytes) r) (F.join text.old.bytes text.old.bytes) text.old.bytes result text.new.bytes }
+{
+    if is_twice_too_long(text) {
+        return Reply::Refused(Refusal::TooLong);
+    }
+    match text.clone() {
+        Ok(copy) => join(text, &copy),
+        Err(refusal) => Reply::Refused(refusal),
+    }
+}
+
+// Whether the text, joined to itself, is too long for a text.
+fn is_twice_too_long<F: Format, A: Atomicity>(text: &Tendril<F, A>) -> bool
+    ensures { IsTrue result ↔ (MAX_LEN < length (F.join text.now.bytes text.now.bytes)) }
+{
+    let bytes = text.as_byte_slice();
+    let fixup = F::fixup(bytes, bytes);
+    let left = bytes.len() - fixup.drop_left as usize;
+    let right = bytes.len() - fixup.drop_right as usize;
+    left + fixup.insert_len as usize + right > MAX_LEN as usize
+}
+
+/// Changes the bytes of the text.
+pub(crate) fn edit<F: Format, A: Atomicity>(text: &mut Tendril<F, A>, edit: Edit) -> Reply
+    ensures { TextEdited F.valid edit text.old.bytes result text.new.bytes }
+{
+    match edit {
+        Edit::PopFront(count) => reply_of(text.try_pop_front(count)),
+        Edit::PopBack(count) => reply_of(text.try_pop_back(count)),
+        Edit::Clear => {
+            text.clear();
+            Reply::Done
+        }
+        Edit::Reserve(more) => match text.reserve(more) {
+            Ok(()) => Reply::Done,
+            Err(refusal) => Reply::Refused(refusal),
+        },
+    }
+}
+
+fn reply_of(done: Result<(), SubtendrilError>) -> Reply
+    ensures ok { OnOk done (result ≡ Reply.Done) }
+    ensures err { IfErr done (λ e. result ≡ Reply.Refused (refusal_of e)) }
+{
+    match done {
+        Ok(()) => Reply::Done,
+        Err(error) => Reply::Refused(error.into()),
+    }
+}
+
+/// The text in another format, or back where it isn't valid there.
+pub(crate) fn reinterpreted<F: Format, A: Atomicity>(
+    text: Tendril<F, A>,
+    kind: Kind,
+) -> Result<Slot<A>, Tendril<F, A>>
+    ensures ok { IfOk result (λ s. valid_in kind text.bytes × (cell_of s ≡ text_cell kind text.bytes)) }
+    ensures back { IfErr result (λ t. (valid_in kind text.bytes → ⊥) × (t.bytes ≡ text.bytes)) }
+{
+    match kind {
+        Kind::Bytes => Ok(Slot::Bytes(text.try_reinterpret()?)),
+        Kind::Ascii => Ok(Slot::Ascii(text.try_reinterpret()?)),
+        Kind::Utf8 => Ok(Slot::Utf8(text.try_reinterpret()?)),
+        Kind::Wtf8 => Ok(Slot::Wtf8(text.try_reinterpret()?)),
+        Kind::Latin1 => Ok(Slot::Latin1(text.try_reinterpret()?)),
+    }
+}
+
+/// A part of the text.
+pub(crate) fn slice<F: Format, A: Atomicity>(
+    text: &Tendril<F, A>,
+    offset: u32,
+    count: u32,
+) -> Result<Tendril<F, A>, Refusal>
+    ensures ok { IfOk result (λ t. SliceMust F.valid text.now.bytes offset count None × (t.bytes ≡ take count (drop offset text.now.bytes))) }
+    ensures refusal { IfErr result (λ r. SliceMust F.valid text.now.bytes offset count (Some r) ⊎ (SliceMust F.valid text.now.bytes offset count None × CountMay count r)) }
+{
+    Ok(text.try_subtendril(offset, count)?)
+}
+
+/// The reply that tells a text's bytes, copied.
+pub(crate) fn told(alloc: Global, kind: Kind, bytes: &[u8]) -> Reply
+    ensures { CellTold (text_cell kind bytes.now) result }
+{
+    match Vec::from_slice(alloc, bytes) {
+        Ok(bytes) => Reply::Text(kind, ByteList::new(bytes)),
+        Err(_) => Reply::Refused(Refusal::Memory),
+    }
+}
