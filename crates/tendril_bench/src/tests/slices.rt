@@ -115,6 +115,18 @@ fn parts_that_are_known_to_be_valid(rt: HostRuntime) -> Result<(), Fail> {
 }
 
 #[test]
+fn refusals_of_slices_and_pops_print_their_name(rt: HostRuntime) -> Result<(), Fail> {
+    for (refusal, name) in [
+        (SubtendrilError::OutOfBounds, "OutOfBounds"),
+        (SubtendrilError::ValidationFailed, "ValidationFailed"),
+        (SubtendrilError::Count, "Count"),
+    ] {
+        assert_eq!(rt; format!(in rt.alloc(); "{refusal}")?.as_str(), name);
+    }
+    Ok(())
+}
+
+#[test]
 fn parts_of_a_view(rt: HostRuntime) -> Result<(), Fail> {
     let text: StrTendril = str_to_tendril(rt.alloc(), "0123456789")?;
     let view = text.as_bytes();
