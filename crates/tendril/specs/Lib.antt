@@ -1,4 +1,5 @@
 pub mod Errors
 pub mod Texts
+pub mod Characters
 pub mod Storages
 pub mod Refusals

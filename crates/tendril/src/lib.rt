@@ -2,6 +2,7 @@
 //! when one of them is changed.
 #![tactic(auto)]
 
+mod chars;
 mod error;
 mod storage;
 mod tendril;
@@ -12,5 +13,5 @@ pub use crate::tendril::{ByteTendril, StrTendril, Tendril, slice_to_tendril, str
 pub use crate::view::View;
 pub use tendril_block as block;
 pub use tendril_block::{Atomicity, NonAtomic};
-pub use tendril_fmt::fmt::Format;
+pub use tendril_fmt::fmt::{CharFormat, Format};
 pub use tendril_fmt::{fmt, futf};

@@ -1,7 +1,9 @@
 //! Code that is generic in the format: it is proved once, from the trait alone, for every format.
-ghost use Rattle.std.specs.Prelude.{◌≡◌, ◌≤◌, length, take, IfSome, IfNone};
+ghost use Rattle.std.specs.Prelude.{◌≡◌, ◌≤◌, ◌∷◌, ◌++◌, ℕ, List, length, take, IfSome, IfNone};
+ghost use Rattle.std.specs.List.{AllByRecursion};
+ghost use Rattle.tendril_bench.specs.Digits.{IsDigit};
 
-use tendril_fmt::fmt::Format;
+use tendril_fmt::fmt::{CharFormat, Format};
 
 /// The first `len` bytes of a text, if they are a text of the format.
 pub fn front<F: Format>(text: &[u8], len: usize) -> Option<&[u8]>
@@ -16,4 +18,25 @@ pub fn front<F: Format>(text: &[u8], len: usize) -> Option<&[u8]>
     } else {
         None
     }
+}
+
+/// A text in two: the digits that it begins with, and the rest.
+pub fn leading_digits<F: CharFormat>(text: &[u8]) -> (&[u8], &[u8])
+    requires { F.valid text.now }
+    ensures texts { F.valid result.0.now × F.valid result.1.now }
+    ensures whole { text.now ≡ result.0.now ++ result.1.now }
+    ensures characters { F.chars text.now ≡ F.chars result.0.now ++ F.chars result.1.now }
+
+    // the first part is the longest front of digits
+    ensures digits { AllByRecursion IsDigit (F.chars result.0.now) }
+    ensures longest { (c : ℕ) (cs : List ℕ) → F.chars result.1.now ≡ c ∷ cs → ¬ (IsDigit c) }
+{
+    let mut at = 0;
+    while let Some((character, len)) = F::first_char(&text[at..]) {
+        if !character.is_ascii_digit() {
+            break;
+        }
+        at += len;
+    }
+    text.split_at(at)
 }

@@ -2,6 +2,7 @@
 #![tactic(auto)]
 
 pub mod callers;
+pub mod doubled;
 pub mod pairs;
 #[cfg(test)]
 mod tests;

@@ -1,4 +1,6 @@
 pub mod AsciiParts
+pub mod CharIndices
+pub mod Characters
 pub mod Cuts
 pub mod Decodings
 pub mod FourBytes
@@ -8,5 +10,6 @@ pub mod Parts
 pub mod Rests
 pub mod Seams
 pub mod Sequences
+pub mod Splits
 pub mod Unique
 pub mod Wtf8Joins

@@ -1,6 +1,7 @@
--- Laws of joining, in every format.
-use Rattle.std.specs.Prelude.{◌≡◌, ℕ, List, [], ◌++◌}
+-- Laws of joining, in every format, and of characters.
+use Rattle.std.specs.Prelude.{◌≡◌, ℕ, List, [], ◌∷◌, ◌++◌, length, Some, slice_get}
 use Rattle.std.specs.List.{AllByRecursion}
+use Rattle.tendril_fmt.specs.Chars.{encodings, places_from}
 use Rattle.tendril_fmt.specs.Wtf8.{IsUnit, IsWtf8, wtf8, units, wtf8_join}
 
 -- of three texts it doesn't matter which two are joined first
@@ -32,3 +33,11 @@ TextRoundTrip = (bytes : List ℕ) → IsWtf8 bytes → wtf8 (units bytes) ≡ b
 -- the units of a join are those of the left and then those of the right
 abbrev pub JoinAppendsUnits : Type 0
 JoinAppendsUnits = (l r : List ℕ) → IsWtf8 l → IsWtf8 r → units (wtf8_join l r) ≡ units l ++ units r
+
+-- characters that have an encoding, in any order, spell a text, and it has these characters
+abbrev pub SpellText : (List ℕ → Type 0) → (List ℕ → List ℕ) → (ℕ → Type 0) → (ℕ → List ℕ) → Type 0
+SpellText valid chars encodes encoding = (cs : List ℕ) → AllByRecursion encodes cs → valid (encodings encoding cs) × (chars (encodings encoding cs) ≡ cs)
+
+-- the place of a character is the number of bytes of those before it
+abbrev pub PlaceIsLengthBefore : Type 0
+PlaceIsLengthBefore = (encoding : ℕ → List ℕ) (cs ds : List ℕ) (c : ℕ) → slice_get (places_from encoding 0 (cs ++ c ∷ ds)) (length cs) ≡ Some (length (encodings encoding cs), c)

@@ -5,6 +5,8 @@
 
 mod ascii;
 mod bytes;
+mod char_indices;
+mod chars;
 mod fixup;
 mod format;
 mod latin1;
@@ -16,6 +18,8 @@ mod wtf8;
 
 pub use ascii::ASCII;
 pub use bytes::Bytes;
+pub use char_indices::{SingleByteCharIndices, Utf8CharIndices};
+pub use chars::{CharFormat, Encoded};
 pub use fixup::Fixup;
 pub use format::Format;
 pub use latin1::Latin1;

@@ -1,5 +1,6 @@
 //! ASCII.
 
+use crate::fmt::chars::{CharFormat, Encoded};
 use crate::fmt::fixup::Fixup;
 use crate::fmt::format::Format;
 use crate::fmt::latin1::Latin1;
@@ -41,6 +42,42 @@ impl Format for ASCII {
 
     fn fixup(_left: &[u8], _right: &[u8]) -> Fixup {
         Fixup::default()
+    }
+}
+
+impl CharFormat for ASCII {
+    ghost use Rattle.std.specs.Prelude.{◌<◌, refl};
+    ghost use Rattle.std.proofs.Common.{lit≤, sym};
+    ghost use Rattle.tendril_fmt.specs.Chars.{one_byte};
+    ghost use Rattle.tendril_fmt.specs.Proved.Characters.{encodings-one_byte, AreTextsOf-ascii, IsAscii-one_byte};
+
+    ghost chars = { λ bytes. bytes };
+
+    ghost encodes = { λ c. c < 128 };
+
+    ghost encoding = { one_byte };
+
+    ghost empty_chars = { refl };
+
+    ghost chars_spell = { λ bytes _. sym (encodings-one_byte bytes) };
+
+    ghost cut = { AreTextsOf-ascii };
+
+    ghost encoding_valid = { IsAscii-one_byte };
+
+    ghost encoding_len = { λ _ _. (lit≤ tt, lit≤ tt) };
+
+    fn first_char(bytes: &[u8]) -> Option<(char, usize)> {
+        let first = *bytes.first()?;
+        Some((first as char, 1))
+    }
+
+    fn encode_char(character: char) -> Option<Encoded> {
+        if character.is_ascii() {
+            Some(Encoded::new(&[character as u8]))
+        } else {
+            None
+        }
     }
 }
 

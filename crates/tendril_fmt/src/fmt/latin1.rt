@@ -1,5 +1,6 @@
 //! One byte a character.
 
+use crate::fmt::chars::{CharFormat, Encoded};
 use crate::fmt::fixup::Fixup;
 use crate::fmt::format::Format;
 
@@ -39,5 +40,42 @@ impl Format for Latin1 {
 
     fn fixup(_left: &[u8], _right: &[u8]) -> Fixup {
         Fixup::default()
+    }
+}
+
+impl CharFormat for Latin1 {
+    ghost use Rattle.std.specs.Prelude.{◌<◌, refl};
+    ghost use Rattle.std.proofs.Common.{lit≤, sym};
+    ghost use Rattle.tendril_fmt.specs.Chars.{one_byte};
+    ghost use Rattle.tendril_fmt.specs.Proved.Characters.{encodings-one_byte, AreTextsOf-one_byte};
+
+    ghost chars = { λ bytes. bytes };
+
+    ghost encodes = { λ c. c < 256 };
+
+    ghost encoding = { one_byte };
+
+    ghost empty_chars = { refl };
+
+    ghost chars_spell = { λ bytes _. sym (encodings-one_byte bytes) };
+
+    ghost cut = { λ _ cs ds _ _. AreTextsOf-one_byte (λ _. Unit {0}) cs ds tt tt };
+
+    ghost encoding_valid = { λ _ _. tt };
+
+    ghost encoding_len = { λ _ _. (lit≤ tt, lit≤ tt) };
+
+    fn first_char(bytes: &[u8]) -> Option<(char, usize)> {
+        let first = *bytes.first()?;
+        Some((first as char, 1))
+    }
+
+    fn encode_char(character: char) -> Option<Encoded> {
+        let code = character as u32;
+        if code < 0x100 {
+            Some(Encoded::new(&[code as u8]))
+        } else {
+            None
+        }
     }
 }

@@ -1,12 +1,13 @@
 //! What holds of the formats, beside what their functions answer.
 ghost use Rattle.std.specs.Prelude.{IsUtf8};
 ghost use Rattle.tendril_fmt.specs.Classify.{OneStands};
-ghost use Rattle.tendril_fmt.specs.Laws.{JoinLaws, UnitsRoundTrip, TextRoundTrip, JoinAppendsUnits};
+ghost use Rattle.tendril_fmt.specs.Laws.{JoinLaws, UnitsRoundTrip, TextRoundTrip, JoinAppendsUnits, SpellText, PlaceIsLengthBefore};
 ghost use Rattle.tendril_fmt.specs.Local.{IsWhole, IsWholeOrSurrogate, FrontTestIsWhole, EndTestIsWhole, SliceTestIsWhole, RestsOnFourBytes};
 ghost use Rattle.tendril_fmt.specs.Wtf8.{IsWtf8};
 
 use crate::fmt::ascii::ASCII;
 use crate::fmt::bytes::Bytes;
+use crate::fmt::chars::CharFormat;
 use crate::fmt::format::Format;
 use crate::fmt::latin1::Latin1;
 use crate::fmt::utf8::UTF8;
@@ -24,6 +25,12 @@ pub fn laws()
     ensures units_round_trip { UnitsRoundTrip }
     ensures text_round_trip { TextRoundTrip }
     ensures join_appends_units { JoinAppendsUnits }
+
+    // characters and their encodings
+    ensures ascii_chars { SpellText ⟦<ASCII as Format>⟧.valid ⟦<ASCII as CharFormat>⟧.chars ⟦<ASCII as CharFormat>⟧.encodes ⟦<ASCII as CharFormat>⟧.encoding }
+    ensures latin1_chars { SpellText ⟦<Latin1 as Format>⟧.valid ⟦<Latin1 as CharFormat>⟧.chars ⟦<Latin1 as CharFormat>⟧.encodes ⟦<Latin1 as CharFormat>⟧.encoding }
+    ensures utf8_chars { SpellText ⟦<UTF8 as Format>⟧.valid ⟦<UTF8 as CharFormat>⟧.chars ⟦<UTF8 as CharFormat>⟧.encodes ⟦<UTF8 as CharFormat>⟧.encoding }
+    ensures place_is_length_before { PlaceIsLengthBefore }
 
     // the sequence round a byte is one
     ensures one_stands { OneStands }

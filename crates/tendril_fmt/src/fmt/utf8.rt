@@ -1,10 +1,12 @@
 //! UTF-8.
 
+use crate::fmt::chars::{CharFormat, Encoded};
 use crate::fmt::fixup::Fixup;
 use crate::fmt::format::Format;
 use crate::fmt::local::{first_four, last_four, utf8_ends};
 use crate::fmt::subset::SubsetOf;
 use crate::fmt::wtf8::WTF8;
+use std::str;
 
 /// UTF-8: the encodings of Unicode's scalars, one after another (Unicode's table 3-7).
 #[derive(Clone, Copy, Debug, Default)]
@@ -40,6 +42,45 @@ impl Format for UTF8 {
 
     fn fixup(_left: &[u8], _right: &[u8]) -> Fixup {
         Fixup::default()
+    }
+}
+
+impl CharFormat for UTF8 {
+    ghost use Rattle.std.specs.Prelude.{encode_utf8, chars};
+    ghost use Rattle.std.specs.Char.{IsScalar};
+    ghost use Rattle.std.proofs.lemmas.Str.{chars-nil, IsUtf8-encode};
+    ghost use Rattle.tendril_fmt.specs.Proved.Characters.{encodings-chars, AreTextsOf-utf8, encode_utf8-bounds};
+
+    ghost chars = { chars };
+
+    ghost encodes = { IsScalar };
+
+    ghost encoding = { encode_utf8 };
+
+    ghost empty_chars = { chars-nil };
+
+    ghost chars_spell = { encodings-chars };
+
+    ghost cut = { AreTextsOf-utf8 };
+
+    ghost encoding_valid = { IsUtf8-encode };
+
+    ghost encoding_len = { λ c _. encode_utf8-bounds c };
+
+    fn first_char(bytes: &[u8]) -> Option<(char, usize)> {
+        let first = *bytes.first()?;
+        // Most text is ASCII, so its one test stands here.
+        if first < 0x80 {
+            return Some((first as char, 1));
+        }
+        let mut rest = unsafe { str::from_utf8_unchecked(bytes) }.char_indices();
+        let (_, character) = rest.next()?;
+        Some((character, rest.offset()))
+    }
+
+    fn encode_char(character: char) -> Option<Encoded> {
+        let mut bytes = [0; 4];
+        Some(Encoded::new(character.encode_utf8(&mut bytes).as_bytes()))
     }
 }
 

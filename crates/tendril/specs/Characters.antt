@@ -1,0 +1,56 @@
+use Rattle.std.specs.Prelude.{ℕ, ◌≡◌, ◌≤◌, ◌<◌, ◌+◌, List, [], ◌∷◌, ◌++◌, length, take, drop, Bool, true, false}
+use Rattle.std.specs.List.{FoldsTo}
+use Rattle.tendril_block.specs.declared.refusal.Refusal.{Refusal}
+use Rattle.tendril_block.specs.declared.refusal.Refusal.TheVariants.{NotInFormat}
+use Rattle.tendril.specs.Refusals.{LengthRefused}
+
+-- when a push of the character c is refused, where the text would have so many bytes then
+abbrev pub CharRefused : (ℕ → Type 0) → ℕ → ℕ → Refusal → Type 0
+CharRefused encodes c count NotInFormat = encodes c → ⊥
+CharRefused encodes c count r = encodes c × LengthRefused count r
+
+-- What a classifier was asked and answered. `step f c r f'` says that f, asked for the character c, may answer r and
+-- become f'; `eq` compares answers.
+module _ {F R : Type 0} (step : F → ℕ → R → F → Type 0) (eq : R → R → Bool) where
+  -- asked for a character, it gave the class
+  abbrev pub SaysClass : R → F → ℕ → F → Type 0
+  SaysClass class f c f' = (r : R) × step f c r f' × (eq class r ≡ true)
+
+  -- asked for the first of the characters, it gave another class, or there is none
+  abbrev pub SaysOther : R → F → List ℕ → Type 0
+  SaysOther class f [] = Unit {0}
+  SaysOther class f (c ∷ cs) = (r : R) × (f' : F) × step f c r f' × (eq class r ≡ false)
+
+  -- the classifier was asked for the characters of the run in turn and for the first one of the rest, and for no other:
+  -- the class is its first answer, the other answers in the run equal it, and that in the rest doesn't
+  pub record IsAsked (classify : F) (class : R) (run rest : List ℕ) : Type 0 where
+    pub first : ℕ
+    pub others : List ℕ
+    pub characters : run ≡ first ∷ others
+    pub once : F
+    pub asked_first : step classify first class once
+    pub last : F
+    pub asked_others : FoldsTo (SaysClass class) once others last
+    pub asked_next : SaysOther class last rest
+
+  -- a text is a run of characters of one class, and the rest
+  pub record IsRun (chars : List ℕ → List ℕ) (classify : F) (class : R) (text run rest : List ℕ) : Type 0 where
+    pub bytes : text ≡ run ++ rest
+    pub characters : chars text ≡ chars run ++ chars rest
+    pub asked : IsAsked classify class (chars run) (chars rest)
+
+  -- the first n bytes of a text are such a run, and both parts are valid
+  pub record EndsRun (valid : List ℕ → Type 0) (chars : List ℕ → List ℕ) (classify : F) (class : R) (text : List ℕ) (n : ℕ) : Type 0 where
+    pub within : n ≤ length text
+    pub run_valid : valid (take n text)
+    pub rest_valid : valid (drop n text)
+    pub characters : chars text ≡ chars (take n text) ++ chars (drop n text)
+    pub asked : IsAsked classify class (chars (take n text)) (chars (drop n text))
+
+  -- such a run and the rest have more than 8 bytes each
+  pub record HasLongParts (valid : List ℕ → Type 0) (chars : List ℕ → List ℕ) (classify : F) (text : List ℕ) : Type 0 where
+    pub class : R
+    pub end : ℕ
+    pub run : EndsRun valid chars classify class text end
+    pub long : 8 < end
+    pub long_rest : 8 + end < length text

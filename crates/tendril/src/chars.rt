@@ -1,0 +1,141 @@
+//! Characters of texts, and runs of them.
+ghost use Rattle.std.specs.Prelude.{◌≡◌, ◌<◌, ◌≤◌, ◌+◌, ◌-◌, ◌++◌, ◌∷◌, [], length, take, drop, max, encode_utf8, IfSome, IfNone, IfOk, IfErr, OnOk, OnErr, OnSome, IsOk, MatchOption};
+ghost use Rattle.tendril.specs.Characters.{CharRefused, EndsRun, HasLongParts, IsRun};
+ghost use Rattle.tendril.specs.Refusals.{LengthRefused};
+ghost use Rattle.tendril.specs.Texts.{Keeps, Parts};
+ghost use Rattle.tendril_fmt.specs.Chars.{IsFirstChar};
+
+use crate::tendril::Tendril;
+use std::alloc::Global;
+use std::mem;
+use tendril_block::{Atomicity, MAX_LEN, Refusal};
+use tendril_fmt::fmt::{CharFormat, UTF8};
+
+impl<F: CharFormat, A: Atomicity> Tendril<F, A> {
+    /// Takes the first character out of the text, or answers `None` where it is empty. Takes no memory.
+    pub fn pop_front_char(&mut self) -> Option<char>
+        ensures character { IfSome result (λ c. F.chars self.old.bytes ≡ c ∷ F.chars self.new.bytes) }
+        ensures bytes { IfSome result (λ c. self.old.bytes ≡ F.encoding c ++ self.new.bytes) }
+        ensures copied { OnSome result (Keeps self.old self.new) }
+        ensures none { IfNone result ((self.old.bytes ≡ []) × (self.new ≡ self.old)) }
+    {
+        let (character, count) = F::first_char(self.as_byte_slice())?;
+        self.pop_front(count as u32);
+        Some(character)
+    }
+
+    /// Takes the longest run of characters of one class out of the front of the text, with that class, or answers `None`
+    /// where the text is empty.
+    ///
+    /// `classify` is asked for each character of the run in turn, and for the one after it. A long run shares its bytes
+    /// with a long rest; where either has at most 8 bytes no holder is added, and the call isn't refused.
+    pub fn pop_front_char_run<C: FnMut(char) -> R, R: PartialEq + Drop>(
+        &mut self,
+        classify: C,
+    ) -> Result<Option<(Self, R)>, Refusal>
+        requires { C.IsAlwaysCallable classify }
+        ensures run { IfOk result (λ found. IfSome found (λ run. IsRun C.step R.eq F.chars classify run.1 self.old.bytes run.0.bytes self.new.bytes)) }
+        ensures copied { IfOk result (λ found. IfSome found (λ run. Parts self.old run.0 self.new)) }
+        ensures none { IfOk result (λ found. IfNone found ((self.old.bytes ≡ []) × (self.new ≡ self.old))) }
+        ensures refusal { IfErr result (λ r. (r ≡ Refusal.Count) × HasLongParts C.step R.eq F.valid F.chars classify self.old.bytes) }
+        ensures err { OnErr result (self.new ≡ self.old) }
+    {
+        let Some((end, class)) = run_end::<F, C, R>(self.as_byte_slice(), classify) else {
+            return Ok(None);
+        };
+        let run = self.take_front(end as u32)?;
+        Ok(Some((run, class)))
+    }
+
+    /// Puts a character at the end, where the format has it.
+    pub fn try_push_char(&mut self, character: char) -> Result<(), Refusal>
+        ensures encoded { OnOk result (F.encodes character) }
+        ensures short { OnOk result (length (F.join self.old.bytes (F.encoding character)) ≤ MAX_LEN) }
+        ensures bytes { OnOk result (self.new.bytes ≡ F.join self.old.bytes (F.encoding character)) }
+        ensures copied { self.new.copied ≤ max self.old.copied (length self.old.bytes) + length (F.encoding character) + 4 }
+        ensures refusal { IfErr result (CharRefused F.encodes character (length (F.join self.old.bytes (F.encoding character)))) }
+        ensures err { OnErr result (self.new ≡ self.old) }
+    {
+        let Some(encoded) = F::encode_char(character) else {
+            return Err(Refusal::NotInFormat);
+        };
+        self.push_bytes_without_validating(encoded.as_slice())
+    }
+
+    // Takes the first bytes out of the text. Only where both parts are long do they share a block.
+    fn take_front(&mut self, count: u32) -> Result<Self, Refusal>
+        requires within { count ≤ length self.old.bytes }
+        requires front_valid { F.valid (take count self.old.bytes) }
+        requires rest_valid { F.valid (drop count self.old.bytes) }
+        ensures front { IfOk result (λ t. t.bytes ≡ take count self.old.bytes) }
+        ensures rest { OnOk result (self.new.bytes ≡ drop count self.old.bytes) }
+        ensures copied { IfOk result (λ t. Parts self.old t self.new) }
+        ensures refusal { IfErr result (λ r. (r ≡ Refusal.Count) × (8 < count) × (8 + count < length self.old.bytes)) }
+        ensures err { OnErr result (self.new ≡ self.old) }
+    {
+        if count <= 8 {
+            let front = self.subtendril(0, count)?;
+            self.pop_front(count);
+            return Ok(front);
+        }
+        let rest = self.len32() - count;
+        let end = self.subtendril(count, rest)?;
+        let mut front = mem::replace(self, end);
+        front.pop_back(rest);
+        Ok(front)
+    }
+}
+
+impl<A: Atomicity> Tendril<UTF8, A> {
+    /// A text of one character. It stands inline, so this is never refused.
+    pub fn from_char(alloc: Global, character: char) -> Result<Self, Refusal>
+        ensures ok { IsOk result }
+        ensures bytes { IfOk result (λ t. t.bytes ≡ encode_utf8 character) }
+        ensures copied { IfOk result (λ t. t.copied ≤ 8) }
+    {
+        let mut text = Tendril::new(alloc);
+        text.push_char(character)?;
+        Ok(text)
+    }
+
+    /// Puts a character at the end.
+    pub fn push_char(&mut self, character: char) -> Result<(), Refusal>
+        ensures short { OnOk result (length self.old.bytes + length (encode_utf8 character) ≤ MAX_LEN) }
+        ensures bytes { OnOk result (self.new.bytes ≡ self.old.bytes ++ encode_utf8 character) }
+        ensures copied { self.new.copied ≤ max self.old.copied (length self.old.bytes) + length (encode_utf8 character) + 4 }
+        ensures refusal { IfErr result (LengthRefused (length self.old.bytes + length (encode_utf8 character))) }
+        ensures err { OnErr result (self.new ≡ self.old) }
+    {
+        self.try_push_char(character)
+    }
+}
+
+// Where the first run of characters of one class ends, and the class.
+fn run_end<F: CharFormat, C: FnMut(char) -> R, R: PartialEq + Drop>(
+    bytes: &[u8],
+    mut classify: C,
+) -> Option<(usize, R)>
+    requires valid { F.valid bytes.now }
+    requires callable { C.IsAlwaysCallable classify }
+    ensures { MatchOption result (bytes.now ≡ []) (λ found. EndsRun C.step R.eq F.valid F.chars classify found.1 bytes.now found.0) }
+{
+    let (first, mut end) = F::first_char(bytes)?;
+    let class = classify(first);
+    while let Some((character, count)) = char_at::<F>(bytes, end) {
+        if class != classify(character) {
+            return Some((end, class));
+        }
+        end += count;
+    }
+    Some((end, class))
+}
+
+// The character at a place between two characters.
+fn char_at<F: CharFormat>(bytes: &[u8], at: usize) -> Option<(char, usize)>
+    requires within { at ≤ length bytes.now }
+    requires valid { F.valid (drop at bytes.now) }
+    ensures first { IfSome result (λ found. IsFirstChar F.valid F.chars F.encodes F.encoding (drop at bytes.now) found.0 found.1) }
+    ensures none { IfNone result (drop at bytes.now ≡ []) }
+{
+    F::first_char(&bytes[at..])
+}

@@ -1,0 +1,39 @@
+-- Characters that have an encoding spell a text, and where each stands in it.
+use Rattle.std.proofs.Common.{◌≡◌, ℕ, zero, suc, ◌+◌, ◌<◌, true, ◌&&◌, List, [], ◌∷◌, ◌++◌, length, slice_get, Some, IsAscii, IsUtf8, chars, encode_utf8, refl, sym, ap, ap₂, subst, ◌∙◌, arith, length-append}
+use Rattle.std.specs.List.{AllByRecursion}
+use Rattle.std.specs.Str.{all_scalars}
+use Rattle.std.specs.Char.{IsScalar}
+use Rattle.std.proofs.lemmas.Str.{chars-encodes}
+use Rattle.tendril_fmt.specs.Chars.{encodings, one_byte, places_from}
+use Rattle.tendril_fmt.specs.Laws.{SpellText, PlaceIsLengthBefore}
+use Rattle.tendril_fmt.specs.Proved.Characters.{encodings-one_byte, encodings-encode_utf8}
+
+pub SpellText-latin1 : SpellText (λ _. Unit {0}) (λ bytes. bytes) (λ c. c < 256) one_byte
+SpellText-latin1 cs h = (tt, encodings-one_byte cs)
+
+IsAscii-all : (cs : List ℕ) → AllByRecursion (λ c. c < 128) cs → IsAscii cs
+IsAscii-all [] h i = omega arith
+IsAscii-all (c ∷ cs) h zero = h.0
+IsAscii-all (c ∷ cs) h (suc i) = IsAscii-all cs h.1 i
+
+pub SpellText-ascii : SpellText IsAscii (λ bytes. bytes) (λ c. c < 128) one_byte
+SpellText-ascii cs h = (subst IsAscii (sym (encodings-one_byte cs)) (IsAscii-all cs h), encodings-one_byte cs)
+
+all_scalars-all : (cs : List ℕ) → AllByRecursion IsScalar cs → all_scalars cs ≡ true
+all_scalars-all [] h = refl
+all_scalars-all (c ∷ cs) h = ap₂ (λ x y. x && y) h.0 (all_scalars-all cs h.1)
+
+pub SpellText-utf8 : SpellText IsUtf8 chars IsScalar encode_utf8
+SpellText-utf8 cs h =
+    let s = all_scalars-all cs h in
+    ((cs, (s, sym (encodings-encode_utf8 cs))), ap chars (encodings-encode_utf8 cs) ∙ chars-encodes cs s)
+
+-- the same from any place on
+places_from-at : (encoding : ℕ → List ℕ) (cs ds : List ℕ) (c at : ℕ) → slice_get (places_from encoding at (cs ++ c ∷ ds)) (length cs) ≡ Some (at + length (encodings encoding cs), c)
+places_from-at encoding [] ds c at = ap (λ k. Some (k, c)) (omega arith)
+places_from-at encoding (b ∷ cs) ds c at =
+    places_from-at encoding cs ds c (at + length (encoding b))
+    ∙ ap (λ k. Some (k, c)) (omega (arith, length-append (encoding b) (encodings encoding cs)))
+
+pub PlaceIsLengthBefore-holds : PlaceIsLengthBefore
+PlaceIsLengthBefore-holds encoding cs ds c = places_from-at encoding cs ds c 0 ∙ ap (λ k. Some (k, c)) (omega arith)
