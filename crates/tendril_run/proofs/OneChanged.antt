@@ -4,9 +4,9 @@ use Rattle.std.proofs.lemmas.List.Elements.{All-set, All-push}
 use Rattle.std.proofs.Math.Seq.{map-set_same}
 use Rattle.tendril_block.specs.declared.refusal.Refusal.{Refusal}
 use Rattle.tendril_run.specs.Cells.{Cell, IsCell, gone, cell_at}
-use Rattle.tendril_run.specs.Rules.{Outcome, Changed}
+use Rattle.tendril_run.specs.Rules.{Outcome, Answered, Changed}
 use Rattle.tendril_run.specs.declared.command.Reply.{Reply}
-use Rattle.tendril_run.specs.declared.command.Reply.TheVariants.{Done, Made, Text, Refused}
+use Rattle.tendril_run.specs.declared.command.Reply.TheVariants.{Done, Made, Char, Text, Refused}
 
 -- one cell of a table was old, and after it is new
 pub record OneChanged (cells : List Cell) (slot : ℕ) (old new : Cell) (after : List Cell) : Type 0 where
@@ -41,14 +41,23 @@ pub other_cell : {S : Type 0} (f : S → Cell) (items : List S) (cells : List Ce
 other_cell f items cells slot other s meanwhile is within apart found =
     (one_changed f items cells other s s is within (found ∙ get_or-set_other items slot other meanwhile s (λ e. apart (sym e)))).here
 
+-- an accepted call on one cell is one on its table
+changed : (must : Cell → Option Refusal → Type 0) (answer : Cell → Reply) (effect : Cell → Cell) (cells : List Cell) (slot : ℕ) (old new : Cell) (after : List Cell) (reply : Reply) → OneChanged cells slot old new after → must old None × ((reply ≡ answer old) × (new ≡ effect old)) → must (cell_at cells slot) None × ((reply ≡ answer (cell_at cells slot)) × (after ≡ set cells slot (effect (cell_at cells slot))))
+changed must answer effect cells slot old new after reply one h =
+    (subst (λ c. must c None) (sym one.here) h.0, (h.1.0 ∙ ap answer (sym one.here), one.there ∙ ap (λ c. set cells slot c) (h.1.1 ∙ ap effect (sym one.here))))
+
+-- what one cell answers and becomes is what its table does
+pub table_answered : (must : Cell → Option Refusal → Type 0) (may : Cell → Refusal → Type 0) (answer : Cell → Reply) (effect : Cell → Cell) (cells : List Cell) (slot : ℕ) (old new : Cell) (after : List Cell) (reply : Reply) → OneChanged cells slot old new after → Answered (must old) (may old) (answer old) (effect old) old reply new → Outcome (must (cell_at cells slot)) (may (cell_at cells slot)) (λ reply new. (reply ≡ answer (cell_at cells slot)) × (new ≡ set cells slot (effect (cell_at cells slot)))) cells reply after
+table_answered must may answer effect cells slot old new after (Refused r) one h =
+    (one.kept h.0, subst (λ c. must c (Some r) ⊎ (must c None × may c r)) (sym one.here) h.1)
+table_answered must may answer effect cells slot old new after Done one h = changed must answer effect cells slot old new after Done one h
+table_answered must may answer effect cells slot old new after (Made n) one h = changed must answer effect cells slot old new after (Made n) one h
+table_answered must may answer effect cells slot old new after (Char c) one h = changed must answer effect cells slot old new after (Char c) one h
+table_answered must may answer effect cells slot old new after (Text kind z) one h = changed must answer effect cells slot old new after (Text kind z) one h
+
 -- the change of one cell is that of its table
 pub table_changed : (must : Cell → Option Refusal → Type 0) (may : Cell → Refusal → Type 0) (effect : Cell → Cell) (cells : List Cell) (slot : ℕ) (old new : Cell) (after : List Cell) (reply : Reply) → OneChanged cells slot old new after → Changed (must old) (may old) (effect old) old reply new → Outcome (must (cell_at cells slot)) (may (cell_at cells slot)) (λ reply new. (reply ≡ Done) × (new ≡ set cells slot (effect (cell_at cells slot)))) cells reply after
-table_changed must may effect cells slot old new after Done one h =
-    (subst (λ c. must c None) (sym one.here) h.0, (refl, one.there ∙ ap (λ c. set cells slot c) (h.1.1 ∙ ap effect (sym one.here))))
-table_changed must may effect cells slot old new after (Refused r) one h =
-    (one.kept h.0, subst (λ c. must c (Some r) ⊎ (must c None × may c r)) (sym one.here) h.1)
-table_changed must may effect cells slot old new after (Made n) one h = cc (h.1.0)
-table_changed must may effect cells slot old new after (Text kind z) one h = cc (h.1.0)
+table_changed must may effect cells slot old new after reply one h = table_answered must may (λ cell. Done) effect cells slot old new after reply one h
 
 -- cells stay cells where one of them is replaced by a cell
 pub set_cells : {S : Type 0} (f : S → Cell) (items : List S) (slot : ℕ) (s : S) → All IsCell (map f items) → IsCell (f s) → All IsCell (map f (set items slot s))

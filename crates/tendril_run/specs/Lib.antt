@@ -2,6 +2,7 @@ pub mod Cells
 pub mod CellOf
 pub mod Rules
 pub mod Edits
+pub mod Characters
 pub mod OneCell
 pub mod Steps
 pub mod Runs

@@ -1,13 +1,14 @@
 use Rattle.std.specs.Prelude.{ℕ, ◌≡◌, List, [], ◌∷◌, codes}
-use Rattle.tendril_run.specs.Words.{words, IsNumber, kind_name, IsHex}
+use Rattle.tendril_run.specs.Words.{words, IsNumber, IsCharWord, kind_name, IsHex}
 use Rattle.tendril_run.specs.declared.command.Kind.{Kind}
 use Rattle.tendril_run.specs.declared.command.Command.{Command}
-use Rattle.tendril_run.specs.declared.command.Command.TheVariants.{New, FromBytes, PushBytes, PushTendril, Slice, PopFront, PopBack, Clone, Clear, Reserve, Reinterpret, ToSuperset, ToSubset, Text, Drop}
+use Rattle.tendril_run.specs.declared.command.Command.TheVariants.{New, FromBytes, PushBytes, PushTendril, PushChar, Slice, PopFront, PopBack, PopChar, Clone, Clear, Reserve, Reinterpret, ToSuperset, ToSubset, Text, Drop}
 
 -- what a word of a line stands for
 pub data Word : Type 0 where
   name : List ℕ → Word
   number : ℕ → Word
+  scalar : ℕ → Word
   format : Kind → Word
   bytes : List ℕ → Word
 
@@ -15,6 +16,7 @@ pub data Word : Type 0 where
 abbrev pub IsWord : Word → List ℕ → Type 0
 IsWord (name text) word = word ≡ text
 IsWord (number n) word = IsNumber n word
+IsWord (scalar c) word = IsCharWord c word
 IsWord (format kind) word = word ≡ kind_name kind
 IsWord (bytes b) word = IsHex b word
 
@@ -31,9 +33,11 @@ words_of (New kind) = name (codes "new") ∷ format kind ∷ []
 words_of (FromBytes kind b) = name (codes "from") ∷ format kind ∷ bytes b ∷ []
 words_of (PushBytes slot b) = name (codes "push") ∷ number slot ∷ bytes b ∷ []
 words_of (PushTendril to from) = name (codes "join") ∷ number to ∷ number from ∷ []
+words_of (PushChar slot c) = name (codes "char") ∷ number slot ∷ scalar c ∷ []
 words_of (Slice slot offset length) = name (codes "slice") ∷ number slot ∷ number offset ∷ number length ∷ []
 words_of (PopFront slot count) = name (codes "front") ∷ number slot ∷ number count ∷ []
 words_of (PopBack slot count) = name (codes "back") ∷ number slot ∷ number count ∷ []
+words_of (PopChar slot) = name (codes "pop") ∷ number slot ∷ []
 words_of (Clone slot) = name (codes "clone") ∷ number slot ∷ []
 words_of (Clear slot) = name (codes "clear") ∷ number slot ∷ []
 words_of (Reserve slot more) = name (codes "reserve") ∷ number slot ∷ number more ∷ []

@@ -1,15 +1,16 @@
-use Rattle.std.specs.Prelude.{ℕ, ◌≡◌, ◌⊎◌, List, length, take, drop, Option, Some, None}
+use Rattle.std.specs.Prelude.{ℕ, ◌≡◌, ◌⊎◌, List, [], length, take, drop, Option, Some, None}
 use Rattle.tendril_block.specs.declared.refusal.Refusal.{Refusal}
 use Rattle.tendril_block.specs.declared.refusal.Refusal.TheVariants.{Memory, NoSuchSlot, WrongFormat}
 use Rattle.tendril_run.specs.Cells.{Cell, gone, text, valid_in, join_in, IsPartOf}
+use Rattle.tendril_run.specs.Characters.{HasChars, IsCharIn, chars_in, encoding_in, first_of, without_first}
 use Rattle.tendril_run.specs.Edits.{EditMust, EditMay, edited}
-use Rattle.tendril_run.specs.Rules.{First, LengthMust, ValidMust, BytesMust, MemoryMay, SliceMust, CountMay, Outcome, Changed}
+use Rattle.tendril_run.specs.Rules.{First, LengthMust, ValidMust, BytesMust, MemoryMay, SliceMust, CharMust, CountMay, Outcome, Answered, Changed}
 use Rattle.tendril_run.specs.declared.change.Conversion.{Conversion}
 use Rattle.tendril_run.specs.declared.change.Conversion.TheVariants.{Reinterpret, ToSuperset, ToSubset}
 use Rattle.tendril_run.specs.declared.change.Edit.{Edit}
 use Rattle.tendril_run.specs.declared.command.Kind.{Kind}
 use Rattle.tendril_run.specs.declared.command.Reply.{Reply}
-use Rattle.tendril_run.specs.declared.command.Reply.TheVariants.{Text}
+use Rattle.tendril_run.specs.declared.command.Reply.TheVariants.{Char, Text}
 
 -- the first refusal of a call that a cell only needs to be there for
 abbrev pub CellMust : Cell → Option Refusal → Type 0
@@ -45,6 +46,31 @@ PushMay (text kind b) y r = MemoryMay (length (join_in kind b y)) r
 abbrev pub pushed : Cell → List ℕ → Cell
 pushed gone y = gone
 pushed (text kind b) y = text kind (join_in kind b y)
+
+-- the first refusal of a push of the character c onto a cell
+abbrev pub PushCharMust : Cell → ℕ → Option Refusal → Type 0
+PushCharMust gone c must = must ≡ Some NoSuchSlot
+PushCharMust (text kind b) c must = First (HasChars kind → ⊥) WrongFormat (CharMust (IsCharIn kind) c (length (join_in kind b (encoding_in kind c))) must) must
+
+-- the bytes of a character in a cell's format
+abbrev pub encoding_of : Cell → ℕ → List ℕ
+encoding_of gone c = []
+encoding_of (text kind b) c = encoding_in kind c
+
+-- the first refusal of a call that asks for a cell's characters
+abbrev pub CharsMust : Cell → Option Refusal → Type 0
+CharsMust gone must = must ≡ Some NoSuchSlot
+CharsMust (text kind b) must = First (HasChars kind → ⊥) WrongFormat (must ≡ None) must
+
+-- the first character of a cell
+abbrev pub char_of : Cell → Option ℕ
+char_of gone = None
+char_of (text kind b) = first_of (chars_in kind b)
+
+-- a cell without its first character
+abbrev pub char_popped : Cell → Cell
+char_popped gone = gone
+char_popped (text kind b) = text kind (without_first (encoding_in kind) (chars_in kind b) b)
 
 -- the first refusal of a push of one cell onto another
 abbrev pub JoinMust : Cell → Cell → Option Refusal → Type 0
@@ -98,6 +124,14 @@ Tells (text kind b) reply = reply ≡ Text kind b
 -- a push onto a cell
 abbrev pub CellPushed : Cell → List ℕ → Reply → Cell → Type 0
 CellPushed cell y reply new = Changed (PushMust cell y) (PushMay cell y) (pushed cell y) cell reply new
+
+-- a push of a character onto a cell
+abbrev pub CellCharPushed : Cell → ℕ → Reply → Cell → Type 0
+CellCharPushed cell c reply new = Changed (PushCharMust cell c) (PushMay cell (encoding_of cell c)) (pushed cell (encoding_of cell c)) cell reply new
+
+-- a pop of a cell's first character
+abbrev pub CellCharPopped : Cell → Reply → Cell → Type 0
+CellCharPopped cell reply new = Answered (CharsMust cell) (λ r. ⊥) (Char (char_of cell)) (char_popped cell) cell reply new
 
 -- a push of the cell of one slot onto that of another
 abbrev pub CellJoined : ℕ → ℕ → Cell → Cell → Reply → Cell → Type 0

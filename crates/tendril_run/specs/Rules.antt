@@ -1,7 +1,7 @@
 use Rattle.std.specs.Prelude.{ℕ, ◌≡◌, ◌<◌, ◌+◌, ◌⊎◌, List, length, take, drop, Option, Some, None}
 use Rattle.tendril_block.specs.declared.atomicity.TheConstants.{MAX_LEN}
 use Rattle.tendril_block.specs.declared.refusal.Refusal.{Refusal}
-use Rattle.tendril_block.specs.declared.refusal.Refusal.TheVariants.{TooLong, Memory, Count, Invalid, OutOfBounds, ValidationFailed}
+use Rattle.tendril_block.specs.declared.refusal.Refusal.TheVariants.{TooLong, Memory, Count, Invalid, OutOfBounds, ValidationFailed, NotInFormat}
 use Rattle.tendril_run.specs.declared.command.Reply.{Reply}
 use Rattle.tendril_run.specs.declared.command.Reply.TheVariants.{Done, Refused}
 
@@ -33,6 +33,10 @@ SliceMust valid b offset count must = CutMust valid (length b < offset + count) 
 abbrev pub PopMust : (List ℕ → Type 0) → List ℕ → ℕ → List ℕ → Option Refusal → Type 0
 PopMust valid b count rest must = CutMust valid (length b < count) rest must
 
+-- of a character, which a text that would have so many bytes is to have at its end
+abbrev pub CharMust : (ℕ → Type 0) → ℕ → ℕ → Option Refusal → Type 0
+CharMust encodes c count must = First (encodes c → ⊥) NotInFormat (LengthMust count must) must
+
 -- no state rules out that memory is wanting where a text would have so many bytes
 abbrev pub MemoryMay : ℕ → Refusal → Type 0
 MemoryMay count r = (r ≡ Memory) × (8 < count)
@@ -46,9 +50,13 @@ abbrev pub Outcome : {X : Type 0} → (Option Refusal → Type 0) → (Refusal �
 Outcome must may effect old (Refused r) new = (new ≡ old) × (must (Some r) ⊎ (must None × may r))
 Outcome must may effect old reply new = must None × effect reply new
 
--- a call that is done and leaves one thing, or is refused and changes nothing
+-- a call that gives one answer and leaves one thing, or is refused and changes nothing
+abbrev pub Answered : {X : Type 0} → (Option Refusal → Type 0) → (Refusal → Type 0) → Reply → X → X → Reply → X → Type 0
+Answered must may answer left old reply new = Outcome must may (λ reply new. (reply ≡ answer) × (new ≡ left)) old reply new
+
+-- the same, where the answer is that it is done
 abbrev pub Changed : {X : Type 0} → (Option Refusal → Type 0) → (Refusal → Type 0) → X → X → Reply → X → Type 0
-Changed must may left old reply new = Outcome must may (λ reply new. (reply ≡ Done) × (new ≡ left)) old reply new
+Changed must may left old reply new = Answered must may Done left old reply new
 
 -- a push of y onto b, which would make the text z of them
 abbrev pub TextPushed : (List ℕ → Type 0) → List ℕ → List ℕ → List ℕ → Reply → List ℕ → Type 0

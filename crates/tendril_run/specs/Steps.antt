@@ -4,13 +4,13 @@ use Rattle.tendril_block.specs.declared.refusal.Refusal.TheVariants.{Memory}
 use Rattle.tendril_run.specs.Cells.{Cell, gone, text, valid_in, cell_at}
 use Rattle.tendril_run.specs.Edits.{EditMay}
 use Rattle.tendril_run.specs.Rules.{BytesMust, MemoryMay, CountMay, Outcome}
-use Rattle.tendril_run.specs.OneCell.{CellMust, CellSliceMust, CellCloneMay, part, PushMust, PushMay, pushed, JoinMust, JoinMay, joined, CellEditMust, edited_cell, ConversionMust, converted, Tells}
+use Rattle.tendril_run.specs.OneCell.{CellMust, CellSliceMust, CellCloneMay, part, PushMust, PushMay, pushed, JoinMust, JoinMay, joined, PushCharMust, encoding_of, CharsMust, char_of, char_popped, CellEditMust, edited_cell, ConversionMust, converted, Tells}
 use Rattle.tendril_run.specs.declared.change.Conversion.{Conversion}
 use Rattle.tendril_run.specs.declared.change.Conversion.TheVariants as conversion
 use Rattle.tendril_run.specs.declared.change.Edit.{Edit}
 use Rattle.tendril_run.specs.declared.change.Edit.TheVariants as edit
 use Rattle.tendril_run.specs.declared.command.Command.{Command}
-use Rattle.tendril_run.specs.declared.command.Command.TheVariants.{New, FromBytes, PushBytes, PushTendril, Slice, PopFront, PopBack, Clone, Clear, Reserve, Reinterpret, ToSuperset, ToSubset, Text, Drop}
+use Rattle.tendril_run.specs.declared.command.Command.TheVariants.{New, FromBytes, PushBytes, PushTendril, PushChar, Slice, PopFront, PopBack, PopChar, Clone, Clear, Reserve, Reinterpret, ToSuperset, ToSubset, Text, Drop}
 use Rattle.tendril_run.specs.declared.command.Reply.{Reply}
 use Rattle.tendril_run.specs.declared.command.Reply.TheVariants as reply
 
@@ -20,9 +20,11 @@ Must old (New kind) must = must ≡ None
 Must old (FromBytes kind y) must = BytesMust (valid_in kind) y (length y) must
 Must old (PushBytes slot y) must = PushMust (cell_at old slot) y must
 Must old (PushTendril to from) must = JoinMust (cell_at old to) (cell_at old from) must
+Must old (PushChar slot c) must = PushCharMust (cell_at old slot) c must
 Must old (Slice slot offset count) must = CellSliceMust (cell_at old slot) offset count must
 Must old (PopFront slot count) must = CellEditMust (cell_at old slot) (edit.PopFront count) must
 Must old (PopBack slot count) must = CellEditMust (cell_at old slot) (edit.PopBack count) must
+Must old (PopChar slot) must = CharsMust (cell_at old slot) must
 Must old (Clone slot) must = CellMust (cell_at old slot) must
 Must old (Clear slot) must = CellEditMust (cell_at old slot) edit.Clear must
 Must old (Reserve slot more) must = CellEditMust (cell_at old slot) (edit.Reserve more) must
@@ -37,6 +39,7 @@ abbrev pub May : List Cell → Command → Refusal → Type 0
 May old (FromBytes kind y) r = MemoryMay (length y) r
 May old (PushBytes slot y) r = PushMay (cell_at old slot) y r
 May old (PushTendril to from) r = JoinMay to from (cell_at old to) (cell_at old from) r
+May old (PushChar slot c) r = PushMay (cell_at old slot) (encoding_of (cell_at old slot) c) r
 May old (Slice slot offset count) r = CountMay count r
 May old (Clone slot) r = CellCloneMay (cell_at old slot) r
 May old (Reserve slot more) r = r ≡ Memory
@@ -47,9 +50,13 @@ May old command r = ⊥
 abbrev pub Adds : List Cell → Cell → Reply → List Cell → Type 0
 Adds old cell answer new = (answer ≡ reply.Made (length old)) × (new ≡ old ++ cell ∷ [])
 
--- one cell becomes another
+-- one cell becomes another, and what is said is answered
+abbrev pub Leaves : List Cell → ℕ → Reply → Cell → Reply → List Cell → Type 0
+Leaves old slot said cell answer new = (answer ≡ said) × (new ≡ slice_set old slot cell)
+
+-- one cell becomes another, and that is done
 abbrev pub Becomes : List Cell → ℕ → Cell → Reply → List Cell → Type 0
-Becomes old slot cell answer new = (answer ≡ reply.Done) × (new ≡ slice_set old slot cell)
+Becomes old slot cell answer new = Leaves old slot reply.Done cell answer new
 
 -- an edit of one cell of a table
 abbrev pub TableEdited : List Cell → ℕ → Edit → Reply → List Cell → Type 0
@@ -65,9 +72,11 @@ Effect class old (New kind) answer new = Adds old (text kind []) answer new
 Effect class old (FromBytes kind y) answer new = Adds old (text kind y) answer new
 Effect class old (PushBytes slot y) answer new = Becomes old slot (pushed (cell_at old slot) y) answer new
 Effect class old (PushTendril to from) answer new = Becomes old to (joined (cell_at old to) (cell_at old from)) answer new
+Effect class old (PushChar slot c) answer new = Becomes old slot (pushed (cell_at old slot) (encoding_of (cell_at old slot) c)) answer new
 Effect class old (Slice slot offset count) answer new = Adds old (part (cell_at old slot) offset count) answer new
 Effect class old (PopFront slot count) answer new = Becomes old slot (edited_cell (cell_at old slot) (edit.PopFront count)) answer new
 Effect class old (PopBack slot count) answer new = Becomes old slot (edited_cell (cell_at old slot) (edit.PopBack count)) answer new
+Effect class old (PopChar slot) answer new = Leaves old slot (reply.Char (char_of (cell_at old slot))) (char_popped (cell_at old slot)) answer new
 Effect class old (Clone slot) answer new = Adds old (cell_at old slot) answer new
 Effect class old (Clear slot) answer new = Becomes old slot (edited_cell (cell_at old slot) edit.Clear) answer new
 Effect class old (Reserve slot more) answer new = Becomes old slot (edited_cell (cell_at old slot) (edit.Reserve more)) answer new

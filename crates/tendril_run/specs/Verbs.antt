@@ -1,10 +1,10 @@
 use Rattle.std.specs.Prelude.{ℕ, ◌≡◌, List, [], ◌∷◌, codes}
-use Rattle.tendril_run.specs.Lines.{number, format, bytes, AreWords}
+use Rattle.tendril_run.specs.Lines.{number, scalar, format, bytes, AreWords}
 use Rattle.tendril_run.specs.declared.command.Kind.{Kind}
 use Rattle.tendril_run.specs.declared.command.Command.{Command}
 use Rattle.tendril_run.specs.declared.command.Command.TheVariants as command
 use Rattle.tendril_run.specs.declared.words.Verb.{Verb}
-use Rattle.tendril_run.specs.declared.words.Verb.TheVariants.{New, From, Push, Join, Slice, Front, Back, Clone, Clear, Reserve, As, Up, Down, Text, Drop}
+use Rattle.tendril_run.specs.declared.words.Verb.TheVariants.{New, From, Push, Join, Char, Slice, Front, Back, Pop, Clone, Clear, Reserve, As, Up, Down, Text, Drop}
 
 -- the first word of a command's line
 abbrev pub verb_name : Verb → List ℕ
@@ -12,9 +12,11 @@ verb_name New = codes "new"
 verb_name From = codes "from"
 verb_name Push = codes "push"
 verb_name Join = codes "join"
+verb_name Char = codes "char"
 verb_name Slice = codes "slice"
 verb_name Front = codes "front"
 verb_name Back = codes "back"
+verb_name Pop = codes "pop"
 verb_name Clone = codes "clone"
 verb_name Clear = codes "clear"
 verb_name Reserve = codes "reserve"
@@ -30,9 +32,11 @@ Reads New args c = (x : Kind) × (c ≡ command.New x) × AreWords (format x ∷
 Reads From args c = (x : Kind × List ℕ) × (c ≡ command.FromBytes x.0 x.1) × AreWords (format x.0 ∷ bytes x.1 ∷ []) args
 Reads Push args c = (x : ℕ × List ℕ) × (c ≡ command.PushBytes x.0 x.1) × AreWords (number x.0 ∷ bytes x.1 ∷ []) args
 Reads Join args c = (x : ℕ × ℕ) × (c ≡ command.PushTendril x.0 x.1) × AreWords (number x.0 ∷ number x.1 ∷ []) args
+Reads Char args c = (x : ℕ × ℕ) × (c ≡ command.PushChar x.0 x.1) × AreWords (number x.0 ∷ scalar x.1 ∷ []) args
 Reads Slice args c = (x : ℕ × ℕ × ℕ) × (c ≡ command.Slice x.0 x.1 x.2) × AreWords (number x.0 ∷ number x.1 ∷ number x.2 ∷ []) args
 Reads Front args c = (x : ℕ × ℕ) × (c ≡ command.PopFront x.0 x.1) × AreWords (number x.0 ∷ number x.1 ∷ []) args
 Reads Back args c = (x : ℕ × ℕ) × (c ≡ command.PopBack x.0 x.1) × AreWords (number x.0 ∷ number x.1 ∷ []) args
+Reads Pop args c = (x : ℕ) × (c ≡ command.PopChar x) × AreWords (number x ∷ []) args
 Reads Clone args c = (x : ℕ) × (c ≡ command.Clone x) × AreWords (number x ∷ []) args
 Reads Clear args c = (x : ℕ) × (c ≡ command.Clear x) × AreWords (number x ∷ []) args
 Reads Reserve args c = (x : ℕ × ℕ) × (c ≡ command.Reserve x.0 x.1) × AreWords (number x.0 ∷ number x.1 ∷ []) args

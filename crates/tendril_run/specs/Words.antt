@@ -1,4 +1,5 @@
 use Rattle.std.specs.Prelude.{ℕ, ◌≡◌, ◌≤◌, ◌<◌, ◌==◌, ◌⊎◌, List, [], length, codes, Ok}
+use Rattle.std.specs.Char.{IsScalar}
 use Rattle.std.specs.Fmt.{decimal}
 use Rattle.std.specs.List.{slice_split}
 use Rattle.hex.specs.Hex.{decode_of}
@@ -12,6 +13,10 @@ words line = slice_split (λ byte. byte == 32) line
 -- a number: its decimal digits, without leading zeros
 abbrev pub IsNumber : ℕ → List ℕ → Type 0
 IsNumber n word = (n ≤ 4294967295) × (word ≡ decimal n)
+
+-- a character: the decimal digits of its scalar value
+abbrev pub IsCharWord : ℕ → List ℕ → Type 0
+IsCharWord c word = IsScalar c × (word ≡ decimal c)
 
 -- the name of a format
 abbrev pub kind_name : Kind → List ℕ

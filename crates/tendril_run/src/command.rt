@@ -61,12 +61,16 @@ pub enum Command {
     PushBytes(usize, ByteList),
     /// The text of the second slot at the end of the first slot's text, in the one format that both have.
     PushTendril(usize, usize),
+    /// The character at the end of the slot's text, where its format has it.
+    PushChar(usize, char),
     /// A new slot with the part of the text that begins at the offset and has so many bytes.
     Slice(usize, u32, u32),
     /// So many bytes are dropped from the front of the slot's text.
     PopFront(usize, u32),
     /// So many bytes are dropped from the back of the slot's text.
     PopBack(usize, u32),
+    /// The first character is taken out of the slot's text.
+    PopChar(usize),
     /// A new slot with the same text.
     Clone(usize),
     /// The slot's text becomes empty.
@@ -92,6 +96,8 @@ pub enum Reply {
     Done,
     /// It is done, and the text is in the new slot of this number.
     Made(usize),
+    /// The character, `None` where the text is empty.
+    Char(Option<char>),
     /// The text.
     Text(Kind, ByteList),
     /// It is refused, and nothing has changed.

@@ -5,8 +5,8 @@ ghost use Rattle.tendril_run.specs.Verbs.{Reads};
 
 use crate::command::Command;
 use crate::words::{
-    Verb, kind_and_bytes, number_and_bytes, number_and_kind, one_kind, one_number, split_words,
-    three_numbers, two_numbers, two_slots, verb_of,
+    Verb, kind_and_bytes, number_and_bytes, number_and_char, number_and_kind, one_kind, one_number,
+    split_words, three_numbers, two_numbers, two_slots, verb_of,
 };
 use std::alloc::{AllocError, Global};
 use tendril::block::Refusal;
@@ -15,7 +15,7 @@ use tendril::block::Refusal;
 ///
 /// The words of a line are parted by one space each. A slot, an offset or a length is a decimal number up to
 /// 4294967295 without leading zeros; bytes are hexadecimal digits in either case, or `-` for none:
-/// `new F`, `from F H`, `push S H`, `join S S`, `slice S O L`, `front S N`, `back S N`, `clone S`, `clear S`,
+/// `new F`, `from F H`, `push S H`, `join S S`, `char S C`, `slice S O L`, `front S N`, `back S N`, `pop S`, `clone S`, `clear S`,
 /// `reserve S N`, `as S F`, `up S F`, `down S F`, `text S`, `drop S`.
 pub fn parse_line(alloc: Global, line: &[u8]) -> Result<Option<Command>, Refusal>
     ensures found { IfOk result (λ found. (c : _) → (found ≡ Some c) ↔ IsLine c line.now) }
@@ -56,6 +56,9 @@ fn read(alloc: Global, verb: Verb, arguments: &[&[u8]]) -> Result<Option<Command
             slot, bytes,
         ))),
         Verb::Join => Ok(two_slots(arguments).map(|(to, from)| Command::PushTendril(to, from))),
+        Verb::Char => Ok(number_and_char(arguments).map(|(slot, character)| Command::PushChar(
+            slot, character,
+        ))),
         Verb::Slice => Ok(three_numbers(arguments).map(|(slot, offset, count)| Command::Slice(
             slot, offset, count,
         ))),
@@ -63,6 +66,7 @@ fn read(alloc: Global, verb: Verb, arguments: &[&[u8]]) -> Result<Option<Command
             slot, count,
         ))),
         Verb::Back => Ok(two_numbers(arguments).map(|(slot, count)| Command::PopBack(slot, count))),
+        Verb::Pop => Ok(one_number(arguments).map(|slot| Command::PopChar(slot))),
         Verb::Clone => Ok(one_number(arguments).map(|slot| Command::Clone(slot))),
         Verb::Clear => Ok(one_number(arguments).map(|slot| Command::Clear(slot))),
         Verb::Reserve => Ok(two_numbers(arguments).map(|(slot, more)| Command::Reserve(

@@ -8,7 +8,7 @@ use crate::command::{Kind, Reply};
 use std::alloc::{AllocError, Global};
 use tendril::block::Refusal;
 
-/// A reply's line, without its line feed: `ok`, `slot N`, a format's name with the bytes in lower-case digits or `-`,
+/// A reply's line, without its line feed: `ok`, `slot N`, `char C`, `none`, a format's name with the bytes in lower-case digits or `-`,
 /// or `refused N Name`.
 pub fn print_reply(alloc: Global, reply: &Reply) -> Result<String, Refusal>
     ensures printed { IfOk result (λ text. string_bytes text ≡ printed reply.now) }
@@ -23,6 +23,11 @@ fn reply_text(alloc: Global, reply: &Reply) -> Result<String, AllocError>
     match reply {
         Reply::Done => String::from_str(alloc, "ok"),
         Reply::Made(slot) => format!(in alloc; "slot {slot}"),
+        Reply::Char(None) => String::from_str(alloc, "none"),
+        Reply::Char(Some(character)) => {
+            let number = *character as u32;
+            format!(in alloc; "char {number}")
+        }
         Reply::Text(kind, bytes) => {
             let name = name_of_kind(*kind);
             let digits = hex_of(alloc, bytes.as_slice())?;

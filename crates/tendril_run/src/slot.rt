@@ -2,7 +2,7 @@
 ghost use Rattle.std.specs.Prelude.{◌≡◌, ◌⊎◌, ℕ, [], length, IfOk, IfErr, None, Some};
 ghost use Rattle.tendril_run.specs.CellOf.{cell_of};
 ghost use Rattle.tendril_run.specs.Cells.{IsCell, text as text_cell, valid_in};
-ghost use Rattle.tendril_run.specs.OneCell.{CellPushed, CellJoined, CellEdited, CellConverted, CellDropped, CellTold, CellMust, CellSliceMust, CellCloneMay, ConversionMust, converted, part};
+ghost use Rattle.tendril_run.specs.OneCell.{CellPushed, CellCharPushed, CellCharPopped, CellJoined, CellEdited, CellConverted, CellDropped, CellTold, CellMust, CellSliceMust, CellCloneMay, ConversionMust, converted, part};
 ghost use Rattle.tendril_run.specs.Rules.{BytesMust, MemoryMay, CountMay};
 
 use crate::change::{Conversion, Edit};
@@ -50,6 +50,19 @@ macro_rules! on_text {
                 $body
             }
             Slot::Gone => $gone,
+        }
+    };
+}
+
+// A reply of the text, where its format has characters.
+macro_rules! on_characters {
+    ($slot:expr, $text:ident => $body:expr) => {
+        match $slot {
+            Slot::Ascii($text) => $body,
+            Slot::Utf8($text) => $body,
+            Slot::Latin1($text) => $body,
+            Slot::Bytes(_) | Slot::Wtf8(_) => Reply::Refused(Refusal::WrongFormat),
+            Slot::Gone => gone(),
         }
     };
 }
@@ -147,6 +160,26 @@ impl<A: Atomicity> Slot<A> {
         ensures valid { IsCell (cell_of self.new) }
     {
         let reply = on_text!(self, _kind, text => text::push(text, bytes), gone());
+        let _kind = self.kind();
+        reply
+    }
+
+    /// Puts a character at the end of the text.
+    pub(crate) fn push_char(&mut self, character: char) -> Reply
+        ensures pushed { CellCharPushed (cell_of self.old) character result (cell_of self.new) }
+        ensures valid { IsCell (cell_of self.new) }
+    {
+        let reply = on_characters!(self, text => text::push_char(text, character));
+        let _kind = self.kind();
+        reply
+    }
+
+    /// Takes the first character out of the text.
+    pub(crate) fn pop_char(&mut self) -> Reply
+        ensures popped { CellCharPopped (cell_of self.old) result (cell_of self.new) }
+        ensures valid { IsCell (cell_of self.new) }
+    {
+        let reply = on_characters!(self, text => text::pop_char(text));
         let _kind = self.kind();
         reply
     }

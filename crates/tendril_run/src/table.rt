@@ -101,9 +101,11 @@ impl<A: Atomicity> Table<A> {
             Command::FromBytes(kind, bytes) => self.from_bytes(*kind, bytes),
             Command::PushBytes(slot, bytes) => self.push_bytes(*slot, bytes),
             Command::PushTendril(to, from) => self.join(*to, *from),
+            Command::PushChar(slot, character) => self.push_char(*slot, *character),
             Command::Slice(slot, offset, count) => self.slice(*slot, *offset, *count),
             Command::PopFront(slot, count) => self.edit(*slot, Edit::PopFront(*count)),
             Command::PopBack(slot, count) => self.edit(*slot, Edit::PopBack(*count)),
+            Command::PopChar(slot) => self.pop_char(*slot),
             Command::Clone(slot) => self.clone_slot(*slot),
             Command::Clear(slot) => self.edit(*slot, Edit::Clear),
             Command::Reserve(slot, more) => self.edit(*slot, Edit::Reserve(*more)),
@@ -167,6 +169,26 @@ impl<A: Atomicity> Table<A> {
             return gone();
         }
         self.slots[slot].push_bytes(bytes)
+    }
+
+    fn push_char(&mut self, slot: usize, character: char) -> Reply
+        ensures step { (class : _) → Step class self.old.cells (Command.PushChar slot character) result self.new.cells }
+        ensures room { self.old.room ≤ self.new.room }
+    {
+        if slot >= self.slots.len() {
+            return gone();
+        }
+        self.slots[slot].push_char(character)
+    }
+
+    fn pop_char(&mut self, slot: usize) -> Reply
+        ensures step { (class : _) → Step class self.old.cells (Command.PopChar slot) result self.new.cells }
+        ensures room { self.old.room ≤ self.new.room }
+    {
+        if slot >= self.slots.len() {
+            return gone();
+        }
+        self.slots[slot].pop_char()
     }
 
     fn join(&mut self, to: usize, from: usize) -> Reply

@@ -112,6 +112,12 @@ fn lines_of_commands(rt: HostRuntime) -> Result<(), Fail> {
     );
     assert!(rt;
         matches!(
+            parse_line(alloc, b"char 0 1114111")?,
+            Some(Command::PushChar(0, '\u{10ffff}'))
+        )
+    );
+    assert!(rt;
+        matches!(
             parse_line(alloc, b"reserve 1 4294967295")?,
             Some(Command::Reserve(1, 4294967295))
         )
@@ -152,6 +158,8 @@ fn lines_of_no_command(rt: HostRuntime) -> Result<(), Fail> {
         b"push -0 30",
         b"join 0",
         b"join 0 0 0",
+        b"char 0 57343",
+        b"pop 0 1",
         b"front 0",
         b"back 0 ",
         b"clear",

@@ -3,16 +3,17 @@ ghost use Rattle.std.specs.Prelude.{◌≡◌, ◌<◌, ◌⊎◌, ◌↔◌, le
 ghost use Rattle.tendril.specs.Errors.{refusal_of};
 ghost use Rattle.tendril_run.specs.CellOf.{cell_of};
 ghost use Rattle.tendril_run.specs.Cells.{text as text_cell, valid_in};
+ghost use Rattle.tendril_run.specs.Characters.{first_of, without_first};
 ghost use Rattle.tendril_run.specs.Edits.{TextEdited};
 ghost use Rattle.tendril_run.specs.OneCell.{CellTold};
-ghost use Rattle.tendril_run.specs.Rules.{TextPushed, Changed, LengthMust, BytesMust, MemoryMay, SliceMust, CountMay};
+ghost use Rattle.tendril_run.specs.Rules.{TextPushed, Answered, Changed, LengthMust, CharMust, BytesMust, MemoryMay, SliceMust, CountMay};
 
 use crate::change::Edit;
 use crate::command::{ByteList, Kind, Reply};
 use crate::slot::Slot;
 use std::alloc::Global;
 use tendril::block::{MAX_LEN, Refusal};
-use tendril::fmt::Format;
+use tendril::fmt::{CharFormat, Format};
 use tendril::{Atomicity, SubtendrilError, Tendril};
 
 /// A text of these bytes.
@@ -34,6 +35,26 @@ pub(crate) fn push<F: Format, A: Atomicity>(text: &mut Tendril<F, A>, bytes: &By
         Ok(()) => Reply::Done,
         Err(refusal) => Reply::Refused(refusal),
     }
+}
+
+/// Puts a character at the end of the text.
+pub(crate) fn push_char<F: CharFormat, A: Atomicity>(
+    text: &mut Tendril<F, A>,
+    character: char,
+) -> Reply
+    ensures { Changed (CharMust F.encodes character (length (F.join text.old.bytes (F.encoding character)))) (MemoryMay (length (F.join text.old.bytes (F.encoding character)))) (F.join text.old.bytes (F.encoding character)) text.old.bytes result text.new.bytes }
+{
+    match text.try_push_char(character) {
+        Ok(()) => Reply::Done,
+        Err(refusal) => Reply::Refused(refusal),
+    }
+}
+
+/// Takes the first character out of the text.
+pub(crate) fn pop_char<F: CharFormat, A: Atomicity>(text: &mut Tendril<F, A>) -> Reply
+    ensures { Answered (λ must. must ≡ None) (λ r. ⊥) (Reply.Char (first_of (F.chars text.old.bytes))) (without_first F.encoding (F.chars text.old.bytes) text.old.bytes) text.old.bytes result text.new.bytes }
+{
+    Reply::Char(text.pop_front_char())
 }
 
 /// Puts another text at the end of the text.

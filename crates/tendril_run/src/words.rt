@@ -1,9 +1,9 @@
 //! The words of a line.
 
 ghost use Rattle.std.specs.Prelude.{◌≡◌, ◌↔◌, ℕ, List, [], ◌∷◌, map, Some, IfOk};
-ghost use Rattle.tendril_run.specs.Lines.{AreWords, number as number_word, format as format_word, bytes as bytes_word};
+ghost use Rattle.tendril_run.specs.Lines.{AreWords, number as number_word, scalar as scalar_word, format as format_word, bytes as bytes_word};
 ghost use Rattle.tendril_run.specs.Verbs.{verb_name};
-ghost use Rattle.tendril_run.specs.Words.{words, IsNumber, IsHex, kind_name};
+ghost use Rattle.tendril_run.specs.Words.{words, IsNumber, IsCharWord, IsHex, kind_name};
 
 use crate::command::{ByteList, Kind};
 use hex::FromHexError;
@@ -16,9 +16,11 @@ pub(crate) enum Verb {
     From,
     Push,
     Join,
+    Char,
     Slice,
     Front,
     Back,
+    Pop,
     Clone,
     Clear,
     Reserve,
@@ -38,9 +40,11 @@ pub(crate) fn verb_of(word: &[u8]) -> Option<Verb>
         b"from" => Some(Verb::From),
         b"push" => Some(Verb::Push),
         b"join" => Some(Verb::Join),
+        b"char" => Some(Verb::Char),
         b"slice" => Some(Verb::Slice),
         b"front" => Some(Verb::Front),
         b"back" => Some(Verb::Back),
+        b"pop" => Some(Verb::Pop),
         b"clone" => Some(Verb::Clone),
         b"clear" => Some(Verb::Clear),
         b"reserve" => Some(Verb::Reserve),
@@ -69,6 +73,13 @@ pub(crate) fn number(word: &[u8]) -> Option<u32>
     }
     let text = str::from_utf8(word).ok()?;
     text.parse().ok()
+}
+
+/// A character, by the number of its scalar value.
+pub(crate) fn scalar(word: &[u8]) -> Option<char>
+    ensures { (c : ℕ) → (result ≡ Some c) ↔ IsCharWord c word.now }
+{
+    char::from_u32(number(word)?)
 }
 
 /// The format of a name.
@@ -139,6 +150,16 @@ pub(crate) fn two_numbers(args: &[&[u8]]) -> Option<(usize, u32)>
         return None;
     };
     Some((number(first)? as usize, number(second)?))
+}
+
+/// The slot and the character that the words are.
+pub(crate) fn number_and_char(args: &[&[u8]]) -> Option<(usize, char)>
+    ensures { (a b : ℕ) → (result ≡ Some (a, b)) ↔ AreWords (number_word a ∷ scalar_word b ∷ []) (map (λ word. word.now) args.now) }
+{
+    let [first, second] = args else {
+        return None;
+    };
+    Some((number(first)? as usize, scalar(second)?))
 }
 
 /// The slot and the format that the words are.

@@ -28,6 +28,12 @@ fn a_malformed_line_changes_nothing(rt: HostRuntime) -> Result<(), Fail> {
         up utf8 0\n\
         down 0 ascii ascii\n\
         char 0 55296\n\
+        char 0 1114112\n\
+        char 0 0120\n\
+        char 0 a\n\
+        char 0\n\
+        pop\n\
+        pop 0 0\n\
         set 0 0 3031\n\
         text 0 \n\
         \x20\n\
@@ -35,7 +41,7 @@ fn a_malformed_line_changes_nothing(rt: HostRuntime) -> Result<(), Fail> {
         text \xff\n\
         text 0\n";
     let mut printed = Vec::from_slice(rt.alloc(), b"slot 0\n")?;
-    for _ in 0..27 {
+    for _ in 0..33 {
         printed.extend_from_slice(b"malformed\n")?;
     }
     printed.extend_from_slice(b"utf8 3031\n")?;

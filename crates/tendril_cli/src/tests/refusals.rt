@@ -11,6 +11,8 @@ fn no_such_slot(rt: HostRuntime) -> Result<(), Fail> {
         drop 0 => ok
         push 0 31 => refused 13 NoSuchSlot
         join 0 0 => refused 13 NoSuchSlot
+        char 0 97 => refused 13 NoSuchSlot
+        pop 0 => refused 13 NoSuchSlot
         slice 0 0 0 => refused 13 NoSuchSlot
         front 0 0 => refused 13 NoSuchSlot
         back 0 0 => refused 13 NoSuchSlot
@@ -71,7 +73,11 @@ fn wrong_format(rt: HostRuntime) -> Result<(), Fail> {
         down 3 ascii => refused 14 WrongFormat
         down 4 utf8 => refused 14 WrongFormat
         down 2 utf8 => refused 14 WrongFormat
-        down 1 ascii => refused 14 WrongFormat",
+        down 1 ascii => refused 14 WrongFormat
+        char 0 97 => refused 14 WrongFormat
+        char 3 97 => refused 14 WrongFormat
+        pop 0 => refused 14 WrongFormat
+        pop 3 => refused 14 WrongFormat",
     )
 }
 
@@ -84,6 +90,25 @@ fn wrong_format_comes_before_invalid(rt: HostRuntime) -> Result<(), Fail> {
         from wtf8 eda0bd => slot 1
         down 1 ascii => refused 14 WrongFormat
         text 1 => wtf8 eda0bd",
+    )
+}
+
+#[test]
+fn not_in_format(rt: HostRuntime) -> Result<(), Fail> {
+    check_session(
+        rt.alloc(),
+        "new ascii => slot 0
+        char 0 127 => ok
+        char 0 128 => refused 7 NotInFormat
+        text 0 => ascii 7f
+        new latin1 => slot 1
+        char 1 255 => ok
+        char 1 256 => refused 7 NotInFormat
+        text 1 => latin1 ff
+        new bytes => slot 2
+        char 2 256 => refused 14 WrongFormat
+        drop 0 => ok
+        char 0 128 => refused 13 NoSuchSlot",
     )
 }
 

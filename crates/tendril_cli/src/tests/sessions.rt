@@ -209,6 +209,45 @@ fn the_same_bytes_in_another_format(rt: HostRuntime) -> Result<(), Fail> {
     )
 }
 
+#[test]
+fn latin1_characters(rt: HostRuntime) -> Result<(), Fail> {
+    check_session(
+        rt.alloc(),
+        "new latin1 => slot 0
+        char 0 120 => ok
+        char 0 0 => ok
+        char 0 160 => ok
+        char 0 337 => refused 7 NotInFormat
+        text 0 => latin1 7800a0
+        pop 0 => char 120
+        pop 0 => char 0
+        pop 0 => char 160
+        pop 0 => none
+        text 0 => latin1 -",
+    )
+}
+
+#[test]
+fn characters_of_one_to_four_bytes(rt: HostRuntime) -> Result<(), Fail> {
+    check_session(
+        rt.alloc(),
+        "from utf8 66c5916f2d => slot 0
+        char 0 42606 => ok
+        char 0 128169 => ok
+        clone 0 => slot 1
+        text 0 => utf8 66c5916f2dea99aef09f92a9
+        pop 0 => char 102
+        pop 0 => char 337
+        pop 0 => char 111
+        pop 0 => char 45
+        pop 0 => char 42606
+        pop 0 => char 128169
+        pop 0 => none
+        text 0 => utf8 -
+        text 1 => utf8 66c5916f2dea99aef09f92a9",
+    )
+}
+
 // Twenty commands on slots from this number on, with each command of a table among them.
 fn twenty_commands<W: Write>(
     script: &mut W,

@@ -1,5 +1,5 @@
 use Rattle.std.proofs.Common.{rules, [], ◌∷◌, map}
-use Rattle.tendril_run.specs.Lines.{AreWords, number, format, bytes}
+use Rattle.tendril_run.specs.Lines.{AreWords, number, scalar, format, bytes}
 use Rattle.tendril_run.proofs.Reading.{taken}
 use Rattle.tendril_run.specs.declared.command.Command.TheVariants as command
 use Rattle.tendril_run.proofs.line.read.Goals as goal
@@ -17,7 +17,7 @@ pub returns-in-Slice : goal.returns-in-Slice
 returns-in-Slice c = rw c.in-Slice.is (taken (λ x. AreWords (number x.0 ∷ number x.1 ∷ number x.2 ∷ []) (map (λ word. word.now) c.args.arguments.now)) (λ x. command.Slice x.0 x.1 x.2) _ _ _ (λ x y q. search rules) (λ x. c.three_numbers.ensures x.0 x.1 x.2) c.map-in-Slice.ensures.cases)
 
 pub returns-in-Clone : goal.returns-in-Clone
-returns-in-Clone c = rw c.in-Clone.is (taken (λ x. AreWords (number x ∷ []) (map (λ word. word.now) c.args.arguments.now)) (λ x. command.Clone x) _ _ _ (λ x y q. search rules) (λ x. c.one_number.ensures x) c.map-in-Clone.ensures.cases)
+returns-in-Clone c = rw c.in-Clone.is (taken (λ x. AreWords (number x ∷ []) (map (λ word. word.now) c.args.arguments.now)) (λ x. command.Clone x) _ _ _ (λ x y q. search rules) (λ x. c.one_number-in-Clone.ensures x) c.map-in-Clone.ensures.cases)
 
 pub returns-in-Text : goal.returns-in-Text
 returns-in-Text c = rw c.in-Text.is (taken (λ x. AreWords (number x ∷ []) (map (λ word. word.now) c.args.arguments.now)) (λ x. command.Text x) _ _ _ (λ x y q. search rules) (λ x. c.one_number-in-Text.ensures x) c.map-in-Text.ensures.cases)
@@ -48,3 +48,9 @@ returns-in-Up c = rw c.in-Up.is (taken (λ x. AreWords (number x.0 ∷ format x.
 
 pub returns-in-Down : goal.returns-in-Down
 returns-in-Down c = rw c.in-Down.is (taken (λ x. AreWords (number x.0 ∷ format x.1 ∷ []) (map (λ word. word.now) c.args.arguments.now)) (λ x. command.ToSubset x.0 x.1) _ _ _ (λ x y q. search rules) (λ x. c.number_and_kind-in-Down.ensures x.0 x.1) c.map-in-Down.ensures.cases)
+
+pub returns-in-Char : goal.returns-in-Char
+returns-in-Char c = rw c.in-Char.is (taken (λ x. AreWords (number x.0 ∷ scalar x.1 ∷ []) (map (λ word. word.now) c.args.arguments.now)) (λ x. command.PushChar x.0 x.1) _ _ _ (λ x y q. search rules) (λ x. c.number_and_char.ensures x.0 x.1) c.map-in-Char.ensures.cases)
+
+pub returns-in-Pop : goal.returns-in-Pop
+returns-in-Pop c = rw c.in-Pop.is (taken (λ x. AreWords (number x ∷ []) (map (λ word. word.now) c.args.arguments.now)) (λ x. command.PopChar x) _ _ _ (λ x y q. search rules) (λ x. c.one_number.ensures x) c.map-in-Pop.ensures.cases)

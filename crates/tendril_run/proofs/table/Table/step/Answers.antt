@@ -44,3 +44,9 @@ returns-in-ToSuperset-clause-step g c = rw c.in-ToSuperset.is (c.convert-in-ToSu
 
 pub returns-in-ToSubset-clause-step : goal.returns-in-ToSubset-clause-step
 returns-in-ToSubset-clause-step g c = rw c.in-ToSubset.is (c.convert-in-ToSubset.ensures.converted)
+
+pub returns-in-PushChar-clause-step : goal.returns-in-PushChar-clause-step
+returns-in-PushChar-clause-step g c = rw c.in-PushChar.is (c.push_char.ensures.step (g.C.Classifier.class c.args._classifier.now))
+
+pub returns-in-PopChar-clause-step : goal.returns-in-PopChar-clause-step
+returns-in-PopChar-clause-step g c = rw c.in-PopChar.is (c.pop_char.ensures.step (g.C.Classifier.class c.args._classifier.now))
