@@ -21,8 +21,8 @@ module _ {F R : Type 0} (step : F → ℕ → R → F → Type 0) (eq : R → R 
   SaysOther class f [] = Unit {0}
   SaysOther class f (c ∷ cs) = (r : R) × (f' : F) × step f c r f' × (eq class r ≡ false)
 
-  -- the classifier was asked for the characters of the run in turn and for the first one of the rest, and for no other:
-  -- the class is its first answer, the other answers in the run equal it, and that in the rest doesn't
+  -- the classifier was asked for the characters of the run in turn, and for the first one of the rest: the class is its
+  -- first answer, the other answers in the run equal it, and that in the rest doesn't
   pub record IsAsked (classify : F) (class : R) (run rest : List ℕ) : Type 0 where
     pub first : ℕ
     pub others : List ℕ
