@@ -16,14 +16,15 @@ module _ {F R : Type 0} (step : F → ℕ → R → F → Type 0) (eq : R → R 
   abbrev pub SaysClass : R → F → ℕ → F → Type 0
   SaysClass class f c f' = (r : R) × step f c r f' × (eq class r ≡ true)
 
-  -- asked for the first of the characters, it gave another class, or there is none
-  abbrev pub SaysOther : R → F → List ℕ → Type 0
-  SaysOther class f [] = Unit {0}
-  SaysOther class f (c ∷ cs) = (r : R) × (f' : F) × step f c r f' × (eq class r ≡ false)
+  -- asked for the first of the characters, it gave another class, or there is none and it wasn't asked
+  abbrev pub SaysOther : R → F → List ℕ → F → Type 0
+  SaysOther class f [] f' = f' ≡ f
+  SaysOther class f (c ∷ cs) f' = (r : R) × step f c r f' × (eq class r ≡ false)
 
-  -- the classifier was asked for the characters of the run in turn, and for the first one of the rest: the class is its
-  -- first answer, the other answers in the run equal it, and that in the rest doesn't
-  pub record IsAsked (classify : F) (class : R) (run rest : List ℕ) : Type 0 where
+  -- the classifier was asked for the characters of the run in turn, and for the first one of the rest, each once and for
+  -- no other, and is `after` then: the class is its first answer, the other answers in the run equal it, and that in
+  -- the rest doesn't
+  pub record IsAsked (classify : F) (class : R) (run rest : List ℕ) (after : F) : Type 0 where
     pub first : ℕ
     pub others : List ℕ
     pub characters : run ≡ first ∷ others
@@ -31,26 +32,30 @@ module _ {F R : Type 0} (step : F → ℕ → R → F → Type 0) (eq : R → R 
     pub asked_first : step classify first class once
     pub last : F
     pub asked_others : FoldsTo (SaysClass class) once others last
-    pub asked_next : SaysOther class last rest
+    pub asked_next : SaysOther class last rest after
 
   -- a text is a run of characters of one class, and the rest
-  pub record IsRun (chars : List ℕ → List ℕ) (classify : F) (class : R) (text run rest : List ℕ) : Type 0 where
+  pub record IsRun (valid : List ℕ → Type 0) (chars : List ℕ → List ℕ) (classify : F) (class : R) (text run rest : List ℕ) : Type 0 where
     pub bytes : text ≡ run ++ rest
+    pub run_valid : valid run
+    pub rest_valid : valid rest
     pub characters : chars text ≡ chars run ++ chars rest
-    pub asked : IsAsked classify class (chars run) (chars rest)
+    pub after : F
+    pub asked : IsAsked classify class (chars run) (chars rest) after
 
   -- the first n bytes of a text are such a run, and both parts are valid
-  pub record EndsRun (valid : List ℕ → Type 0) (chars : List ℕ → List ℕ) (classify : F) (class : R) (text : List ℕ) (n : ℕ) : Type 0 where
+  pub record EndsRun (valid : List ℕ → Type 0) (chars : List ℕ → List ℕ) (classify : F) (class : R) (text : List ℕ) (n : ℕ) (after : F) : Type 0 where
     pub within : n ≤ length text
     pub run_valid : valid (take n text)
     pub rest_valid : valid (drop n text)
     pub characters : chars text ≡ chars (take n text) ++ chars (drop n text)
-    pub asked : IsAsked classify class (chars (take n text)) (chars (drop n text))
+    pub asked : IsAsked classify class (chars (take n text)) (chars (drop n text)) after
 
   -- such a run and the rest have more than 8 bytes each
   pub record HasLongParts (valid : List ℕ → Type 0) (chars : List ℕ → List ℕ) (classify : F) (text : List ℕ) : Type 0 where
     pub class : R
     pub end : ℕ
-    pub run : EndsRun valid chars classify class text end
+    pub after : F
+    pub run : EndsRun valid chars classify class text end after
     pub long : 8 < end
     pub long_rest : 8 + end < length text

@@ -31,16 +31,16 @@ impl<F: CharFormat, A: Atomicity> Tendril<F, A> {
     /// with a long rest; where either has at most 8 bytes no holder is added, and the call isn't refused.
     pub fn pop_front_char_run<C: FnMut(char) -> R, R: PartialEq + Drop>(
         &mut self,
-        classify: C,
+        mut classify: C,
     ) -> Result<Option<(Self, R)>, Refusal>
         requires { C.IsAlwaysCallable classify }
-        ensures run { IfOk result (λ found. IfSome found (λ run. IsRun C.step R.eq F.chars classify run.1 self.old.bytes run.0.bytes self.new.bytes)) }
+        ensures run { IfOk result (λ found. IfSome found (λ run. IsRun C.step R.eq F.valid F.chars classify run.1 self.old.bytes run.0.bytes self.new.bytes)) }
         ensures copied { IfOk result (λ found. IfSome found (λ run. Parts self.old run.0 self.new)) }
         ensures none { IfOk result (λ found. IfNone found ((self.old.bytes ≡ []) × (self.new ≡ self.old))) }
         ensures refusal { IfErr result (λ r. (r ≡ Refusal.Count) × HasLongParts C.step R.eq F.valid F.chars classify self.old.bytes) }
         ensures err { OnErr result (self.new ≡ self.old) }
     {
-        let Some((end, class)) = run_end::<F, C, R>(self.as_byte_slice(), classify) else {
+        let Some((end, class)) = run_end::<F, C, R>(self.as_byte_slice(), &mut classify) else {
             return Ok(None);
         };
         let run = self.take_front(end as u32)?;
@@ -113,11 +113,11 @@ impl<A: Atomicity> Tendril<UTF8, A> {
 // Where the first run of characters of one class ends, and the class.
 fn run_end<F: CharFormat, C: FnMut(char) -> R, R: PartialEq + Drop>(
     bytes: &[u8],
-    mut classify: C,
+    classify: &mut C,
 ) -> Option<(usize, R)>
     requires valid { F.valid bytes.now }
-    requires callable { C.IsAlwaysCallable classify }
-    ensures { MatchOption result (bytes.now ≡ []) (λ found. EndsRun C.step R.eq F.valid F.chars classify found.1 bytes.now found.0) }
+    requires callable { C.IsAlwaysCallable classify.old }
+    ensures { MatchOption result ((bytes.now ≡ []) × (classify.new ≡ classify.old)) (λ found. EndsRun C.step R.eq F.valid F.chars classify.old found.1 bytes.now found.0 classify.new) }
 {
     let (first, mut end) = F::first_char(bytes)?;
     let class = classify(first);

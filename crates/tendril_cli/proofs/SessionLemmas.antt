@@ -25,12 +25,6 @@ appends_more (Some x) None after bytes more h k = absurd h
 appends_more (Some x) (Some y) None bytes more h k = absurd k
 appends_more (Some x) (Some y) (Some z) bytes more h k = k ∙ ap (λ b. b ++ more) h ∙ append_assoc x bytes more
 
--- the run of one command has one reply
-pub one_reply : (class : ℕ → ℕ) (old new : List Cell) (command : Command) (replies : List Reply) → Run class old (command ∷ []) replies new → (reply : Reply) × ((replies ≡ reply ∷ []) × Step class old command reply new)
-one_reply class old new command [] h = absurd h
-one_reply class old new command (reply ∷ []) h = (reply, (refl, subst (λ cells. Step class old command reply cells) (sym h.1.1) h.1.0))
-one_reply class old new command (reply ∷ other ∷ more) h = absurd h.1.1
-
 -- an answer and a line feed are what is written for a line that isn't empty
 pub line_written : (old new : List Cell) (line text held held' : List ℕ) → 0 < length line → Answers old line text new → held' ≡ held ++ (text ++ 10 ∷ []) → WritesLine old line new (Some held) (Some held')
 line_written old new [] text held held' some answers e = absurd (omega arith)

@@ -6,9 +6,6 @@ use Rattle.tendril_fmt.specs.CodePoints.{IsCodePoint, IsContinuation}
 use Rattle.tendril_fmt.specs.Proved.Encodings.{Shape, of1, of2, of3, of4, encode_utf8_1, encode_utf8_2, encode_utf8_3, encode_utf8_4, point_shape}
 
 -- bytes of the ranges of each length encode the number of their payload bits
-pub spelt_1 : (a : ℕ) → a < 128 → encode_utf8 a ≡ a ∷ []
-spelt_1 = encode_utf8_1
-
 pub spelt_2 : (a b : ℕ) → 194 ≤ a → a < 224 → IsContinuation b → encode_utf8 ((a - 192) * 64 + (b - 128)) ≡ a ∷ b ∷ []
 spelt_2 a b l h f =
     let c = (a - 192) * 64 + (b - 128) in
@@ -36,15 +33,6 @@ spelt_4 a b d e l f g k m =
     encode_utf8_4 c m ∙ (λ i. p i ∷ q i ∷ r i ∷ s i ∷ [])
 
 -- what bytes of each length say of the code point that they encode
-pub only_1 : (a c : ℕ) → IsCodePoint c → a ∷ [] ≡ encode_utf8 c → (a < 128) × (c ≡ a)
-only_1 a c top s = by (point_shape c top)
-  where
-    by : Shape c → (a < 128) × (c ≡ a)
-    by (of1 h e) = let k = ap (λ l. slice_index l 0) (s ∙ e) in (omega arith, omega arith)
-    by (of2 x y l h f t e) = absurd (omega (arith, ap length (s ∙ e)))
-    by (of3 x y z l h f g t m e) = absurd (omega (arith, ap length (s ∙ e)))
-    by (of4 x y z w l h f g k t m e) = absurd (omega (arith, ap length (s ∙ e)))
-
 pub only_2 : (a b c : ℕ) → IsCodePoint c → a ∷ b ∷ [] ≡ encode_utf8 c → (194 ≤ a) × (a < 224) × IsContinuation b
 only_2 a b c top s = by (point_shape c top)
   where

@@ -1,5 +1,7 @@
 mod Chain
+mod FirstRuns
 mod Joined
 mod Numbers
 mod OneChanged
 mod Reading
+mod TakenRuns

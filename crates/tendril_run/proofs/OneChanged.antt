@@ -1,12 +1,12 @@
-use Rattle.std.proofs.Common.{◌≡◌, ◌≢◌, ℕ, zero, suc, ◌<◌, ◌⊎◌, List, length, get_or, set, map, ap, sym, subst, refl, ◌∙◌, Option, Some, None, Bool, true, false, if◌then◌else◌, [], ◌∷◌, ◌++◌, All}
-use Rattle.std.proofs.lemmas.List.{map-set, map-append, get_or-map, get_or-set_other, length-map}
+use Rattle.std.proofs.Common.{◌≡◌, ◌≢◌, ℕ, ◌<◌, ◌⊎◌, List, length, get_or, set, map, ap, sym, subst, ◌∙◌, Option, Some, None, Bool, true, false, if◌then◌else◌, [], ◌∷◌, ◌++◌, All}
+use Rattle.std.proofs.lemmas.List.{map-set, map-append, set-set, get_or-map, get_or-set_other, length-map}
 use Rattle.std.proofs.lemmas.List.Elements.{All-set, All-push}
 use Rattle.std.proofs.Math.Seq.{map-set_same}
 use Rattle.tendril_block.specs.declared.refusal.Refusal.{Refusal}
 use Rattle.tendril_run.specs.Cells.{Cell, IsCell, gone, cell_at}
 use Rattle.tendril_run.specs.Rules.{Outcome, Answered, Changed}
 use Rattle.tendril_run.specs.declared.command.Reply.{Reply}
-use Rattle.tendril_run.specs.declared.command.Reply.TheVariants.{Done, Made, Char, Text, Refused}
+use Rattle.tendril_run.specs.declared.command.Reply.TheVariants.{Done, Made, Char, Run, Text, Refused}
 
 -- one cell of a table was old, and after it is new
 pub record OneChanged (cells : List Cell) (slot : ℕ) (old new : Cell) (after : List Cell) : Type 0 where
@@ -25,16 +25,10 @@ one_changed f items cells slot s t is within found = record {
 pub within_items : {S : Type 0} (f : S → Cell) (items : List S) (cells : List Cell) (slot : ℕ) → map f items ≡ cells → slot < length cells → slot < length items
 within_items f items cells slot is within = subst (λ n. slot < n) (ap length (sym is) ∙ length-map items f) within
 
--- what was put in a place is gone where something else is put there
-set_twice : {S : Type 0} (items : List S) (i : ℕ) (s t : S) → set (set items i s) i t ≡ set items i t
-set_twice [] i s t = refl
-set_twice (x ∷ items) zero s t = refl
-set_twice (x ∷ items) (suc i) s t = ap (λ xs. x ∷ xs) (set_twice items i s t)
-
 -- the same, where the item was taken out of its place and something else stood there meanwhile
 pub taken_changed : {S : Type 0} (f : S → Cell) (items : List S) (cells : List Cell) (slot : ℕ) (s meanwhile t : S) → map f items ≡ cells → slot < length items → s ≡ get_or items slot s → OneChanged cells slot (f s) (f t) (map f (set (set items slot meanwhile) slot t))
 taken_changed f items cells slot s meanwhile t is within found =
-    subst (λ xs. OneChanged cells slot (f s) (f t) (map f xs)) (sym (set_twice items slot meanwhile t)) (one_changed f items cells slot s t is within found)
+    subst (λ xs. OneChanged cells slot (f s) (f t) (map f xs)) (sym (set-set items slot meanwhile t)) (one_changed f items cells slot s t is within found)
 
 -- another cell stays meanwhile
 pub other_cell : {S : Type 0} (f : S → Cell) (items : List S) (cells : List Cell) (slot other : ℕ) (s meanwhile : S) → map f items ≡ cells → other < length items → slot ≢ other → s ≡ get_or (set items slot meanwhile) other s → cell_at cells other ≡ f s
@@ -53,6 +47,7 @@ table_answered must may answer effect cells slot old new after (Refused r) one h
 table_answered must may answer effect cells slot old new after Done one h = changed must answer effect cells slot old new after Done one h
 table_answered must may answer effect cells slot old new after (Made n) one h = changed must answer effect cells slot old new after (Made n) one h
 table_answered must may answer effect cells slot old new after (Char c) one h = changed must answer effect cells slot old new after (Char c) one h
+table_answered must may answer effect cells slot old new after (Run found) one h = changed must answer effect cells slot old new after (Run found) one h
 table_answered must may answer effect cells slot old new after (Text kind z) one h = changed must answer effect cells slot old new after (Text kind z) one h
 
 -- the change of one cell is that of its table

@@ -4,7 +4,7 @@ use Rattle.std.specs.Option.{MatchOption, IsSomeAnd}
 use Rattle.tendril_run.specs.Lines.{AreWords, words_of}
 use Rattle.tendril_run.specs.Verbs.{Reads, verb_name}
 use Rattle.tendril_run.specs.declared.command.Command.{Command}
-use Rattle.tendril_run.specs.declared.command.Command.TheVariants.{New, FromBytes, PushBytes, PushTendril, PushChar, Slice, PopFront, PopBack, PopChar, Clone, Clear, Reserve, Reinterpret, ToSuperset, ToSubset, Text, Drop}
+use Rattle.tendril_run.specs.declared.command.Command.TheVariants.{New, FromBytes, PushBytes, PushTendril, PushChar, Slice, PopFront, PopBack, PopChar, PopRun, Clone, Clear, Reserve, Reinterpret, ToSuperset, ToSubset, Text, Drop}
 use Rattle.tendril_run.specs.declared.words.Verb.{Verb}
 use Rattle.tendril_run.specs.declared.words.Verb.TheVariants as verb
 
@@ -28,6 +28,7 @@ to_verb (Slice slot offset length) word args h = (verb.Slice, h.0, ((slot, offse
 to_verb (PopFront slot count) word args h = (verb.Front, h.0, ((slot, count), refl, h.1))
 to_verb (PopBack slot count) word args h = (verb.Back, h.0, ((slot, count), refl, h.1))
 to_verb (PopChar slot) word args h = (verb.Pop, h.0, (slot, refl, h.1))
+to_verb (PopRun slot) word args h = (verb.Run, h.0, (slot, refl, h.1))
 to_verb (Clone slot) word args h = (verb.Clone, h.0, (slot, refl, h.1))
 to_verb (Clear slot) word args h = (verb.Clear, h.0, (slot, refl, h.1))
 to_verb (Reserve slot more) word args h = (verb.Reserve, h.0, ((slot, more), refl, h.1))
@@ -47,6 +48,7 @@ from_verb verb.Slice args c (x, e, p) = rw e (refl, p)
 from_verb verb.Front args c (x, e, p) = rw e (refl, p)
 from_verb verb.Back args c (x, e, p) = rw e (refl, p)
 from_verb verb.Pop args c (x, e, p) = rw e (refl, p)
+from_verb verb.Run args c (x, e, p) = rw e (refl, p)
 from_verb verb.Clone args c (x, e, p) = rw e (refl, p)
 from_verb verb.Clear args c (x, e, p) = rw e (refl, p)
 from_verb verb.Reserve args c (x, e, p) = rw e (refl, p)

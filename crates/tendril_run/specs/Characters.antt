@@ -1,5 +1,7 @@
-use Rattle.std.specs.Prelude.{ℕ, ◌<◌, List, [], ◌∷◌, length, drop, chars, encode_utf8, Option, Some, None}
+use Rattle.std.specs.Prelude.{ℕ, ◌≡◌, ◌<◌, ◌==◌, List, [], ◌∷◌, length, drop, chars, encode_utf8, Option, Some, None}
 use Rattle.std.specs.Char.{IsScalar}
+use Rattle.std.specs.List.{take_while}
+use Rattle.tendril_fmt.specs.Chars.{encodings}
 use Rattle.tendril_run.specs.declared.command.Kind.{Kind}
 use Rattle.tendril_run.specs.declared.command.Kind.TheVariants.{Ascii, Utf8, Latin1}
 
@@ -36,3 +38,16 @@ first_of (c ∷ cs) = Some c
 abbrev pub without_first : (ℕ → List ℕ) → List ℕ → List ℕ → List ℕ
 without_first encoding [] b = b
 without_first encoding (c ∷ cs) b = drop (length (encoding c)) b
+
+-- the longest front of characters that have the first one's class
+abbrev pub first_run : (ℕ → ℕ) → List ℕ → List ℕ
+first_run class [] = []
+first_run class (c ∷ cs) = c ∷ take_while (λ d. class c == class d) cs
+
+-- the bytes of that front
+abbrev pub run_bytes : (ℕ → List ℕ) → (ℕ → ℕ) → List ℕ → List ℕ
+run_bytes encoding class cs = encodings encoding (first_run class cs)
+
+-- b is parted into the run at its front, whose class is k, and the rest
+abbrev pub IsFirstRun : (List ℕ → List ℕ) → (ℕ → List ℕ) → (ℕ → ℕ) → List ℕ → ℕ → List ℕ → List ℕ → Type 0
+IsFirstRun chars encoding class b k run rest = (c : ℕ) × (first_of (chars b) ≡ Some c) × (k ≡ class c) × (run ≡ run_bytes encoding class (chars b)) × (rest ≡ drop (length run) b)

@@ -2,7 +2,7 @@ use Rattle.std.specs.Prelude.{ℕ, ◌≡◌, List, [], ◌∷◌, codes}
 use Rattle.tendril_run.specs.Words.{words, IsNumber, IsCharWord, kind_name, IsHex}
 use Rattle.tendril_run.specs.declared.command.Kind.{Kind}
 use Rattle.tendril_run.specs.declared.command.Command.{Command}
-use Rattle.tendril_run.specs.declared.command.Command.TheVariants.{New, FromBytes, PushBytes, PushTendril, PushChar, Slice, PopFront, PopBack, PopChar, Clone, Clear, Reserve, Reinterpret, ToSuperset, ToSubset, Text, Drop}
+use Rattle.tendril_run.specs.declared.command.Command.TheVariants.{New, FromBytes, PushBytes, PushTendril, PushChar, Slice, PopFront, PopBack, PopChar, PopRun, Clone, Clear, Reserve, Reinterpret, ToSuperset, ToSubset, Text, Drop}
 
 -- what a word of a line stands for
 pub data Word : Type 0 where
@@ -38,6 +38,7 @@ words_of (Slice slot offset length) = name (codes "slice") ∷ number slot ∷ n
 words_of (PopFront slot count) = name (codes "front") ∷ number slot ∷ number count ∷ []
 words_of (PopBack slot count) = name (codes "back") ∷ number slot ∷ number count ∷ []
 words_of (PopChar slot) = name (codes "pop") ∷ number slot ∷ []
+words_of (PopRun slot) = name (codes "run") ∷ number slot ∷ []
 words_of (Clone slot) = name (codes "clone") ∷ number slot ∷ []
 words_of (Clear slot) = name (codes "clear") ∷ number slot ∷ []
 words_of (Reserve slot more) = name (codes "reserve") ∷ number slot ∷ number more ∷ []

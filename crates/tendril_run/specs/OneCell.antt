@@ -2,7 +2,7 @@ use Rattle.std.specs.Prelude.{ℕ, ◌≡◌, ◌⊎◌, List, [], length, take,
 use Rattle.tendril_block.specs.declared.refusal.Refusal.{Refusal}
 use Rattle.tendril_block.specs.declared.refusal.Refusal.TheVariants.{Memory, NoSuchSlot, WrongFormat}
 use Rattle.tendril_run.specs.Cells.{Cell, gone, text, valid_in, join_in, IsPartOf}
-use Rattle.tendril_run.specs.Characters.{HasChars, IsCharIn, chars_in, encoding_in, first_of, without_first}
+use Rattle.tendril_run.specs.Characters.{HasChars, IsCharIn, chars_in, encoding_in, first_of, without_first, run_bytes}
 use Rattle.tendril_run.specs.Edits.{EditMust, EditMay, edited}
 use Rattle.tendril_run.specs.Rules.{First, LengthMust, ValidMust, BytesMust, MemoryMay, SliceMust, CharMust, CountMay, Outcome, Answered, Changed}
 use Rattle.tendril_run.specs.declared.change.Conversion.{Conversion}
@@ -71,6 +71,25 @@ char_of (text kind b) = first_of (chars_in kind b)
 abbrev pub char_popped : Cell → Cell
 char_popped gone = gone
 char_popped (text kind b) = text kind (without_first (encoding_in kind) (chars_in kind b) b)
+
+-- the run at the front of a cell
+abbrev pub run_of : (ℕ → ℕ) → Cell → Cell
+run_of class gone = gone
+run_of class (text kind b) = text kind (run_bytes (encoding_in kind) class (chars_in kind b))
+
+-- a cell without the run at its front
+abbrev pub run_popped : (ℕ → ℕ) → Cell → Cell
+run_popped class gone = gone
+run_popped class (text kind b) = text kind (drop (length (run_bytes (encoding_in kind) class (chars_in kind b))) b)
+
+-- the refusals of a pop of that run that no state rules out: it is shared with the rest, where both are long
+abbrev pub RunMay : (ℕ → ℕ) → Cell → Refusal → Type 0
+RunMay class gone r = ⊥
+RunMay class (text kind b) r = CountMay (length (run_bytes (encoding_in kind) class (chars_in kind b))) r × CountMay (length (drop (length (run_bytes (encoding_in kind) class (chars_in kind b))) b)) r
+
+-- a cell is parted into the run at its front, whose class is k, and the rest
+abbrev pub IsRunOf : (ℕ → ℕ) → Cell → ℕ → Cell → Cell → Type 0
+IsRunOf class cell k run rest = (c : ℕ) × (char_of cell ≡ Some c) × (k ≡ class c) × (run ≡ run_of class cell) × (rest ≡ run_popped class cell)
 
 -- the first refusal of a push of one cell onto another
 abbrev pub JoinMust : Cell → Cell → Option Refusal → Type 0

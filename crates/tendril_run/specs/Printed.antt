@@ -4,7 +4,7 @@ use Rattle.hex.specs.Hex.{encode_lower}
 use Rattle.tendril_block.specs.Refusals.{number_of, name_of}
 use Rattle.tendril_run.specs.Words.{kind_name}
 use Rattle.tendril_run.specs.declared.command.Reply.{Reply}
-use Rattle.tendril_run.specs.declared.command.Reply.TheVariants.{Done, Made, Char, Text, Refused}
+use Rattle.tendril_run.specs.declared.command.Reply.TheVariants.{Done, Made, Char, Run, Text, Refused}
 
 -- bytes as two hexadecimal digits each, in lower case, or a dash for none
 abbrev pub hex_text : List ℕ → List ℕ
@@ -17,5 +17,7 @@ printed Done = codes "ok"
 printed (Made slot) = codes "slot " ++ decimal slot
 printed (Char None) = codes "none"
 printed (Char (Some c)) = codes "char " ++ decimal c
+printed (Run None) = codes "none"
+printed (Run (Some (slot, class))) = codes "run " ++ decimal slot ++ codes " " ++ decimal class
 printed (Text kind b) = kind_name kind ++ codes " " ++ hex_text b
 printed (Refused r) = codes "refused " ++ decimal (number_of r) ++ codes " " ++ name_of r

@@ -58,6 +58,6 @@ Answered must may answer left old reply new = Outcome must may (λ reply new. (r
 abbrev pub Changed : {X : Type 0} → (Option Refusal → Type 0) → (Refusal → Type 0) → X → X → Reply → X → Type 0
 Changed must may left old reply new = Answered must may Done left old reply new
 
--- a push of y onto b, which would make the text z of them
-abbrev pub TextPushed : (List ℕ → Type 0) → List ℕ → List ℕ → List ℕ → Reply → List ℕ → Type 0
-TextPushed valid y z b reply new = Changed (BytesMust valid y (length z)) (MemoryMay (length z)) z b reply new
+-- a push onto b, which would make the text z of it
+abbrev pub TextPushed : (Option Refusal → Type 0) → List ℕ → List ℕ → Reply → List ℕ → Type 0
+TextPushed must z b reply new = Changed must (MemoryMay (length z)) z b reply new

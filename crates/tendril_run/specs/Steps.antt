@@ -1,16 +1,16 @@
-use Rattle.std.specs.Prelude.{ℕ, ◌≡◌, List, [], ◌∷◌, ◌++◌, length, slice_set, Option, None}
+use Rattle.std.specs.Prelude.{ℕ, ◌≡◌, List, [], ◌∷◌, ◌++◌, length, slice_set, Option, Some, None, MatchOption}
 use Rattle.tendril_block.specs.declared.refusal.Refusal.{Refusal}
 use Rattle.tendril_block.specs.declared.refusal.Refusal.TheVariants.{Memory}
 use Rattle.tendril_run.specs.Cells.{Cell, gone, text, valid_in, cell_at}
 use Rattle.tendril_run.specs.Edits.{EditMay}
 use Rattle.tendril_run.specs.Rules.{BytesMust, MemoryMay, CountMay, Outcome}
-use Rattle.tendril_run.specs.OneCell.{CellMust, CellSliceMust, CellCloneMay, part, PushMust, PushMay, pushed, JoinMust, JoinMay, joined, PushCharMust, encoding_of, CharsMust, char_of, char_popped, CellEditMust, edited_cell, ConversionMust, converted, Tells}
+use Rattle.tendril_run.specs.OneCell.{CellMust, CellSliceMust, CellCloneMay, part, PushMust, PushMay, pushed, JoinMust, JoinMay, joined, PushCharMust, encoding_of, CharsMust, char_of, char_popped, run_of, run_popped, RunMay, CellEditMust, edited_cell, ConversionMust, converted, Tells}
 use Rattle.tendril_run.specs.declared.change.Conversion.{Conversion}
 use Rattle.tendril_run.specs.declared.change.Conversion.TheVariants as conversion
 use Rattle.tendril_run.specs.declared.change.Edit.{Edit}
 use Rattle.tendril_run.specs.declared.change.Edit.TheVariants as edit
 use Rattle.tendril_run.specs.declared.command.Command.{Command}
-use Rattle.tendril_run.specs.declared.command.Command.TheVariants.{New, FromBytes, PushBytes, PushTendril, PushChar, Slice, PopFront, PopBack, PopChar, Clone, Clear, Reserve, Reinterpret, ToSuperset, ToSubset, Text, Drop}
+use Rattle.tendril_run.specs.declared.command.Command.TheVariants.{New, FromBytes, PushBytes, PushTendril, PushChar, Slice, PopFront, PopBack, PopChar, PopRun, Clone, Clear, Reserve, Reinterpret, ToSuperset, ToSubset, Text, Drop}
 use Rattle.tendril_run.specs.declared.command.Reply.{Reply}
 use Rattle.tendril_run.specs.declared.command.Reply.TheVariants as reply
 
@@ -25,6 +25,7 @@ Must old (Slice slot offset count) must = CellSliceMust (cell_at old slot) offse
 Must old (PopFront slot count) must = CellEditMust (cell_at old slot) (edit.PopFront count) must
 Must old (PopBack slot count) must = CellEditMust (cell_at old slot) (edit.PopBack count) must
 Must old (PopChar slot) must = CharsMust (cell_at old slot) must
+Must old (PopRun slot) must = CharsMust (cell_at old slot) must
 Must old (Clone slot) must = CellMust (cell_at old slot) must
 Must old (Clear slot) must = CellEditMust (cell_at old slot) edit.Clear must
 Must old (Reserve slot more) must = CellEditMust (cell_at old slot) (edit.Reserve more) must
@@ -35,16 +36,17 @@ Must old (Text slot) must = CellMust (cell_at old slot) must
 Must old (Drop slot) must = CellMust (cell_at old slot) must
 
 -- the refusals that no state rules out: memory that is wanting, and a count that is full
-abbrev pub May : List Cell → Command → Refusal → Type 0
-May old (FromBytes kind y) r = MemoryMay (length y) r
-May old (PushBytes slot y) r = PushMay (cell_at old slot) y r
-May old (PushTendril to from) r = JoinMay to from (cell_at old to) (cell_at old from) r
-May old (PushChar slot c) r = PushMay (cell_at old slot) (encoding_of (cell_at old slot) c) r
-May old (Slice slot offset count) r = CountMay count r
-May old (Clone slot) r = CellCloneMay (cell_at old slot) r
-May old (Reserve slot more) r = r ≡ Memory
-May old (Text slot) r = r ≡ Memory
-May old command r = ⊥
+abbrev pub May : (ℕ → ℕ) → List Cell → Command → Refusal → Type 0
+May class old (FromBytes kind y) r = MemoryMay (length y) r
+May class old (PushBytes slot y) r = PushMay (cell_at old slot) y r
+May class old (PushTendril to from) r = JoinMay to from (cell_at old to) (cell_at old from) r
+May class old (PushChar slot c) r = PushMay (cell_at old slot) (encoding_of (cell_at old slot) c) r
+May class old (Slice slot offset count) r = CountMay count r
+May class old (PopRun slot) r = RunMay class (cell_at old slot) r
+May class old (Clone slot) r = CellCloneMay (cell_at old slot) r
+May class old (Reserve slot more) r = r ≡ Memory
+May class old (Text slot) r = r ≡ Memory
+May class old command r = ⊥
 
 -- the reply names the new last cell
 abbrev pub Adds : List Cell → Cell → Reply → List Cell → Type 0
@@ -57,6 +59,13 @@ Leaves old slot said cell answer new = (answer ≡ said) × (new ≡ slice_set o
 -- one cell becomes another, and that is done
 abbrev pub Becomes : List Cell → ℕ → Cell → Reply → List Cell → Type 0
 Becomes old slot cell answer new = Leaves old slot reply.Done cell answer new
+
+-- the run at the front of a cell moves into a new last cell, and its place and class are answered, where there is one
+abbrev pub TakesRun : (ℕ → ℕ) → List Cell → ℕ → Reply → List Cell → Type 0
+TakesRun class old slot answer new =
+    MatchOption (char_of (cell_at old slot))
+    ((answer ≡ reply.Run None) × (new ≡ old))
+    (λ c. (answer ≡ reply.Run (Some (length old, class c))) × (new ≡ slice_set old slot (run_popped class (cell_at old slot)) ++ run_of class (cell_at old slot) ∷ []))
 
 -- an edit of one cell of a table
 abbrev pub TableEdited : List Cell → ℕ → Edit → Reply → List Cell → Type 0
@@ -77,6 +86,7 @@ Effect class old (Slice slot offset count) answer new = Adds old (part (cell_at 
 Effect class old (PopFront slot count) answer new = Becomes old slot (edited_cell (cell_at old slot) (edit.PopFront count)) answer new
 Effect class old (PopBack slot count) answer new = Becomes old slot (edited_cell (cell_at old slot) (edit.PopBack count)) answer new
 Effect class old (PopChar slot) answer new = Leaves old slot (reply.Char (char_of (cell_at old slot))) (char_popped (cell_at old slot)) answer new
+Effect class old (PopRun slot) answer new = TakesRun class old slot answer new
 Effect class old (Clone slot) answer new = Adds old (cell_at old slot) answer new
 Effect class old (Clear slot) answer new = Becomes old slot (edited_cell (cell_at old slot) edit.Clear) answer new
 Effect class old (Reserve slot more) answer new = Becomes old slot (edited_cell (cell_at old slot) (edit.Reserve more)) answer new
@@ -88,4 +98,4 @@ Effect class old (Drop slot) answer new = Becomes old slot gone answer new
 
 -- one command: from the cells before it to its reply and the cells after it
 abbrev pub Step : (ℕ → ℕ) → List Cell → Command → Reply → List Cell → Type 0
-Step class old command answer new = Outcome (Must old command) (May old command) (Effect class old command) old answer new
+Step class old command answer new = Outcome (Must old command) (May class old command) (Effect class old command) old answer new

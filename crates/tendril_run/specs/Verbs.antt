@@ -4,7 +4,7 @@ use Rattle.tendril_run.specs.declared.command.Kind.{Kind}
 use Rattle.tendril_run.specs.declared.command.Command.{Command}
 use Rattle.tendril_run.specs.declared.command.Command.TheVariants as command
 use Rattle.tendril_run.specs.declared.words.Verb.{Verb}
-use Rattle.tendril_run.specs.declared.words.Verb.TheVariants.{New, From, Push, Join, Char, Slice, Front, Back, Pop, Clone, Clear, Reserve, As, Up, Down, Text, Drop}
+use Rattle.tendril_run.specs.declared.words.Verb.TheVariants.{New, From, Push, Join, Char, Slice, Front, Back, Pop, Run, Clone, Clear, Reserve, As, Up, Down, Text, Drop}
 
 -- the first word of a command's line
 abbrev pub verb_name : Verb → List ℕ
@@ -17,6 +17,7 @@ verb_name Slice = codes "slice"
 verb_name Front = codes "front"
 verb_name Back = codes "back"
 verb_name Pop = codes "pop"
+verb_name Run = codes "run"
 verb_name Clone = codes "clone"
 verb_name Clear = codes "clear"
 verb_name Reserve = codes "reserve"
@@ -37,6 +38,7 @@ Reads Slice args c = (x : ℕ × ℕ × ℕ) × (c ≡ command.Slice x.0 x.1 x.2
 Reads Front args c = (x : ℕ × ℕ) × (c ≡ command.PopFront x.0 x.1) × AreWords (number x.0 ∷ number x.1 ∷ []) args
 Reads Back args c = (x : ℕ × ℕ) × (c ≡ command.PopBack x.0 x.1) × AreWords (number x.0 ∷ number x.1 ∷ []) args
 Reads Pop args c = (x : ℕ) × (c ≡ command.PopChar x) × AreWords (number x ∷ []) args
+Reads Run args c = (x : ℕ) × (c ≡ command.PopRun x) × AreWords (number x ∷ []) args
 Reads Clone args c = (x : ℕ) × (c ≡ command.Clone x) × AreWords (number x ∷ []) args
 Reads Clear args c = (x : ℕ) × (c ≡ command.Clear x) × AreWords (number x ∷ []) args
 Reads Reserve args c = (x : ℕ × ℕ) × (c ≡ command.Reserve x.0 x.1) × AreWords (number x.0 ∷ number x.1 ∷ []) args

@@ -71,6 +71,8 @@ pub enum Command {
     PopBack(usize, u32),
     /// The first character is taken out of the slot's text.
     PopChar(usize),
+    /// A new slot with the longest run of characters of one class at the front of the slot's text, which loses them.
+    PopRun(usize),
     /// A new slot with the same text.
     Clone(usize),
     /// The slot's text becomes empty.
@@ -98,6 +100,8 @@ pub enum Reply {
     Made(usize),
     /// The character, `None` where the text is empty.
     Char(Option<char>),
+    /// The new slot with the run, and the run's class, `None` where the text is empty.
+    Run(Option<(usize, u32)>),
     /// The text.
     Text(Kind, ByteList),
     /// It is refused, and nothing has changed.

@@ -15,8 +15,8 @@ use tendril::block::Refusal;
 ///
 /// The words of a line are parted by one space each. A slot, an offset or a length is a decimal number up to
 /// 4294967295 without leading zeros; bytes are hexadecimal digits in either case, or `-` for none:
-/// `new F`, `from F H`, `push S H`, `join S S`, `char S C`, `slice S O L`, `front S N`, `back S N`, `pop S`, `clone S`, `clear S`,
-/// `reserve S N`, `as S F`, `up S F`, `down S F`, `text S`, `drop S`.
+/// `new F`, `from F H`, `push S H`, `join S S`, `char S C`, `slice S O L`, `front S N`, `back S N`, `pop S`, `run S`,
+/// `clone S`, `clear S`, `reserve S N`, `as S F`, `up S F`, `down S F`, `text S`, `drop S`.
 pub fn parse_line(alloc: Global, line: &[u8]) -> Result<Option<Command>, Refusal>
     ensures found { IfOk result (λ found. (c : _) → (found ≡ Some c) ↔ IsLine c line.now) }
     ensures refusal { IfErr result (λ r. r ≡ Refusal.Memory) }
@@ -67,6 +67,7 @@ fn read(alloc: Global, verb: Verb, arguments: &[&[u8]]) -> Result<Option<Command
         ))),
         Verb::Back => Ok(two_numbers(arguments).map(|(slot, count)| Command::PopBack(slot, count))),
         Verb::Pop => Ok(one_number(arguments).map(|slot| Command::PopChar(slot))),
+        Verb::Run => Ok(one_number(arguments).map(|slot| Command::PopRun(slot))),
         Verb::Clone => Ok(one_number(arguments).map(|slot| Command::Clone(slot))),
         Verb::Clear => Ok(one_number(arguments).map(|slot| Command::Clear(slot))),
         Verb::Reserve => Ok(two_numbers(arguments).map(|(slot, more)| Command::Reserve(

@@ -8,8 +8,8 @@ use crate::command::{Kind, Reply};
 use std::alloc::{AllocError, Global};
 use tendril::block::Refusal;
 
-/// A reply's line, without its line feed: `ok`, `slot N`, `char C`, `none`, a format's name with the bytes in lower-case digits or `-`,
-/// or `refused N Name`.
+/// A reply's line, without its line feed: `ok`, `slot N`, `char C`, `run N K`, `none`, a format's name with the bytes in
+/// lower-case digits or `-`, or `refused N Name`.
 pub fn print_reply(alloc: Global, reply: &Reply) -> Result<String, Refusal>
     ensures printed { IfOk result (λ text. string_bytes text ≡ printed reply.now) }
     ensures refusal { IfErr result (λ r. r ≡ Refusal.Memory) }
@@ -23,11 +23,12 @@ fn reply_text(alloc: Global, reply: &Reply) -> Result<String, AllocError>
     match reply {
         Reply::Done => String::from_str(alloc, "ok"),
         Reply::Made(slot) => format!(in alloc; "slot {slot}"),
-        Reply::Char(None) => String::from_str(alloc, "none"),
+        Reply::Char(None) | Reply::Run(None) => String::from_str(alloc, "none"),
         Reply::Char(Some(character)) => {
             let number = *character as u32;
             format!(in alloc; "char {number}")
         }
+        Reply::Run(Some((slot, class))) => run_text(alloc, *slot, *class),
         Reply::Text(kind, bytes) => {
             let name = name_of_kind(*kind);
             let digits = hex_of(alloc, bytes.as_slice())?;
@@ -35,6 +36,12 @@ fn reply_text(alloc: Global, reply: &Reply) -> Result<String, AllocError>
         }
         Reply::Refused(refusal) => refused_text(alloc, refusal.number(), refusal.name()),
     }
+}
+
+fn run_text(alloc: Global, slot: usize, class: u32) -> Result<String, AllocError>
+    ensures { IfOk result (λ text. string_bytes text ≡ codes "run " ++ decimal slot ++ codes " " ++ decimal class) }
+{
+    format!(in alloc; "run {slot} {class}")
 }
 
 fn refused_text(alloc: Global, number: u8, name: &str) -> Result<String, AllocError>

@@ -1,11 +1,12 @@
 //! One slot of a table. The format is picked here, once for each call; `text` is generic in it.
-ghost use Rattle.std.specs.Prelude.{◌≡◌, ◌⊎◌, ℕ, [], length, IfOk, IfErr, None, Some};
+ghost use Rattle.std.specs.Prelude.{◌≡◌, ◌⊎◌, ℕ, [], length, IfOk, IfErr, OnErr, MatchOption, None, Some};
 ghost use Rattle.tendril_run.specs.CellOf.{cell_of};
 ghost use Rattle.tendril_run.specs.Cells.{IsCell, text as text_cell, valid_in};
-ghost use Rattle.tendril_run.specs.OneCell.{CellPushed, CellCharPushed, CellCharPopped, CellJoined, CellEdited, CellConverted, CellDropped, CellTold, CellMust, CellSliceMust, CellCloneMay, ConversionMust, converted, part};
+ghost use Rattle.tendril_run.specs.OneCell.{CellPushed, CellCharPushed, CellCharPopped, CellJoined, CellEdited, CellConverted, CellDropped, CellTold, CellMust, CharsMust, char_of, RunMay, IsRunOf, CellSliceMust, CellCloneMay, ConversionMust, converted, part};
 ghost use Rattle.tendril_run.specs.Rules.{BytesMust, MemoryMay, CountMay};
 
 use crate::change::{Conversion, Edit};
+use crate::classifier::Classifier;
 use crate::command::{ByteList, Kind, Reply};
 use crate::text;
 use std::alloc::Global;
@@ -67,7 +68,20 @@ macro_rules! on_characters {
     };
 }
 
-// The same, for what gives a text of the same format.
+// A run of the text with its class, where its format has characters.
+macro_rules! run_like_text {
+    ($slot:expr, $text:ident => $body:expr) => {
+        match $slot {
+            Slot::Ascii($text) => Ok($body?.map(|(run, class)| (Slot::Ascii(run), class))),
+            Slot::Utf8($text) => Ok($body?.map(|(run, class)| (Slot::Utf8(run), class))),
+            Slot::Latin1($text) => Ok($body?.map(|(run, class)| (Slot::Latin1(run), class))),
+            Slot::Bytes(_) | Slot::Wtf8(_) => Err(Refusal::WrongFormat),
+            Slot::Gone => Err(Refusal::NoSuchSlot),
+        }
+    };
+}
+
+// The same as `on_text`, for what gives a text of the same format.
 macro_rules! like_text {
     ($slot:expr, $text:ident => $body:expr, $gone:expr) => {
         match $slot {
@@ -81,7 +95,7 @@ macro_rules! like_text {
     };
 }
 
-// The same, for what takes the text and gives another slot, or the text back.
+// The same as `on_text`, for what takes the text and gives another slot, or the text back.
 macro_rules! from_text {
     ($slot:expr, $text:ident => $body:expr, $refusal:expr, $gone:expr) => {
         match $slot {
@@ -182,6 +196,31 @@ impl<A: Atomicity> Slot<A> {
         let reply = on_characters!(self, text => text::pop_char(text));
         let _kind = self.kind();
         reply
+    }
+
+    /// Takes the longest run of characters of one class out of the front of the text, with the class.
+    pub(crate) fn pop_run<C: Classifier>(
+        &mut self,
+        classifier: &C,
+    ) -> Result<Option<(Self, u32)>, Refusal>
+        ensures must { IfOk result (λ found. CharsMust (cell_of self.old) None) }
+        ensures ok { IfOk result (λ found. MatchOption found ((char_of (cell_of self.old) ≡ None) × (cell_of self.new ≡ cell_of self.old)) (λ run. IsRunOf (C.class classifier.now) (cell_of self.old) run.1 (cell_of run.0) (cell_of self.new))) }
+        ensures refusal { IfErr result (λ r. CharsMust (cell_of self.old) (Some r) ⊎ (CharsMust (cell_of self.old) None × RunMay (C.class classifier.now) (cell_of self.old) r)) }
+        ensures err { OnErr result (cell_of self.new ≡ cell_of self.old) }
+        ensures valid { IsCell (cell_of self.new) }
+    {
+        let popped = self.popped_run(classifier);
+        let _kind = self.kind();
+        popped
+    }
+
+    fn popped_run<C: Classifier>(&mut self, classifier: &C) -> Result<Option<(Self, u32)>, Refusal>
+        ensures must { IfOk result (λ found. CharsMust (cell_of self.old) None) }
+        ensures ok { IfOk result (λ found. MatchOption found ((char_of (cell_of self.old) ≡ None) × (cell_of self.new ≡ cell_of self.old)) (λ run. IsRunOf (C.class classifier.now) (cell_of self.old) run.1 (cell_of run.0) (cell_of self.new))) }
+        ensures refusal { IfErr result (λ r. CharsMust (cell_of self.old) (Some r) ⊎ (CharsMust (cell_of self.old) None × RunMay (C.class classifier.now) (cell_of self.old) r)) }
+        ensures err { OnErr result (cell_of self.new ≡ cell_of self.old) }
+    {
+        run_like_text!(self, text => text::pop_run(text, classifier))
     }
 
     /// Puts the text of another slot at the end of the text.

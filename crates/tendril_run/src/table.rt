@@ -91,9 +91,9 @@ impl<A: Atomicity> Table<A> {
     }
 
     /// Carries out one command, where there is room for the slot that it may make.
-    pub fn step<C: Classifier>(&mut self, command: &Command, _classifier: &C) -> Reply
+    pub fn step<C: Classifier>(&mut self, command: &Command, classifier: &C) -> Reply
         requires { 1 ≤ self.old.room }
-        ensures step { Step (C.class _classifier.now) self.old.cells command.now result self.new.cells }
+        ensures step { Step (C.class classifier.now) self.old.cells command.now result self.new.cells }
         ensures room { self.old.room ≤ self.new.room + 1 }
     {
         match command {
@@ -106,6 +106,7 @@ impl<A: Atomicity> Table<A> {
             Command::PopFront(slot, count) => self.edit(*slot, Edit::PopFront(*count)),
             Command::PopBack(slot, count) => self.edit(*slot, Edit::PopBack(*count)),
             Command::PopChar(slot) => self.pop_char(*slot),
+            Command::PopRun(slot) => self.pop_run(*slot, classifier),
             Command::Clone(slot) => self.clone_slot(*slot),
             Command::Clear(slot) => self.edit(*slot, Edit::Clear),
             Command::Reserve(slot, more) => self.edit(*slot, Edit::Reserve(*more)),
@@ -189,6 +190,33 @@ impl<A: Atomicity> Table<A> {
             return gone();
         }
         self.slots[slot].pop_char()
+    }
+
+    fn pop_run<C: Classifier>(&mut self, slot: usize, classifier: &C) -> Reply
+        requires { 1 ≤ self.old.room }
+        ensures step { Step (C.class classifier.now) self.old.cells (Command.PopRun slot) result self.new.cells }
+        ensures room { self.old.room ≤ self.new.room + 1 }
+    {
+        if slot >= self.slots.len() {
+            return gone();
+        }
+        match self.slots[slot].pop_run(classifier) {
+            Ok(None) => Reply::Run(None),
+            Ok(Some((run, class))) => self.add_run(run, class),
+            Err(refusal) => Reply::Refused(refusal),
+        }
+    }
+
+    // Puts a run at the end, where there is room.
+    fn add_run(&mut self, run: Slot<A>, class: u32) -> Reply
+        requires { 1 ≤ self.old.room }
+        ensures reply { result ≡ Reply.Run (Some (length self.old.cells, class)) }
+        ensures cells { self.new.cells ≡ self.old.cells ++ cell_of run ∷ [] }
+        ensures room { self.old.room ≤ self.new.room + 1 }
+    {
+        let number = self.slots.len();
+        self.add(run);
+        Reply::Run(Some((number, class)))
     }
 
     fn join(&mut self, to: usize, from: usize) -> Reply

@@ -160,6 +160,8 @@ fn lines_of_no_command(rt: HostRuntime) -> Result<(), Fail> {
         b"join 0 0 0",
         b"char 0 57343",
         b"pop 0 1",
+        b"run",
+        b"run 0 1",
         b"front 0",
         b"back 0 ",
         b"clear",

@@ -1,14 +1,15 @@
 //! What commands do to a text, in any format.
-ghost use Rattle.std.specs.Prelude.{◌≡◌, ◌<◌, ◌⊎◌, ◌↔◌, length, take, drop, IsTrue, IfOk, IfErr, OnOk, None, Some};
+ghost use Rattle.std.specs.Prelude.{◌≡◌, ◌<◌, ◌⊎◌, ◌↔◌, length, take, drop, IsTrue, IfOk, IfErr, OnOk, OnErr, MatchOption, [], None, Some};
 ghost use Rattle.tendril.specs.Errors.{refusal_of};
 ghost use Rattle.tendril_run.specs.CellOf.{cell_of};
 ghost use Rattle.tendril_run.specs.Cells.{text as text_cell, valid_in};
-ghost use Rattle.tendril_run.specs.Characters.{first_of, without_first};
+ghost use Rattle.tendril_run.specs.Characters.{first_of, without_first, run_bytes, IsFirstRun};
 ghost use Rattle.tendril_run.specs.Edits.{TextEdited};
 ghost use Rattle.tendril_run.specs.OneCell.{CellTold};
 ghost use Rattle.tendril_run.specs.Rules.{TextPushed, Answered, Changed, LengthMust, CharMust, BytesMust, MemoryMay, SliceMust, CountMay};
 
 use crate::change::Edit;
+use crate::classifier::Classifier;
 use crate::command::{ByteList, Kind, Reply};
 use crate::slot::Slot;
 use std::alloc::Global;
@@ -29,12 +30,9 @@ pub(crate) fn from_bytes<F: Format, A: Atomicity>(
 
 /// Puts bytes at the end of the text.
 pub(crate) fn push<F: Format, A: Atomicity>(text: &mut Tendril<F, A>, bytes: &ByteList) -> Reply
-    ensures { TextPushed F.valid bytes.now (F.join text.old.bytes bytes.now) text.old.bytes result text.new.bytes }
+    ensures { TextPushed (BytesMust F.valid bytes.now (length (F.join text.old.bytes bytes.now))) (F.join text.old.bytes bytes.now) text.old.bytes result text.new.bytes }
 {
-    match text.try_push_bytes(bytes.as_slice()) {
-        Ok(()) => Reply::Done,
-        Err(refusal) => Reply::Refused(refusal),
-    }
+    reply_of(text.try_push_bytes(bytes.as_slice()))
 }
 
 /// Puts a character at the end of the text.
@@ -42,12 +40,9 @@ pub(crate) fn push_char<F: CharFormat, A: Atomicity>(
     text: &mut Tendril<F, A>,
     character: char,
 ) -> Reply
-    ensures { Changed (CharMust F.encodes character (length (F.join text.old.bytes (F.encoding character)))) (MemoryMay (length (F.join text.old.bytes (F.encoding character)))) (F.join text.old.bytes (F.encoding character)) text.old.bytes result text.new.bytes }
+    ensures { TextPushed (CharMust F.encodes character (length (F.join text.old.bytes (F.encoding character)))) (F.join text.old.bytes (F.encoding character)) text.old.bytes result text.new.bytes }
 {
-    match text.try_push_char(character) {
-        Ok(()) => Reply::Done,
-        Err(refusal) => Reply::Refused(refusal),
-    }
+    reply_of(text.try_push_char(character))
 }
 
 /// Takes the first character out of the text.
@@ -57,14 +52,23 @@ pub(crate) fn pop_char<F: CharFormat, A: Atomicity>(text: &mut Tendril<F, A>) ->
     Reply::Char(text.pop_front_char())
 }
 
+/// Takes the longest run of characters of one class out of the front of the text, with the class.
+pub(crate) fn pop_run<F: CharFormat, A: Atomicity, C: Classifier>(
+    text: &mut Tendril<F, A>,
+    classifier: &C,
+) -> Result<Option<(Tendril<F, A>, u32)>, Refusal>
+    ensures ok { IfOk result (λ found. MatchOption found ((F.chars text.old.bytes ≡ []) × (text.new.bytes ≡ text.old.bytes)) (λ run. IsFirstRun F.chars F.encoding (C.class classifier.now) text.old.bytes run.1 run.0.bytes text.new.bytes)) }
+    ensures refusal { IfErr result (λ r. CountMay (length (run_bytes F.encoding (C.class classifier.now) (F.chars text.old.bytes))) r × CountMay (length (drop (length (run_bytes F.encoding (C.class classifier.now) (F.chars text.old.bytes))) text.old.bytes)) r) }
+    ensures err { OnErr result (text.new.bytes ≡ text.old.bytes) }
+{
+    text.pop_front_char_run(|character| classifier.class_of(character))
+}
+
 /// Puts another text at the end of the text.
 pub(crate) fn join<F: Format, A: Atomicity>(text: &mut Tendril<F, A>, more: &Tendril<F, A>) -> Reply
-    ensures { Changed (LengthMust (length (F.join text.old.bytes more.now.bytes))) (MemoryMay (length (F.join text.old.bytes more.now.bytes))) (F.join text.old.bytes more.now.bytes) text.old.bytes result text.new.bytes }
+    ensures { TextPushed (LengthMust (length (F.join text.old.bytes more.now.bytes))) (F.join text.old.bytes more.now.bytes) text.old.bytes result text.new.bytes }
 {
-    match text.push_tendril(more) {
-        Ok(()) => Reply::Done,
-        Err(refusal) => Reply::Refused(refusal),
-    }
+    reply_of(text.push_tendril(more))
 }
 
 /// Puts the text at its own end. It is shared for that, where the result isn't too long.
@@ -96,20 +100,29 @@ pub(crate) fn edit<F: Format, A: Atomicity>(text: &mut Tendril<F, A>, edit: Edit
     ensures { TextEdited F.valid edit text.old.bytes result text.new.bytes }
 {
     match edit {
-        Edit::PopFront(count) => reply_of(text.try_pop_front(count)),
-        Edit::PopBack(count) => reply_of(text.try_pop_back(count)),
+        Edit::PopFront(count) => popped(text.try_pop_front(count)),
+        Edit::PopBack(count) => popped(text.try_pop_back(count)),
         Edit::Clear => {
             text.clear();
             Reply::Done
         }
-        Edit::Reserve(more) => match text.reserve(more) {
-            Ok(()) => Reply::Done,
-            Err(refusal) => Reply::Refused(refusal),
-        },
+        Edit::Reserve(more) => reply_of(text.reserve(more)),
     }
 }
 
-fn reply_of(done: Result<(), SubtendrilError>) -> Reply
+// The reply to a call that was done or refused.
+fn reply_of(done: Result<(), Refusal>) -> Reply
+    ensures ok { OnOk done (result ≡ Reply.Done) }
+    ensures err { IfErr done (λ r. result ≡ Reply.Refused r) }
+{
+    match done {
+        Ok(()) => Reply::Done,
+        Err(refusal) => Reply::Refused(refusal),
+    }
+}
+
+// The reply to a pop.
+fn popped(done: Result<(), SubtendrilError>) -> Reply
     ensures ok { OnOk done (result ≡ Reply.Done) }
     ensures err { IfErr done (λ e. result ≡ Reply.Refused (refusal_of e)) }
 {

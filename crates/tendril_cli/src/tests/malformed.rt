@@ -34,6 +34,8 @@ fn a_malformed_line_changes_nothing(rt: HostRuntime) -> Result<(), Fail> {
         char 0\n\
         pop\n\
         pop 0 0\n\
+        run\n\
+        run 0 0\n\
         set 0 0 3031\n\
         text 0 \n\
         \x20\n\
@@ -41,7 +43,7 @@ fn a_malformed_line_changes_nothing(rt: HostRuntime) -> Result<(), Fail> {
         text \xff\n\
         text 0\n";
     let mut printed = Vec::from_slice(rt.alloc(), b"slot 0\n")?;
-    for _ in 0..33 {
+    for _ in 0..35 {
         printed.extend_from_slice(b"malformed\n")?;
     }
     printed.extend_from_slice(b"utf8 3031\n")?;

@@ -13,6 +13,7 @@ fn no_such_slot(rt: HostRuntime) -> Result<(), Fail> {
         join 0 0 => refused 13 NoSuchSlot
         char 0 97 => refused 13 NoSuchSlot
         pop 0 => refused 13 NoSuchSlot
+        run 0 => refused 13 NoSuchSlot
         slice 0 0 0 => refused 13 NoSuchSlot
         front 0 0 => refused 13 NoSuchSlot
         back 0 0 => refused 13 NoSuchSlot
@@ -77,7 +78,9 @@ fn wrong_format(rt: HostRuntime) -> Result<(), Fail> {
         char 0 97 => refused 14 WrongFormat
         char 3 97 => refused 14 WrongFormat
         pop 0 => refused 14 WrongFormat
-        pop 3 => refused 14 WrongFormat",
+        pop 3 => refused 14 WrongFormat
+        run 0 => refused 14 WrongFormat
+        run 3 => refused 14 WrongFormat",
     )
 }
 

@@ -248,6 +248,44 @@ fn characters_of_one_to_four_bytes(rt: HostRuntime) -> Result<(), Fail> {
     )
 }
 
+#[test]
+fn runs_of_spaces(rt: HostRuntime) -> Result<(), Fail> {
+    check_session(
+        rt.alloc(),
+        "from utf8 20202078797a7a792020 => slot 0
+        run 0 => run 1 0
+        text 1 => utf8 202020
+        run 0 => run 2 1
+        text 2 => utf8 78797a7a79
+        run 0 => run 3 0
+        text 3 => utf8 2020
+        text 0 => utf8 -
+        run 0 => none",
+    )
+}
+
+#[test]
+fn runs_and_rests_of_seven_to_ten_bytes(rt: HostRuntime) -> Result<(), Fail> {
+    check_session(
+        rt.alloc(),
+        "from latin1 6161616161616161612062626262626262626262 => slot 0
+        clone 0 => slot 1
+        run 0 => run 2 1
+        text 2 => latin1 616161616161616161
+        text 0 => latin1 2062626262626262626262
+        run 0 => run 3 0
+        text 0 => latin1 62626262626262626262
+        run 0 => run 4 1
+        text 4 => latin1 62626262626262626262
+        text 0 => latin1 -
+        text 1 => latin1 6161616161616161612062626262626262626262
+        from ascii 6161616161616109090909090909 => slot 5
+        run 5 => run 6 1
+        text 6 => ascii 61616161616161
+        text 5 => ascii 09090909090909",
+    )
+}
+
 // Twenty commands on slots from this number on, with each command of a table among them.
 fn twenty_commands<W: Write>(
     script: &mut W,

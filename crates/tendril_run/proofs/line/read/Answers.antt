@@ -54,3 +54,6 @@ returns-in-Char c = rw c.in-Char.is (taken (λ x. AreWords (number x.0 ∷ scala
 
 pub returns-in-Pop : goal.returns-in-Pop
 returns-in-Pop c = rw c.in-Pop.is (taken (λ x. AreWords (number x ∷ []) (map (λ word. word.now) c.args.arguments.now)) (λ x. command.PopChar x) _ _ _ (λ x y q. search rules) (λ x. c.one_number.ensures x) c.map-in-Pop.ensures.cases)
+
+pub returns-in-Run : goal.returns-in-Run
+returns-in-Run c = rw c.in-Run.is (taken (λ x. AreWords (number x ∷ []) (map (λ word. word.now) c.args.arguments.now)) (λ x. command.PopRun x) _ _ _ (λ x y q. search rules) (λ x. c.one_number-in-Run.ensures x) c.map-in-Run.ensures.cases)

@@ -1,28 +1,28 @@
 use Rattle.tendril_run.proofs.table.Table.step.Goals as goal
 
 pub returns-in-New-clause-step : goal.returns-in-New-clause-step
-returns-in-New-clause-step g c = rw c.in-New.is (c.new_text.ensures.step (g.C.Classifier.class c.args._classifier.now))
+returns-in-New-clause-step g c = rw c.in-New.is (c.new_text.ensures.step (g.C.Classifier.class c.args.classifier.now))
 
 pub returns-in-FromBytes-clause-step : goal.returns-in-FromBytes-clause-step
-returns-in-FromBytes-clause-step g c = rw c.in-FromBytes.is (c.from_bytes.ensures.step (g.C.Classifier.class c.args._classifier.now))
+returns-in-FromBytes-clause-step g c = rw c.in-FromBytes.is (c.from_bytes.ensures.step (g.C.Classifier.class c.args.classifier.now))
 
 pub returns-in-PushBytes-clause-step : goal.returns-in-PushBytes-clause-step
-returns-in-PushBytes-clause-step g c = rw c.in-PushBytes.is (c.push_bytes.ensures.step (g.C.Classifier.class c.args._classifier.now))
+returns-in-PushBytes-clause-step g c = rw c.in-PushBytes.is (c.push_bytes.ensures.step (g.C.Classifier.class c.args.classifier.now))
 
 pub returns-in-Slice-clause-step : goal.returns-in-Slice-clause-step
-returns-in-Slice-clause-step g c = rw c.in-Slice.is (c.slice.ensures.step (g.C.Classifier.class c.args._classifier.now))
+returns-in-Slice-clause-step g c = rw c.in-Slice.is (c.slice.ensures.step (g.C.Classifier.class c.args.classifier.now))
 
 pub returns-in-Clone-clause-step : goal.returns-in-Clone-clause-step
-returns-in-Clone-clause-step g c = rw c.in-Clone.is (c.clone_slot.ensures.step (g.C.Classifier.class c.args._classifier.now))
+returns-in-Clone-clause-step g c = rw c.in-Clone.is (c.clone_slot.ensures.step (g.C.Classifier.class c.args.classifier.now))
 
 pub returns-in-Text-clause-step : goal.returns-in-Text-clause-step
-returns-in-Text-clause-step g c = rw c.in-Text.is (c.text.ensures (g.C.Classifier.class c.args._classifier.now))
+returns-in-Text-clause-step g c = rw c.in-Text.is (c.text.ensures (g.C.Classifier.class c.args.classifier.now))
 
 pub returns-in-Drop-clause-step : goal.returns-in-Drop-clause-step
-returns-in-Drop-clause-step g c = rw c.in-Drop.is (c.drop_slot.ensures.step (g.C.Classifier.class c.args._classifier.now))
+returns-in-Drop-clause-step g c = rw c.in-Drop.is (c.drop_slot.ensures.step (g.C.Classifier.class c.args.classifier.now))
 
 pub returns-in-PushTendril-clause-step : goal.returns-in-PushTendril-clause-step
-returns-in-PushTendril-clause-step g c = rw c.in-PushTendril.is (c.join.ensures.step (g.C.Classifier.class c.args._classifier.now))
+returns-in-PushTendril-clause-step g c = rw c.in-PushTendril.is (c.join.ensures.step (g.C.Classifier.class c.args.classifier.now))
 
 pub returns-in-PopFront-clause-step : goal.returns-in-PopFront-clause-step
 returns-in-PopFront-clause-step g c = rw c.in-PopFront.is (c.edit.ensures.edited)
@@ -46,7 +46,10 @@ pub returns-in-ToSubset-clause-step : goal.returns-in-ToSubset-clause-step
 returns-in-ToSubset-clause-step g c = rw c.in-ToSubset.is (c.convert-in-ToSubset.ensures.converted)
 
 pub returns-in-PushChar-clause-step : goal.returns-in-PushChar-clause-step
-returns-in-PushChar-clause-step g c = rw c.in-PushChar.is (c.push_char.ensures.step (g.C.Classifier.class c.args._classifier.now))
+returns-in-PushChar-clause-step g c = rw c.in-PushChar.is (c.push_char.ensures.step (g.C.Classifier.class c.args.classifier.now))
 
 pub returns-in-PopChar-clause-step : goal.returns-in-PopChar-clause-step
-returns-in-PopChar-clause-step g c = rw c.in-PopChar.is (c.pop_char.ensures.step (g.C.Classifier.class c.args._classifier.now))
+returns-in-PopChar-clause-step g c = rw c.in-PopChar.is (c.pop_char.ensures.step (g.C.Classifier.class c.args.classifier.now))
+
+pub returns-in-PopRun-clause-step : goal.returns-in-PopRun-clause-step
+returns-in-PopRun-clause-step g c = rw c.in-PopRun.is (c.pop_run.ensures.step)
