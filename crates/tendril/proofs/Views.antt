@@ -1,5 +1,5 @@
-use Rattle.std.proofs.Common.{◌≡◌, ℕ, ◌+◌, ◌-◌, ◌≤◌, List, ◌++◌, length, take, drop, ap, sym, ◌∙◌, arith, append_assoc, length-append}
-use Rattle.std.proofs.lemmas.List.{drop-take, drop-drop, take-take, drop-append-le, length-drop, length-take-le}
+use Rattle.std.proofs.Common.{◌≡◌, ℕ, ◌+◌, ◌-◌, ◌≤◌, List, ◌++◌, length, take, drop, replicate, ap, sym, ◌∙◌, arith, append_assoc, length-append}
+use Rattle.std.proofs.lemmas.List.{drop-take, drop-drop, take-take, drop-append-le, length-drop, length-replicate, length-take-le}
 use Rattle.std.proofs.Math.Seq.{take-length}
 
 -- so many bytes stand inline as it says
@@ -24,6 +24,20 @@ view_replaced o l keep xs ys h k =
     let long : length (take keep (drop o xs) ++ ys) ≡ keep + length ys = length-append (take keep (drop o xs)) ys ∙ ap (λ n. n + length ys) (view_length o keep xs (omega arith)) in
     ap (take (keep + length ys)) split ∙ ap (λ n. take n (take keep (drop o xs) ++ ys)) (sym long) ∙ take-length (take keep (drop o xs) ++ ys) ∙ ap (λ v. v ++ ys) (sym (take-take keep l (drop o xs) k))
 
+-- a view of a block whose bytes up to the view's end are kept
+pub view_kept : (o l : ℕ) (xs ys : List ℕ) → take (o + l) xs ≡ take (o + l) ys → take l (drop o xs) ≡ take l (drop o ys)
+view_kept o l xs ys e =
+    let cut : (zs : List ℕ) → take l (drop o (take (o + l) zs)) ≡ take l (drop o zs) = λ zs. ap (take l) (drop-take o l zs) ∙ take-take l l (drop o zs) (omega arith) in
+    sym (cut xs) ∙ ap (λ zs. take l (drop o zs)) e ∙ cut ys
+
+-- a view of a block to which equal bytes were added behind it
+pub view_filled : (o l n x : ℕ) (xs : List ℕ) → o + l ≤ length xs → take (l + n) (drop o (take (o + l) xs ++ replicate n x)) ≡ take l (drop o xs) ++ replicate n x
+view_filled o l n x xs h =
+    let ys : List ℕ = replicate n x in
+    ap (λ k. take (l + k) (drop o (take (o + l) xs ++ ys))) (sym (length-replicate n x)) ∙ view_replaced o l l xs ys h (omega arith) ∙ ap (λ v. v ++ ys) (take-take l l (drop o xs) (omega arith))
+
 pub ruleset slices = (inline_length, view_length, view_part)
 
 pub ruleset replaces = (inline_length, view_length, view_replaced, length-append, append_assoc)
+
+pub ruleset fills = (inline_length, view_length, view_kept, view_filled)

@@ -4,6 +4,7 @@
 
 mod chars;
 mod error;
+mod items;
 mod storage;
 mod tendril;
 mod view;

@@ -3,7 +3,9 @@ ghost use Rattle.std.specs.Prelude.{◌≡◌, ◌≤◌, ◌+◌, ◌++◌, [],
 
 mod grow;
 mod make;
+mod over;
 mod part;
+mod zeros;
 
 use std::alloc::Global;
 use std::cell::Cell;
@@ -100,6 +102,20 @@ impl<A: Atomicity> Storage<A> {
             Held::Inline { .. } => false,
             Held::View { shared, .. } => shared.get(),
         }
+    }
+
+    /// Where the bytes stand, in a word: `inline`, or in a block that is `shared` or `owned`.
+    pub(crate) fn kind(&self) -> &'static str {
+        match &self.held {
+            Held::Inline { .. } => "inline",
+            Held::View { shared, .. } if shared.get() => "shared",
+            Held::View { .. } => "owned",
+        }
+    }
+
+    /// What new blocks are made with.
+    pub(crate) fn allocator(&self) -> Global {
+        self.alloc
     }
 }
 

@@ -5,14 +5,21 @@
 ghost use Rattle.std.specs.Prelude.{◌≡◌, ◌<◌, ◌≤◌, [], length, IfOk, IfErr, OnOk};
 ghost use Rattle.tendril.specs.Refusals.{BytesRefused, LengthRefused};
 
+mod bytes;
+mod compare;
 mod convert;
+mod lent;
+mod print;
 mod push;
 mod slice;
+mod string_values;
 mod strings;
+mod write;
 
 use crate::storage::Storage;
 pub(crate) use slice::{share, try_part};
 use std::alloc::Global;
+use std::default::MadeWith;
 use std::marker::{Model, PhantomData};
 pub use strings::{slice_to_tendril, str_to_tendril};
 use tendril_block::{Atomicity, MAX_LEN, NonAtomic, Refusal};
@@ -41,6 +48,14 @@ impl<F: Format, A: Atomicity> Model for Tendril<F, A> {
     ghost view = { λ t. t.storage };
 
     ghost invariant = { λ t. F.valid t.storage.bytes };
+}
+
+impl<F: Format, A: Atomicity> MadeWith<Global> for Tendril<F, A> {
+    ghost is_made_with = { λ t. (t.bytes ≡ []) × (t.copied ≡ 0) };
+
+    fn made_with(alloc: Global) -> Self {
+        Tendril::new(alloc)
+    }
 }
 
 impl<F: Format, A: Atomicity> Tendril<F, A> {

@@ -6,8 +6,5 @@ mod classified;
 mod formats;
 mod joined;
 mod parts;
-mod runs;
-mod slices;
 mod table;
-mod texts;
 mod valid;

@@ -1,5 +1,5 @@
 //! The bytes of a block, as the one holder that may change them sees them.
-ghost use Rattle.std.specs.Prelude.{◌≡◌, ℕ, ◌+◌, ◌<◌, ◌≤◌, ◌++◌, length, take, slice_set, vec_len, vec_capacity, IfErr, OnOk, OnErr};
+ghost use Rattle.std.specs.Prelude.{◌≡◌, ℕ, ◌+◌, ◌<◌, ◌≤◌, ◌++◌, length, take, replicate, slice_set, vec_len, vec_capacity, IfErr, OnOk, OnErr};
 
 use crate::copied::Copied;
 use crate::refusal::Refusal;
@@ -76,6 +76,23 @@ impl Body {
         match self.bytes.extend_from_slice(more) {
             Ok(()) => {
                 self.took = self.took.plus(&self.took, &self.took, more.len());
+                Ok(())
+            }
+            Err(_) => Err(Refusal::Memory),
+        }
+    }
+
+    /// Puts so many zeros at the end, in amortized time of their number.
+    pub fn append_zeros(&mut self, count: usize) -> Result<(), Refusal>
+        ensures bytes { OnOk result (self.new.bytes ≡ self.old.bytes ++ replicate count 0) }
+        ensures took { OnOk result (self.new.took ≡ self.old.took + count) }
+        ensures refusal { IfErr result (λ r. r ≡ Refusal.Memory) }
+        ensures err { OnErr result (self.new ≡ self.old) }
+    {
+        let len = self.bytes.len().checked_add(count).ok_or(Refusal::Memory)?;
+        match self.bytes.resize(len, 0) {
+            Ok(()) => {
+                self.took = self.took.plus(&self.took, &self.took, count);
                 Ok(())
             }
             Err(_) => Err(Refusal::Memory),

@@ -6,7 +6,7 @@ use Rattle.tendril_block.specs.declared.refusal.Refusal.{Refusal}
 use Rattle.tendril_run.specs.Cells.{Cell, IsCell, gone, cell_at}
 use Rattle.tendril_run.specs.Rules.{Outcome, Answered, Changed}
 use Rattle.tendril_run.specs.declared.command.Reply.{Reply}
-use Rattle.tendril_run.specs.declared.command.Reply.TheVariants.{Done, Made, Char, Run, Text, Refused}
+use Rattle.tendril_run.specs.declared.command.Reply.TheVariants.{Done, Made, Char, Run, Compared, Text, Refused}
 
 -- one cell of a table was old, and after it is new
 pub record OneChanged (cells : List Cell) (slot : ℕ) (old new : Cell) (after : List Cell) : Type 0 where
@@ -48,6 +48,7 @@ table_answered must may answer effect cells slot old new after Done one h = chan
 table_answered must may answer effect cells slot old new after (Made n) one h = changed must answer effect cells slot old new after (Made n) one h
 table_answered must may answer effect cells slot old new after (Char c) one h = changed must answer effect cells slot old new after (Char c) one h
 table_answered must may answer effect cells slot old new after (Run found) one h = changed must answer effect cells slot old new after (Run found) one h
+table_answered must may answer effect cells slot old new after (Compared order) one h = changed must answer effect cells slot old new after (Compared order) one h
 table_answered must may answer effect cells slot old new after (Text kind z) one h = changed must answer effect cells slot old new after (Text kind z) one h
 
 -- the change of one cell is that of its table

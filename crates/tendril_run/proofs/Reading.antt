@@ -4,7 +4,7 @@ use Rattle.std.specs.Option.{MatchOption, IsSomeAnd}
 use Rattle.tendril_run.specs.Lines.{AreWords, words_of}
 use Rattle.tendril_run.specs.Verbs.{Reads, verb_name}
 use Rattle.tendril_run.specs.declared.command.Command.{Command}
-use Rattle.tendril_run.specs.declared.command.Command.TheVariants.{New, FromBytes, PushBytes, PushTendril, PushChar, Slice, PopFront, PopBack, PopChar, PopRun, Clone, Clear, Reserve, Reinterpret, ToSuperset, ToSubset, Text, Drop}
+use Rattle.tendril_run.specs.declared.command.Command.TheVariants.{New, FromBytes, PushBytes, PushTendril, PushChar, PushZeros, Slice, PopFront, PopBack, PopChar, PopRun, Clone, Clear, Reserve, Reinterpret, ToSuperset, ToSubset, WriteByte, Compare, Text, Drop}
 use Rattle.tendril_run.specs.declared.words.Verb.{Verb}
 use Rattle.tendril_run.specs.declared.words.Verb.TheVariants as verb
 
@@ -24,6 +24,7 @@ to_verb (FromBytes kind b) word args h = (verb.From, h.0, ((kind, b), refl, h.1)
 to_verb (PushBytes slot b) word args h = (verb.Push, h.0, ((slot, b), refl, h.1))
 to_verb (PushTendril to from) word args h = (verb.Join, h.0, ((to, from), refl, h.1))
 to_verb (PushChar slot c) word args h = (verb.Char, h.0, ((slot, c), refl, h.1))
+to_verb (PushZeros slot count) word args h = (verb.Zeros, h.0, ((slot, count), refl, h.1))
 to_verb (Slice slot offset length) word args h = (verb.Slice, h.0, ((slot, offset, length), refl, h.1))
 to_verb (PopFront slot count) word args h = (verb.Front, h.0, ((slot, count), refl, h.1))
 to_verb (PopBack slot count) word args h = (verb.Back, h.0, ((slot, count), refl, h.1))
@@ -35,6 +36,8 @@ to_verb (Reserve slot more) word args h = (verb.Reserve, h.0, ((slot, more), ref
 to_verb (Reinterpret slot kind) word args h = (verb.As, h.0, ((slot, kind), refl, h.1))
 to_verb (ToSuperset slot kind) word args h = (verb.Up, h.0, ((slot, kind), refl, h.1))
 to_verb (ToSubset slot kind) word args h = (verb.Down, h.0, ((slot, kind), refl, h.1))
+to_verb (WriteByte slot index b) word args h = (verb.Set, h.0, ((slot, index, b), refl, h.1))
+to_verb (Compare first second) word args h = (verb.Compare, h.0, ((first, second), refl, h.1))
 to_verb (Text slot) word args h = (verb.Text, h.0, (slot, refl, h.1))
 to_verb (Drop slot) word args h = (verb.Drop, h.0, (slot, refl, h.1))
 
@@ -44,6 +47,7 @@ from_verb verb.From args c (x, e, p) = rw e (refl, p)
 from_verb verb.Push args c (x, e, p) = rw e (refl, p)
 from_verb verb.Join args c (x, e, p) = rw e (refl, p)
 from_verb verb.Char args c (x, e, p) = rw e (refl, p)
+from_verb verb.Zeros args c (x, e, p) = rw e (refl, p)
 from_verb verb.Slice args c (x, e, p) = rw e (refl, p)
 from_verb verb.Front args c (x, e, p) = rw e (refl, p)
 from_verb verb.Back args c (x, e, p) = rw e (refl, p)
@@ -55,6 +59,8 @@ from_verb verb.Reserve args c (x, e, p) = rw e (refl, p)
 from_verb verb.As args c (x, e, p) = rw e (refl, p)
 from_verb verb.Up args c (x, e, p) = rw e (refl, p)
 from_verb verb.Down args c (x, e, p) = rw e (refl, p)
+from_verb verb.Set args c (x, e, p) = rw e (refl, p)
+from_verb verb.Compare args c (x, e, p) = rw e (refl, p)
 from_verb verb.Text args c (x, e, p) = rw e (refl, p)
 from_verb verb.Drop args c (x, e, p) = rw e (refl, p)
 

@@ -1,7 +1,9 @@
-use Rattle.std.specs.Prelude.{ℕ, ◌≡◌, ◌+◌, ◌-◌, List, [], length, take, drop, Option, None}
+use Rattle.std.specs.Prelude.{ℕ, ◌≡◌, ◌≤◌, ◌+◌, ◌-◌, ◌++◌, List, [], length, take, drop, replicate, slice_set, Option, None}
 use Rattle.tendril_block.specs.declared.refusal.Refusal.{Refusal}
-use Rattle.tendril_block.specs.declared.refusal.Refusal.TheVariants.{Memory}
-use Rattle.tendril_run.specs.Rules.{LengthMust, PopMust, Changed}
+use Rattle.tendril_block.specs.declared.refusal.Refusal.TheVariants.{Memory, OutOfBounds}
+use Rattle.tendril_run.specs.Rules.{First, LengthMust, PopMust, MemoryMay, Changed}
+use Rattle.tendril_run.specs.declared.change.ByteEdit.{ByteEdit}
+use Rattle.tendril_run.specs.declared.change.ByteEdit.TheVariants.{PushZeros, WriteByte}
 use Rattle.tendril_run.specs.declared.change.Edit.{Edit}
 use Rattle.tendril_run.specs.declared.change.Edit.TheVariants.{PopFront, PopBack, Clear, Reserve}
 use Rattle.tendril_run.specs.declared.command.Reply.{Reply}
@@ -30,3 +32,22 @@ EditMay (Reserve more) r = r ≡ Memory
 -- an edit of b
 abbrev pub TextEdited : (List ℕ → Type 0) → Edit → List ℕ → Reply → List ℕ → Type 0
 TextEdited valid edit b reply new = Changed (EditMust valid b edit) (EditMay edit) (edited b edit) b reply new
+
+-- the bytes b after an edit of bytes
+abbrev pub byte_edited : List ℕ → ByteEdit → List ℕ
+byte_edited b (PushZeros count) = b ++ replicate count 0
+byte_edited b (WriteByte index byte) = slice_set b index byte
+
+-- the first refusal of an edit of the bytes b
+abbrev pub ByteEditMust : List ℕ → ByteEdit → Option Refusal → Type 0
+ByteEditMust b (PushZeros count) must = LengthMust (length b + count) must
+ByteEditMust b (WriteByte index byte) must = First (length b ≤ index) OutOfBounds (must ≡ None) must
+
+-- the refusals of an edit of the bytes b that no state rules out
+abbrev pub ByteEditMay : List ℕ → ByteEdit → Refusal → Type 0
+ByteEditMay b (PushZeros count) r = MemoryMay (length b + count) r
+ByteEditMay b (WriteByte index byte) r = MemoryMay (length b) r
+
+-- an edit of the bytes b
+abbrev pub BytesEdited : ByteEdit → List ℕ → Reply → List ℕ → Type 0
+BytesEdited edit b reply new = Changed (ByteEditMust b edit) (ByteEditMay b edit) (byte_edited b edit) b reply new

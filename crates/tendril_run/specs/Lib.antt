@@ -3,6 +3,7 @@ pub mod CellOf
 pub mod Rules
 pub mod Edits
 pub mod Characters
+pub mod Comparisons
 pub mod OneCell
 pub mod Steps
 pub mod Runs

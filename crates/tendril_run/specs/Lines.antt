@@ -1,8 +1,8 @@
 use Rattle.std.specs.Prelude.{ℕ, ◌≡◌, List, [], ◌∷◌, codes}
-use Rattle.tendril_run.specs.Words.{words, IsNumber, IsCharWord, kind_name, IsHex}
+use Rattle.tendril_run.specs.Words.{words, IsNumber, IsCharWord, IsByteWord, kind_name, IsHex}
 use Rattle.tendril_run.specs.declared.command.Kind.{Kind}
 use Rattle.tendril_run.specs.declared.command.Command.{Command}
-use Rattle.tendril_run.specs.declared.command.Command.TheVariants.{New, FromBytes, PushBytes, PushTendril, PushChar, Slice, PopFront, PopBack, PopChar, PopRun, Clone, Clear, Reserve, Reinterpret, ToSuperset, ToSubset, Text, Drop}
+use Rattle.tendril_run.specs.declared.command.Command.TheVariants.{New, FromBytes, PushBytes, PushTendril, PushChar, PushZeros, Slice, PopFront, PopBack, PopChar, PopRun, Clone, Clear, Reserve, Reinterpret, ToSuperset, ToSubset, WriteByte, Compare, Text, Drop}
 
 -- what a word of a line stands for
 pub data Word : Type 0 where
@@ -11,6 +11,7 @@ pub data Word : Type 0 where
   scalar : ℕ → Word
   format : Kind → Word
   bytes : List ℕ → Word
+  byte : ℕ → Word
 
 -- the word that stands for it: a name for itself
 abbrev pub IsWord : Word → List ℕ → Type 0
@@ -19,6 +20,7 @@ IsWord (number n) word = IsNumber n word
 IsWord (scalar c) word = IsCharWord c word
 IsWord (format kind) word = word ≡ kind_name kind
 IsWord (bytes b) word = IsHex b word
+IsWord (byte b) word = IsByteWord b word
 
 -- one word each, and no more
 abbrev pub AreWords : List Word → List (List ℕ) → Type 0
@@ -34,6 +36,7 @@ words_of (FromBytes kind b) = name (codes "from") ∷ format kind ∷ bytes b �
 words_of (PushBytes slot b) = name (codes "push") ∷ number slot ∷ bytes b ∷ []
 words_of (PushTendril to from) = name (codes "join") ∷ number to ∷ number from ∷ []
 words_of (PushChar slot c) = name (codes "char") ∷ number slot ∷ scalar c ∷ []
+words_of (PushZeros slot count) = name (codes "zeros") ∷ number slot ∷ number count ∷ []
 words_of (Slice slot offset length) = name (codes "slice") ∷ number slot ∷ number offset ∷ number length ∷ []
 words_of (PopFront slot count) = name (codes "front") ∷ number slot ∷ number count ∷ []
 words_of (PopBack slot count) = name (codes "back") ∷ number slot ∷ number count ∷ []
@@ -45,6 +48,8 @@ words_of (Reserve slot more) = name (codes "reserve") ∷ number slot ∷ number
 words_of (Reinterpret slot kind) = name (codes "as") ∷ number slot ∷ format kind ∷ []
 words_of (ToSuperset slot kind) = name (codes "up") ∷ number slot ∷ format kind ∷ []
 words_of (ToSubset slot kind) = name (codes "down") ∷ number slot ∷ format kind ∷ []
+words_of (WriteByte slot index b) = name (codes "set") ∷ number slot ∷ number index ∷ byte b ∷ []
+words_of (Compare first second) = name (codes "cmp") ∷ number first ∷ number second ∷ []
 words_of (Text slot) = name (codes "text") ∷ number slot ∷ []
 words_of (Drop slot) = name (codes "drop") ∷ number slot ∷ []
 

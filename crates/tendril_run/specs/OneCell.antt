@@ -3,12 +3,14 @@ use Rattle.tendril_block.specs.declared.refusal.Refusal.{Refusal}
 use Rattle.tendril_block.specs.declared.refusal.Refusal.TheVariants.{Memory, NoSuchSlot, WrongFormat}
 use Rattle.tendril_run.specs.Cells.{Cell, gone, text, valid_in, join_in, IsPartOf}
 use Rattle.tendril_run.specs.Characters.{HasChars, IsCharIn, chars_in, encoding_in, first_of, without_first, run_bytes}
-use Rattle.tendril_run.specs.Edits.{EditMust, EditMay, edited}
+use Rattle.tendril_run.specs.Edits.{EditMust, EditMay, edited, ByteEditMust, ByteEditMay, byte_edited}
 use Rattle.tendril_run.specs.Rules.{First, LengthMust, ValidMust, BytesMust, MemoryMay, SliceMust, CharMust, CountMay, Outcome, Answered, Changed}
 use Rattle.tendril_run.specs.declared.change.Conversion.{Conversion}
 use Rattle.tendril_run.specs.declared.change.Conversion.TheVariants.{Reinterpret, ToSuperset, ToSubset}
+use Rattle.tendril_run.specs.declared.change.ByteEdit.{ByteEdit}
 use Rattle.tendril_run.specs.declared.change.Edit.{Edit}
 use Rattle.tendril_run.specs.declared.command.Kind.{Kind}
+use Rattle.tendril_run.specs.declared.command.Kind.TheVariants.{Bytes}
 use Rattle.tendril_run.specs.declared.command.Reply.{Reply}
 use Rattle.tendril_run.specs.declared.command.Reply.TheVariants.{Char, Text}
 
@@ -117,6 +119,21 @@ abbrev pub edited_cell : Cell → Edit → Cell
 edited_cell gone edit = gone
 edited_cell (text kind b) edit = text kind (edited b edit)
 
+-- the first refusal of an edit of a cell's bytes
+abbrev pub CellByteEditMust : Cell → ByteEdit → Option Refusal → Type 0
+CellByteEditMust gone edit must = must ≡ Some NoSuchSlot
+CellByteEditMust (text kind b) edit must = First (kind ≡ Bytes → ⊥) WrongFormat (ByteEditMust b edit must) must
+
+-- the refusals of it that no state rules out
+abbrev pub CellByteEditMay : Cell → ByteEdit → Refusal → Type 0
+CellByteEditMay gone edit r = ⊥
+CellByteEditMay (text kind b) edit r = ByteEditMay b edit r
+
+-- the cell after an edit of its bytes
+abbrev pub byte_edited_cell : Cell → ByteEdit → Cell
+byte_edited_cell gone edit = gone
+byte_edited_cell (text kind b) edit = text kind (byte_edited b edit)
+
 -- the first refusal of a conversion of a cell
 abbrev pub ConversionMust : Cell → Conversion → Option Refusal → Type 0
 ConversionMust gone conversion must = must ≡ Some NoSuchSlot
@@ -159,6 +176,10 @@ CellJoined to from cell other reply new = Changed (JoinMust cell other) (JoinMay
 -- an edit of a cell
 abbrev pub CellEdited : Cell → Edit → Reply → Cell → Type 0
 CellEdited cell edit reply new = Changed (CellEditMust cell edit) (EditMay edit) (edited_cell cell edit) cell reply new
+
+-- an edit of a cell's bytes
+abbrev pub CellByteEdited : Cell → ByteEdit → Reply → Cell → Type 0
+CellByteEdited cell edit reply new = Changed (CellByteEditMust cell edit) (CellByteEditMay cell edit) (byte_edited_cell cell edit) cell reply new
 
 -- a conversion of a cell
 abbrev pub CellConverted : Cell → Conversion → Reply → Cell → Type 0

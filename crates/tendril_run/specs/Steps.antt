@@ -2,15 +2,18 @@ use Rattle.std.specs.Prelude.{ℕ, ◌≡◌, List, [], ◌∷◌, ◌++◌, len
 use Rattle.tendril_block.specs.declared.refusal.Refusal.{Refusal}
 use Rattle.tendril_block.specs.declared.refusal.Refusal.TheVariants.{Memory}
 use Rattle.tendril_run.specs.Cells.{Cell, gone, text, valid_in, cell_at}
+use Rattle.tendril_run.specs.Comparisons.{CompareMust, TellsComparison}
 use Rattle.tendril_run.specs.Edits.{EditMay}
 use Rattle.tendril_run.specs.Rules.{BytesMust, MemoryMay, CountMay, Outcome}
-use Rattle.tendril_run.specs.OneCell.{CellMust, CellSliceMust, CellCloneMay, part, PushMust, PushMay, pushed, JoinMust, JoinMay, joined, PushCharMust, encoding_of, CharsMust, char_of, char_popped, run_of, run_popped, RunMay, CellEditMust, edited_cell, ConversionMust, converted, Tells}
+use Rattle.tendril_run.specs.OneCell.{CellMust, CellSliceMust, CellCloneMay, part, PushMust, PushMay, pushed, JoinMust, JoinMay, joined, PushCharMust, encoding_of, CharsMust, char_of, char_popped, run_of, run_popped, RunMay, CellEditMust, edited_cell, CellByteEditMust, CellByteEditMay, byte_edited_cell, ConversionMust, converted, Tells}
+use Rattle.tendril_run.specs.declared.change.ByteEdit.{ByteEdit}
+use Rattle.tendril_run.specs.declared.change.ByteEdit.TheVariants as byte_edit
 use Rattle.tendril_run.specs.declared.change.Conversion.{Conversion}
 use Rattle.tendril_run.specs.declared.change.Conversion.TheVariants as conversion
 use Rattle.tendril_run.specs.declared.change.Edit.{Edit}
 use Rattle.tendril_run.specs.declared.change.Edit.TheVariants as edit
 use Rattle.tendril_run.specs.declared.command.Command.{Command}
-use Rattle.tendril_run.specs.declared.command.Command.TheVariants.{New, FromBytes, PushBytes, PushTendril, PushChar, Slice, PopFront, PopBack, PopChar, PopRun, Clone, Clear, Reserve, Reinterpret, ToSuperset, ToSubset, Text, Drop}
+use Rattle.tendril_run.specs.declared.command.Command.TheVariants.{New, FromBytes, PushBytes, PushTendril, PushChar, PushZeros, Slice, PopFront, PopBack, PopChar, PopRun, Clone, Clear, Reserve, Reinterpret, ToSuperset, ToSubset, WriteByte, Compare, Text, Drop}
 use Rattle.tendril_run.specs.declared.command.Reply.{Reply}
 use Rattle.tendril_run.specs.declared.command.Reply.TheVariants as reply
 
@@ -21,6 +24,7 @@ Must old (FromBytes kind y) must = BytesMust (valid_in kind) y (length y) must
 Must old (PushBytes slot y) must = PushMust (cell_at old slot) y must
 Must old (PushTendril to from) must = JoinMust (cell_at old to) (cell_at old from) must
 Must old (PushChar slot c) must = PushCharMust (cell_at old slot) c must
+Must old (PushZeros slot count) must = CellByteEditMust (cell_at old slot) (byte_edit.PushZeros count) must
 Must old (Slice slot offset count) must = CellSliceMust (cell_at old slot) offset count must
 Must old (PopFront slot count) must = CellEditMust (cell_at old slot) (edit.PopFront count) must
 Must old (PopBack slot count) must = CellEditMust (cell_at old slot) (edit.PopBack count) must
@@ -32,6 +36,8 @@ Must old (Reserve slot more) must = CellEditMust (cell_at old slot) (edit.Reserv
 Must old (Reinterpret slot kind) must = ConversionMust (cell_at old slot) (conversion.Reinterpret kind) must
 Must old (ToSuperset slot kind) must = ConversionMust (cell_at old slot) (conversion.ToSuperset kind) must
 Must old (ToSubset slot kind) must = ConversionMust (cell_at old slot) (conversion.ToSubset kind) must
+Must old (WriteByte slot index byte) must = CellByteEditMust (cell_at old slot) (byte_edit.WriteByte index byte) must
+Must old (Compare first second) must = CompareMust (cell_at old first) (cell_at old second) must
 Must old (Text slot) must = CellMust (cell_at old slot) must
 Must old (Drop slot) must = CellMust (cell_at old slot) must
 
@@ -41,10 +47,12 @@ May class old (FromBytes kind y) r = MemoryMay (length y) r
 May class old (PushBytes slot y) r = PushMay (cell_at old slot) y r
 May class old (PushTendril to from) r = JoinMay to from (cell_at old to) (cell_at old from) r
 May class old (PushChar slot c) r = PushMay (cell_at old slot) (encoding_of (cell_at old slot) c) r
+May class old (PushZeros slot count) r = CellByteEditMay (cell_at old slot) (byte_edit.PushZeros count) r
 May class old (Slice slot offset count) r = CountMay count r
 May class old (PopRun slot) r = RunMay class (cell_at old slot) r
 May class old (Clone slot) r = CellCloneMay (cell_at old slot) r
 May class old (Reserve slot more) r = r ≡ Memory
+May class old (WriteByte slot index byte) r = CellByteEditMay (cell_at old slot) (byte_edit.WriteByte index byte) r
 May class old (Text slot) r = r ≡ Memory
 May class old command r = ⊥
 
@@ -71,6 +79,10 @@ TakesRun class old slot answer new =
 abbrev pub TableEdited : List Cell → ℕ → Edit → Reply → List Cell → Type 0
 TableEdited old slot edit answer new = Outcome (CellEditMust (cell_at old slot) edit) (EditMay edit) (Becomes old slot (edited_cell (cell_at old slot) edit)) old answer new
 
+-- an edit of the bytes of one cell of a table
+abbrev pub TableByteEdited : List Cell → ℕ → ByteEdit → Reply → List Cell → Type 0
+TableByteEdited old slot edit answer new = Outcome (CellByteEditMust (cell_at old slot) edit) (CellByteEditMay (cell_at old slot) edit) (Becomes old slot (byte_edited_cell (cell_at old slot) edit)) old answer new
+
 -- a conversion of one cell of a table
 abbrev pub TableConverted : List Cell → ℕ → Conversion → Reply → List Cell → Type 0
 TableConverted old slot conversion answer new = Outcome (ConversionMust (cell_at old slot) conversion) (λ r. ⊥) (Becomes old slot (converted (cell_at old slot) conversion)) old answer new
@@ -82,6 +94,7 @@ Effect class old (FromBytes kind y) answer new = Adds old (text kind y) answer n
 Effect class old (PushBytes slot y) answer new = Becomes old slot (pushed (cell_at old slot) y) answer new
 Effect class old (PushTendril to from) answer new = Becomes old to (joined (cell_at old to) (cell_at old from)) answer new
 Effect class old (PushChar slot c) answer new = Becomes old slot (pushed (cell_at old slot) (encoding_of (cell_at old slot) c)) answer new
+Effect class old (PushZeros slot count) answer new = Becomes old slot (byte_edited_cell (cell_at old slot) (byte_edit.PushZeros count)) answer new
 Effect class old (Slice slot offset count) answer new = Adds old (part (cell_at old slot) offset count) answer new
 Effect class old (PopFront slot count) answer new = Becomes old slot (edited_cell (cell_at old slot) (edit.PopFront count)) answer new
 Effect class old (PopBack slot count) answer new = Becomes old slot (edited_cell (cell_at old slot) (edit.PopBack count)) answer new
@@ -93,6 +106,8 @@ Effect class old (Reserve slot more) answer new = Becomes old slot (edited_cell 
 Effect class old (Reinterpret slot kind) answer new = Becomes old slot (converted (cell_at old slot) (conversion.Reinterpret kind)) answer new
 Effect class old (ToSuperset slot kind) answer new = Becomes old slot (converted (cell_at old slot) (conversion.ToSuperset kind)) answer new
 Effect class old (ToSubset slot kind) answer new = Becomes old slot (converted (cell_at old slot) (conversion.ToSubset kind)) answer new
+Effect class old (WriteByte slot index byte) answer new = Becomes old slot (byte_edited_cell (cell_at old slot) (byte_edit.WriteByte index byte)) answer new
+Effect class old (Compare first second) answer new = TellsComparison (cell_at old first) (cell_at old second) answer × (new ≡ old)
 Effect class old (Text slot) answer new = Tells (cell_at old slot) answer × (new ≡ old)
 Effect class old (Drop slot) answer new = Becomes old slot gone answer new
 

@@ -1,10 +1,10 @@
 use Rattle.std.specs.Prelude.{ℕ, ◌≡◌, List, [], ◌∷◌, codes}
-use Rattle.tendril_run.specs.Lines.{number, scalar, format, bytes, AreWords}
+use Rattle.tendril_run.specs.Lines.{number, scalar, format, bytes, byte, AreWords}
 use Rattle.tendril_run.specs.declared.command.Kind.{Kind}
 use Rattle.tendril_run.specs.declared.command.Command.{Command}
 use Rattle.tendril_run.specs.declared.command.Command.TheVariants as command
 use Rattle.tendril_run.specs.declared.words.Verb.{Verb}
-use Rattle.tendril_run.specs.declared.words.Verb.TheVariants.{New, From, Push, Join, Char, Slice, Front, Back, Pop, Run, Clone, Clear, Reserve, As, Up, Down, Text, Drop}
+use Rattle.tendril_run.specs.declared.words.Verb.TheVariants.{New, From, Push, Join, Char, Zeros, Slice, Front, Back, Pop, Run, Clone, Clear, Reserve, As, Up, Down, Set, Compare, Text, Drop}
 
 -- the first word of a command's line
 abbrev pub verb_name : Verb → List ℕ
@@ -13,6 +13,7 @@ verb_name From = codes "from"
 verb_name Push = codes "push"
 verb_name Join = codes "join"
 verb_name Char = codes "char"
+verb_name Zeros = codes "zeros"
 verb_name Slice = codes "slice"
 verb_name Front = codes "front"
 verb_name Back = codes "back"
@@ -24,6 +25,8 @@ verb_name Reserve = codes "reserve"
 verb_name As = codes "as"
 verb_name Up = codes "up"
 verb_name Down = codes "down"
+verb_name Set = codes "set"
+verb_name Compare = codes "cmp"
 verb_name Text = codes "text"
 verb_name Drop = codes "drop"
 
@@ -34,6 +37,7 @@ Reads From args c = (x : Kind × List ℕ) × (c ≡ command.FromBytes x.0 x.1) 
 Reads Push args c = (x : ℕ × List ℕ) × (c ≡ command.PushBytes x.0 x.1) × AreWords (number x.0 ∷ bytes x.1 ∷ []) args
 Reads Join args c = (x : ℕ × ℕ) × (c ≡ command.PushTendril x.0 x.1) × AreWords (number x.0 ∷ number x.1 ∷ []) args
 Reads Char args c = (x : ℕ × ℕ) × (c ≡ command.PushChar x.0 x.1) × AreWords (number x.0 ∷ scalar x.1 ∷ []) args
+Reads Zeros args c = (x : ℕ × ℕ) × (c ≡ command.PushZeros x.0 x.1) × AreWords (number x.0 ∷ number x.1 ∷ []) args
 Reads Slice args c = (x : ℕ × ℕ × ℕ) × (c ≡ command.Slice x.0 x.1 x.2) × AreWords (number x.0 ∷ number x.1 ∷ number x.2 ∷ []) args
 Reads Front args c = (x : ℕ × ℕ) × (c ≡ command.PopFront x.0 x.1) × AreWords (number x.0 ∷ number x.1 ∷ []) args
 Reads Back args c = (x : ℕ × ℕ) × (c ≡ command.PopBack x.0 x.1) × AreWords (number x.0 ∷ number x.1 ∷ []) args
@@ -45,5 +49,7 @@ Reads Reserve args c = (x : ℕ × ℕ) × (c ≡ command.Reserve x.0 x.1) × Ar
 Reads As args c = (x : ℕ × Kind) × (c ≡ command.Reinterpret x.0 x.1) × AreWords (number x.0 ∷ format x.1 ∷ []) args
 Reads Up args c = (x : ℕ × Kind) × (c ≡ command.ToSuperset x.0 x.1) × AreWords (number x.0 ∷ format x.1 ∷ []) args
 Reads Down args c = (x : ℕ × Kind) × (c ≡ command.ToSubset x.0 x.1) × AreWords (number x.0 ∷ format x.1 ∷ []) args
+Reads Set args c = (x : ℕ × ℕ × ℕ) × (c ≡ command.WriteByte x.0 x.1 x.2) × AreWords (number x.0 ∷ number x.1 ∷ byte x.2 ∷ []) args
+Reads Compare args c = (x : ℕ × ℕ) × (c ≡ command.Compare x.0 x.1) × AreWords (number x.0 ∷ number x.1 ∷ []) args
 Reads Text args c = (x : ℕ) × (c ≡ command.Text x) × AreWords (number x ∷ []) args
 Reads Drop args c = (x : ℕ) × (c ≡ command.Drop x) × AreWords (number x ∷ []) args

@@ -1,4 +1,4 @@
-use Rattle.std.specs.Prelude.{ℕ, ◌≡◌, ◌≤◌, ◌<◌, ◌==◌, ◌⊎◌, List, [], length, codes, Ok}
+use Rattle.std.specs.Prelude.{ℕ, ◌≡◌, ◌≤◌, ◌<◌, ◌==◌, ◌⊎◌, List, [], ◌∷◌, length, codes, Ok}
 use Rattle.std.specs.Char.{IsScalar}
 use Rattle.std.specs.Fmt.{decimal}
 use Rattle.std.specs.List.{slice_split}
@@ -29,3 +29,7 @@ kind_name Latin1 = codes "latin1"
 -- bytes: two hexadecimal digits each, in either case, or a dash for none
 unfoldable pub IsHex : List ℕ → List ℕ → Type 0
 IsHex bytes word = ((word ≡ codes "-") × (bytes ≡ [])) ⊎ ((0 < length word) × (decode_of word ≡ Ok bytes))
+
+-- one byte: two hexadecimal digits
+unfoldable pub IsByteWord : ℕ → List ℕ → Type 0
+IsByteWord b word = IsHex (b ∷ []) word

@@ -11,6 +11,13 @@ pub(crate) enum Edit {
     Reserve(u32),
 }
 
+/// A change of what only a text of bytes may become, any byte.
+#[derive(Clone, Copy, Debug, PartialEq, Eq)]
+pub(crate) enum ByteEdit {
+    PushZeros(u32),
+    WriteByte(u32, u8),
+}
+
 /// A change of a text's format, which keeps its bytes.
 #[derive(Clone, Copy, Debug, PartialEq, Eq)]
 pub(crate) enum Conversion {

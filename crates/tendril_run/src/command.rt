@@ -14,6 +14,16 @@ pub enum Kind {
     Latin1,
 }
 
+/// How the bytes of two texts compare. Only texts in UTF-8 and texts of bytes have an order.
+#[derive(Clone, Copy, Debug, PartialEq, Eq)]
+pub enum Comparison {
+    Less,
+    Equal,
+    Greater,
+    /// They aren't equal, and their format has no order.
+    Differ,
+}
+
 /// Bytes that a command or a reply carries.
 #[derive(Debug, Drop)]
 pub struct ByteList {
@@ -63,6 +73,8 @@ pub enum Command {
     PushTendril(usize, usize),
     /// The character at the end of the slot's text, where its format has it.
     PushChar(usize, char),
+    /// So many zeros at the end of the slot's bytes.
+    PushZeros(usize, u32),
     /// A new slot with the part of the text that begins at the offset and has so many bytes.
     Slice(usize, u32, u32),
     /// So many bytes are dropped from the front of the slot's text.
@@ -85,6 +97,10 @@ pub enum Command {
     ToSuperset(usize, Kind),
     /// The slot's bytes in a part of their format, where they are valid in it.
     ToSubset(usize, Kind),
+    /// The byte at the index of the slot's bytes becomes this one.
+    WriteByte(usize, u32, u8),
+    /// How the texts of two slots compare, in the one format that both have.
+    Compare(usize, usize),
     /// The slot's bytes.
     Text(usize),
     /// The slot is gone for good. Its number isn't used again.
@@ -102,6 +118,8 @@ pub enum Reply {
     Char(Option<char>),
     /// The new slot with the run, and the run's class, `None` where the text is empty.
     Run(Option<(usize, u32)>),
+    /// How two texts compare.
+    Compared(Comparison),
     /// The text.
     Text(Kind, ByteList),
     /// It is refused, and nothing has changed.

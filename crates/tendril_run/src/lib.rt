@@ -16,7 +16,7 @@ mod text;
 mod words;
 
 pub use classifier::Classifier;
-pub use command::{ByteList, Command, Kind, Reply};
+pub use command::{ByteList, Command, Comparison, Kind, Reply};
 pub use line::parse_line;
 pub use reply::print_reply;
 pub use runs::run;

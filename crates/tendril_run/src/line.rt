@@ -6,7 +6,7 @@ ghost use Rattle.tendril_run.specs.Verbs.{Reads};
 use crate::command::Command;
 use crate::words::{
     Verb, kind_and_bytes, number_and_bytes, number_and_char, number_and_kind, one_kind, one_number,
-    split_words, three_numbers, two_numbers, two_slots, verb_of,
+    split_words, three_numbers, two_numbers, two_numbers_and_byte, two_slots, verb_of,
 };
 use std::alloc::{AllocError, Global};
 use tendril::block::Refusal;
@@ -15,8 +15,9 @@ use tendril::block::Refusal;
 ///
 /// The words of a line are parted by one space each. A slot, an offset or a length is a decimal number up to
 /// 4294967295 without leading zeros; bytes are hexadecimal digits in either case, or `-` for none:
-/// `new F`, `from F H`, `push S H`, `join S S`, `char S C`, `slice S O L`, `front S N`, `back S N`, `pop S`, `run S`,
-/// `clone S`, `clear S`, `reserve S N`, `as S F`, `up S F`, `down S F`, `text S`, `drop S`.
+/// `new F`, `from F H`, `push S H`, `join S S`, `char S C`, `zeros S N`, `slice S O L`, `front S N`, `back S N`,
+/// `pop S`, `run S`, `clone S`, `clear S`, `reserve S N`, `as S F`, `up S F`, `down S F`, `set S I H` (one byte),
+/// `cmp S S`, `text S`, `drop S`.
 pub fn parse_line(alloc: Global, line: &[u8]) -> Result<Option<Command>, Refusal>
     ensures found { IfOk result (λ found. (c : _) → (found ≡ Some c) ↔ IsLine c line.now) }
     ensures refusal { IfErr result (λ r. r ≡ Refusal.Memory) }
@@ -59,6 +60,9 @@ fn read(alloc: Global, verb: Verb, arguments: &[&[u8]]) -> Result<Option<Command
         Verb::Char => Ok(number_and_char(arguments).map(|(slot, character)| Command::PushChar(
             slot, character,
         ))),
+        Verb::Zeros => Ok(two_numbers(arguments).map(|(slot, count)| Command::PushZeros(
+            slot, count,
+        ))),
         Verb::Slice => Ok(three_numbers(arguments).map(|(slot, offset, count)| Command::Slice(
             slot, offset, count,
         ))),
@@ -81,6 +85,14 @@ fn read(alloc: Global, verb: Verb, arguments: &[&[u8]]) -> Result<Option<Command
         ))),
         Verb::Down => Ok(number_and_kind(arguments).map(|(slot, kind)| Command::ToSubset(
             slot, kind,
+        ))),
+        Verb::Set => Ok(two_numbers_and_byte(alloc, arguments)?.map(|(
+            slot,
+            index,
+            byte,
+        )| Command::WriteByte(slot, index, byte))),
+        Verb::Compare => Ok(two_slots(arguments).map(|(first, second)| Command::Compare(
+            first, second,
         ))),
         Verb::Text => Ok(one_number(arguments).map(|slot| Command::Text(slot))),
         Verb::Drop => Ok(one_number(arguments).map(|slot| Command::Drop(slot))),

@@ -2,14 +2,14 @@
 ghost use Rattle.std.specs.Prelude.{◌≡◌, ◌++◌, IfOk, IfErr, string_bytes, codes};
 ghost use Rattle.std.specs.Fmt.{decimal};
 ghost use Rattle.tendril_run.specs.Words.{kind_name};
-ghost use Rattle.tendril_run.specs.Printed.{hex_text, printed};
+ghost use Rattle.tendril_run.specs.Printed.{hex_text, comparison_name, printed};
 
-use crate::command::{Kind, Reply};
+use crate::command::{Comparison, Kind, Reply};
 use std::alloc::{AllocError, Global};
 use tendril::block::Refusal;
 
-/// A reply's line, without its line feed: `ok`, `slot N`, `char C`, `run N K`, `none`, a format's name with the bytes in
-/// lower-case digits or `-`, or `refused N Name`.
+/// A reply's line, without its line feed: `ok`, `slot N`, `char C`, `run N K`, `none`, `less`, `equal`, `greater`,
+/// `differ`, a format's name with the bytes in lower-case digits or `-`, or `refused N Name`.
 pub fn print_reply(alloc: Global, reply: &Reply) -> Result<String, Refusal>
     ensures printed { IfOk result (λ text. string_bytes text ≡ printed reply.now) }
     ensures refusal { IfErr result (λ r. r ≡ Refusal.Memory) }
@@ -29,6 +29,7 @@ fn reply_text(alloc: Global, reply: &Reply) -> Result<String, AllocError>
             format!(in alloc; "char {number}")
         }
         Reply::Run(Some((slot, class))) => run_text(alloc, *slot, *class),
+        Reply::Compared(comparison) => String::from_str(alloc, name_of_comparison(*comparison)),
         Reply::Text(kind, bytes) => {
             let name = name_of_kind(*kind);
             let digits = hex_of(alloc, bytes.as_slice())?;
@@ -57,6 +58,17 @@ fn hex_of(alloc: Global, bytes: &[u8]) -> Result<String, AllocError>
         return String::from_str(alloc, "-");
     }
     hex::encode(alloc, bytes)
+}
+
+fn name_of_comparison(comparison: Comparison) -> &'static str
+    ensures { result.now ≡ comparison_name comparison }
+{
+    match comparison {
+        Comparison::Less => "less",
+        Comparison::Equal => "equal",
+        Comparison::Greater => "greater",
+        Comparison::Differ => "differ",
+    }
 }
 
 fn name_of_kind(kind: Kind) -> &'static str

@@ -2,10 +2,11 @@
 ghost use Rattle.std.specs.Prelude.{◌≡◌, ◌⊎◌, ℕ, [], length, IfOk, IfErr, OnErr, MatchOption, None, Some};
 ghost use Rattle.tendril_run.specs.CellOf.{cell_of};
 ghost use Rattle.tendril_run.specs.Cells.{IsCell, text as text_cell, valid_in};
-ghost use Rattle.tendril_run.specs.OneCell.{CellPushed, CellCharPushed, CellCharPopped, CellJoined, CellEdited, CellConverted, CellDropped, CellTold, CellMust, CharsMust, char_of, RunMay, IsRunOf, CellSliceMust, CellCloneMay, ConversionMust, converted, part};
+ghost use Rattle.tendril_run.specs.Comparisons.{CellsCompared};
+ghost use Rattle.tendril_run.specs.OneCell.{CellPushed, CellCharPushed, CellCharPopped, CellJoined, CellEdited, CellByteEdited, CellConverted, CellDropped, CellTold, CellMust, CharsMust, char_of, RunMay, IsRunOf, CellSliceMust, CellCloneMay, ConversionMust, converted, part};
 ghost use Rattle.tendril_run.specs.Rules.{BytesMust, MemoryMay, CountMay};
 
-use crate::change::{Conversion, Edit};
+use crate::change::{ByteEdit, Conversion, Edit};
 use crate::classifier::Classifier;
 use crate::command::{ByteList, Kind, Reply};
 use crate::text;
@@ -64,6 +65,17 @@ macro_rules! on_characters {
             Slot::Latin1($text) => $body,
             Slot::Bytes(_) | Slot::Wtf8(_) => Reply::Refused(Refusal::WrongFormat),
             Slot::Gone => gone(),
+        }
+    };
+}
+
+// A reply of the text, where it is one of bytes.
+macro_rules! on_bytes {
+    ($slot:expr, $text:ident => $body:expr) => {
+        match $slot {
+            Slot::Bytes($text) => $body,
+            Slot::Gone => gone(),
+            _ => Reply::Refused(Refusal::WrongFormat),
         }
     };
 }
@@ -261,6 +273,16 @@ impl<A: Atomicity> Slot<A> {
         reply
     }
 
+    /// Changes the bytes of a text of bytes.
+    pub(crate) fn edit_bytes(&mut self, edit: ByteEdit) -> Reply
+        ensures edited { CellByteEdited (cell_of self.old) edit result (cell_of self.new) }
+        ensures valid { IsCell (cell_of self.new) }
+    {
+        let reply = on_bytes!(self, text => text::edit_bytes(text, edit));
+        let _kind = self.kind();
+        reply
+    }
+
     /// Changes the text's format.
     pub(crate) fn convert(&mut self, conversion: Conversion) -> Reply
         ensures converted { CellConverted (cell_of self.old) conversion result (cell_of self.new) }
@@ -354,6 +376,21 @@ impl<A: Atomicity> Slot<A> {
         ensures refusal { IfErr result (λ r. CellMust (cell_of self.now) (Some r) ⊎ (CellMust (cell_of self.now) None × CellCloneMay (cell_of self.now) r)) }
     {
         like_text!(self, text => text.clone(), Err(Refusal::NoSuchSlot))
+    }
+
+    /// How the text compares with that of another slot.
+    pub(crate) fn compare(&self, other: &Slot<A>) -> Reply
+        ensures { CellsCompared (cell_of self.now) (cell_of other.now) result }
+    {
+        match (self, other) {
+            (Slot::Bytes(text), Slot::Bytes(other)) => text::ordered(Ord::cmp(text, other)),
+            (Slot::Utf8(text), Slot::Utf8(other)) => text::ordered(Ord::cmp(text, other)),
+            (Slot::Ascii(text), Slot::Ascii(other)) => text::equal(text, other),
+            (Slot::Wtf8(text), Slot::Wtf8(other)) => text::equal(text, other),
+            (Slot::Latin1(text), Slot::Latin1(other)) => text::equal(text, other),
+            (Slot::Gone, _) | (_, Slot::Gone) => gone(),
+            _ => Reply::Refused(Refusal::WrongFormat),
+        }
     }
 
     /// The text's bytes, copied.

@@ -4,9 +4,9 @@ ghost use Rattle.tendril_run.specs.CellOf.{cell_of};
 ghost use Rattle.tendril_run.specs.Cells.{Cell, IsCell, gone, cell_at};
 ghost use Rattle.tendril_run.specs.OneCell.{CellMust, CellSliceMust, CellCloneMay, part};
 ghost use Rattle.tendril_run.specs.Rules.{CountMay};
-ghost use Rattle.tendril_run.specs.Steps.{Step, TableEdited, TableConverted};
+ghost use Rattle.tendril_run.specs.Steps.{Step, TableEdited, TableByteEdited, TableConverted};
 
-use crate::change::{Conversion, Edit};
+use crate::change::{ByteEdit, Conversion, Edit};
 use crate::classifier::Classifier;
 use crate::command::{ByteList, Command, Kind, Reply};
 use crate::slot::{Slot, gone};
@@ -102,6 +102,7 @@ impl<A: Atomicity> Table<A> {
             Command::PushBytes(slot, bytes) => self.push_bytes(*slot, bytes),
             Command::PushTendril(to, from) => self.join(*to, *from),
             Command::PushChar(slot, character) => self.push_char(*slot, *character),
+            Command::PushZeros(slot, count) => self.edit_bytes(*slot, ByteEdit::PushZeros(*count)),
             Command::Slice(slot, offset, count) => self.slice(*slot, *offset, *count),
             Command::PopFront(slot, count) => self.edit(*slot, Edit::PopFront(*count)),
             Command::PopBack(slot, count) => self.edit(*slot, Edit::PopBack(*count)),
@@ -113,6 +114,11 @@ impl<A: Atomicity> Table<A> {
             Command::Reinterpret(slot, kind) => self.convert(*slot, Conversion::Reinterpret(*kind)),
             Command::ToSuperset(slot, kind) => self.convert(*slot, Conversion::ToSuperset(*kind)),
             Command::ToSubset(slot, kind) => self.convert(*slot, Conversion::ToSubset(*kind)),
+            Command::WriteByte(slot, index, byte) => self.edit_bytes(
+                *slot,
+                ByteEdit::WriteByte(*index, *byte),
+            ),
+            Command::Compare(first, second) => self.compare(*first, *second),
             Command::Text(slot) => self.text(*slot),
             Command::Drop(slot) => self.drop_slot(*slot),
         }
@@ -257,6 +263,16 @@ impl<A: Atomicity> Table<A> {
         self.slots[slot].edit(edit)
     }
 
+    fn edit_bytes(&mut self, slot: usize, edit: ByteEdit) -> Reply
+        ensures edited { TableByteEdited self.old.cells slot edit result self.new.cells }
+        ensures room { self.old.room ≤ self.new.room }
+    {
+        if slot >= self.slots.len() {
+            return gone();
+        }
+        self.slots[slot].edit_bytes(edit)
+    }
+
     fn convert(&mut self, slot: usize, conversion: Conversion) -> Reply
         ensures converted { TableConverted self.old.cells slot conversion result self.new.cells }
         ensures room { self.old.room ≤ self.new.room }
@@ -306,6 +322,15 @@ impl<A: Atomicity> Table<A> {
         match self.slot(slot) {
             Some(slot) => slot.clone(),
             None => Err(Refusal::NoSuchSlot),
+        }
+    }
+
+    fn compare(&self, first: usize, second: usize) -> Reply
+        ensures { (class : _) → Step class self.now.cells (Command.Compare first second) result self.now.cells }
+    {
+        match (self.slot(first), self.slot(second)) {
+            (Some(text), Some(other)) => text.compare(other),
+            _ => gone(),
         }
     }
 

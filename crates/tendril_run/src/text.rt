@@ -1,21 +1,24 @@
 //! What commands do to a text, in any format.
-ghost use Rattle.std.specs.Prelude.{◌≡◌, ◌<◌, ◌⊎◌, ◌↔◌, length, take, drop, IsTrue, IfOk, IfErr, OnOk, OnErr, MatchOption, [], None, Some};
+ghost use Rattle.std.specs.Prelude.{◌≡◌, ◌<◌, ◌⊎◌, ◌↔◌, length, take, drop, IsTrue, IfOk, IfErr, OnOk, OnErr, MatchOption, [], None, Some, nat_eq, if◌then◌else◌};
 ghost use Rattle.tendril.specs.Errors.{refusal_of};
 ghost use Rattle.tendril_run.specs.CellOf.{cell_of};
 ghost use Rattle.tendril_run.specs.Cells.{text as text_cell, valid_in};
 ghost use Rattle.tendril_run.specs.Characters.{first_of, without_first, run_bytes, IsFirstRun};
-ghost use Rattle.tendril_run.specs.Edits.{TextEdited};
+ghost use Rattle.std.specs.Cmp.Lexicographic.{pointwise};
+ghost use Rattle.tendril_run.specs.Comparisons.{in_order};
+ghost use Rattle.tendril_run.specs.Edits.{TextEdited, BytesEdited};
 ghost use Rattle.tendril_run.specs.OneCell.{CellTold};
 ghost use Rattle.tendril_run.specs.Rules.{TextPushed, Answered, Changed, LengthMust, CharMust, BytesMust, MemoryMay, SliceMust, CountMay};
 
-use crate::change::Edit;
+use crate::change::{ByteEdit, Edit};
 use crate::classifier::Classifier;
-use crate::command::{ByteList, Kind, Reply};
+use crate::command::{ByteList, Comparison, Kind, Reply};
 use crate::slot::Slot;
 use std::alloc::Global;
+use std::cmp::Ordering;
 use tendril::block::{MAX_LEN, Refusal};
 use tendril::fmt::{CharFormat, Format};
-use tendril::{Atomicity, SubtendrilError, Tendril};
+use tendril::{Atomicity, ByteTendril, SubtendrilError, Tendril};
 
 /// A text of these bytes.
 pub(crate) fn from_bytes<F: Format, A: Atomicity>(
@@ -110,6 +113,25 @@ pub(crate) fn edit<F: Format, A: Atomicity>(text: &mut Tendril<F, A>, edit: Edit
     }
 }
 
+/// Changes the bytes of a text of bytes.
+pub(crate) fn edit_bytes<A: Atomicity>(text: &mut ByteTendril<A>, edit: ByteEdit) -> Reply
+    ensures { BytesEdited edit text.old.bytes result text.new.bytes }
+{
+    match edit {
+        ByteEdit::PushZeros(count) => reply_of(text.push_uninitialized(count)),
+        ByteEdit::WriteByte(index, byte) => write_byte(text, index, byte),
+    }
+}
+
+fn write_byte<A: Atomicity>(text: &mut ByteTendril<A>, index: u32, byte: u8) -> Reply
+    ensures { BytesEdited (ByteEdit.WriteByte index byte) text.old.bytes result text.new.bytes }
+{
+    if index >= text.len32() {
+        return Reply::Refused(Refusal::OutOfBounds);
+    }
+    reply_of(text.bytes_mut(|bytes| bytes[index as usize] = byte))
+}
+
 // The reply to a call that was done or refused.
 fn reply_of(done: Result<(), Refusal>) -> Reply
     ensures ok { OnOk done (result ≡ Reply.Done) }
@@ -130,6 +152,28 @@ fn popped(done: Result<(), SubtendrilError>) -> Reply
         Ok(()) => Reply::Done,
         Err(error) => Reply::Refused(error.into()),
     }
+}
+
+/// The reply that tells an order.
+pub(crate) fn ordered(order: Ordering) -> Reply
+    ensures { result ≡ Reply.Compared (in_order order) }
+{
+    Reply::Compared(match order {
+        Ordering::Less => Comparison::Less,
+        Ordering::Equal => Comparison::Equal,
+        Ordering::Greater => Comparison::Greater,
+    })
+}
+
+/// The reply that tells whether two texts are equal.
+pub(crate) fn equal<F: Format, A: Atomicity>(text: &Tendril<F, A>, other: &Tendril<F, A>) -> Reply
+    ensures { result ≡ Reply.Compared (if pointwise nat_eq text.now.bytes other.now.bytes then Comparison.Equal else Comparison.Differ) }
+{
+    Reply::Compared(if text == other {
+        Comparison::Equal
+    } else {
+        Comparison::Differ
+    })
 }
 
 /// The text in another format, or back where it isn't valid there.

@@ -1,9 +1,9 @@
 //! The words of a line.
 
 ghost use Rattle.std.specs.Prelude.{◌≡◌, ◌↔◌, ℕ, List, [], ◌∷◌, map, Some, IfOk};
-ghost use Rattle.tendril_run.specs.Lines.{AreWords, number as number_word, scalar as scalar_word, format as format_word, bytes as bytes_word};
+ghost use Rattle.tendril_run.specs.Lines.{AreWords, number as number_word, scalar as scalar_word, format as format_word, bytes as bytes_word, byte as byte_word};
 ghost use Rattle.tendril_run.specs.Verbs.{verb_name};
-ghost use Rattle.tendril_run.specs.Words.{words, IsNumber, IsCharWord, IsHex, kind_name};
+ghost use Rattle.tendril_run.specs.Words.{words, IsNumber, IsCharWord, IsHex, IsByteWord, kind_name};
 
 use crate::command::{ByteList, Kind};
 use hex::FromHexError;
@@ -17,6 +17,7 @@ pub(crate) enum Verb {
     Push,
     Join,
     Char,
+    Zeros,
     Slice,
     Front,
     Back,
@@ -28,6 +29,8 @@ pub(crate) enum Verb {
     As,
     Up,
     Down,
+    Set,
+    Compare,
     Text,
     Drop,
 }
@@ -42,6 +45,7 @@ pub(crate) fn verb_of(word: &[u8]) -> Option<Verb>
         b"push" => Some(Verb::Push),
         b"join" => Some(Verb::Join),
         b"char" => Some(Verb::Char),
+        b"zeros" => Some(Verb::Zeros),
         b"slice" => Some(Verb::Slice),
         b"front" => Some(Verb::Front),
         b"back" => Some(Verb::Back),
@@ -53,6 +57,8 @@ pub(crate) fn verb_of(word: &[u8]) -> Option<Verb>
         b"as" => Some(Verb::As),
         b"up" => Some(Verb::Up),
         b"down" => Some(Verb::Down),
+        b"set" => Some(Verb::Set),
+        b"cmp" => Some(Verb::Compare),
         b"text" => Some(Verb::Text),
         b"drop" => Some(Verb::Drop),
         _ => None,
@@ -111,6 +117,20 @@ pub(crate) fn bytes(alloc: Global, word: &[u8]) -> Result<Option<ByteList>, Allo
             Err(FromHexError::OutOfMemory) => Err(AllocError),
             Err(_) => Ok(None),
         },
+    }
+}
+
+/// One byte, by its two digits.
+#[tactic(auto, unfolding(crate::specs::Words::IsByteWord))]
+pub(crate) fn byte(alloc: Global, word: &[u8]) -> Result<Option<u8>, AllocError>
+    ensures { IfOk result (λ found. (b : ℕ) → (found ≡ Some b) ↔ IsByteWord b word.now) }
+{
+    let Some(bytes) = bytes(alloc, word)? else {
+        return Ok(None);
+    };
+    match bytes.as_slice() {
+        [byte] => Ok(Some(*byte)),
+        _ => Ok(None),
     }
 }
 
@@ -220,4 +240,26 @@ pub(crate) fn number_and_bytes(
         return Ok(None);
     };
     Ok(Some((slot as usize, bytes)))
+}
+
+/// The slot, the index and the byte that the words are.
+pub(crate) fn two_numbers_and_byte(
+    alloc: Global,
+    args: &[&[u8]],
+) -> Result<Option<(usize, u32, u8)>, AllocError>
+    ensures { IfOk result (λ found. (a b c : ℕ) → (found ≡ Some (a, b, c)) ↔ AreWords (number_word a ∷ number_word b ∷ byte_word c ∷ []) (map (λ word. word.now) args.now)) }
+{
+    let [first, second, third] = args else {
+        return Ok(None);
+    };
+    let Some(slot) = number(first) else {
+        return Ok(None);
+    };
+    let Some(index) = number(second) else {
+        return Ok(None);
+    };
+    let Some(byte) = byte(alloc, third)? else {
+        return Ok(None);
+    };
+    Ok(Some((slot as usize, index, byte)))
 }

@@ -1,9 +1,9 @@
 //! Stored bytes that change: in their block where no other holds it, else in a new place.
 ghost use Rattle.std.specs.Prelude.{◌≡◌, ◌<◌, ◌≤◌, ◌+◌, ◌++◌, [], length, take, max, true, false, IfErr, OnOk, OnErr};
 
+use crate::storage::make::with_room;
 use crate::storage::{Held, INLINE, Storage, put};
-use std::cell::Cell;
-use tendril_block::{Atomicity, MAX_LEN, MIN_CAP, Refusal};
+use tendril_block::{Atomicity, MAX_LEN, Refusal};
 
 impl<A: Atomicity> Storage<A> {
     /// Puts two parts in the place of all bytes from `keep` on: where they stand, if the block has one holder, else in
@@ -108,22 +108,11 @@ impl<A: Atomicity> Storage<A> {
         ensures refusal { IfErr result (λ r. r ≡ Refusal.Memory) }
         ensures err { OnErr result (self.new ≡ self.old) }
     {
-        let Ok(mut bytes) = Vec::with_capacity(self.alloc, capacity.max(MIN_CAP as usize)) else {
+        let Ok(bytes) = with_room(self.alloc, self.as_slice(), capacity) else {
             return Err(Refusal::Memory);
         };
-        let Ok(()) = bytes.extend_from_slice(self.as_slice()) else {
-            return Err(Refusal::Memory);
-        };
-        let len = bytes.len() as u32;
-        let Ok(block) = A::make(bytes) else {
-            return Err(Refusal::Memory);
-        };
-        self.held = Held::View {
-            shared: Cell::new(false),
-            block,
-            offset: 0,
-            len,
-        };
+        let copy = Self::in_block(self.alloc, bytes)?;
+        *self = copy;
         Ok(())
     }
 

@@ -19,18 +19,20 @@ impl<A: Atomicity> Storage<A> {
         let Ok(bytes) = Vec::with_capacity(alloc, capacity.max(MIN_CAP) as usize) else {
             return Err(Refusal::Memory);
         };
-        let Ok(block) = A::make(bytes) else {
-            return Err(Refusal::Memory);
-        };
-        Ok(Storage {
-            held: Held::View {
-                shared: Cell::new(false),
-                block,
-                offset: 0,
-                len: 0,
-            },
-            alloc,
-        })
+        Self::in_block(alloc, bytes)
+    }
+
+    /// The bytes of a vector. Many stay where they are, with the room behind them; few are copied inline.
+    pub(crate) fn from_vec(alloc: Global, bytes: Vec<u8>) -> Result<Self, Refusal>
+        requires fits { length bytes.items ≤ MAX_LEN }
+        ensures bytes { IfOk result (λ s. s.bytes ≡ bytes.items) }
+        ensures copied { IfOk result (λ s. s.copied ≡ length bytes.items) }
+        ensures refusal { IfErr result (λ r. (r ≡ Refusal.Memory) × (8 < length bytes.items)) }
+    {
+        if bytes.len() <= INLINE {
+            return Self::from_parts(alloc, bytes.as_slice(), &[], &[]);
+        }
+        Self::in_block(alloc, bytes)
     }
 
     /// A copy of three parts, one behind the other.
@@ -46,31 +48,55 @@ impl<A: Atomicity> Storage<A> {
         ensures refusal { IfErr result (λ r. (r ≡ Refusal.Memory) × (8 < length left.now + length middle.now + length right.now)) }
     {
         let len = left.len() + middle.len() + right.len();
-        let held = if len <= INLINE {
-            let mut buffer = [0; 8];
-            put(&mut buffer, 0, left);
-            put(&mut buffer, left.len(), middle);
-            put(&mut buffer, left.len() + middle.len(), right);
-            Held::Inline {
-                len: len as u64,
-                buffer,
-            }
-        } else {
+        if len > INLINE {
             let Ok(bytes) = joined(alloc, left, middle, right) else {
                 return Err(Refusal::Memory);
             };
-            let Ok(block) = A::make(bytes) else {
-                return Err(Refusal::Memory);
-            };
-            Held::View {
+            return Self::in_block(alloc, bytes);
+        }
+        let mut buffer = [0; 8];
+        put(&mut buffer, 0, left);
+        put(&mut buffer, left.len(), middle);
+        put(&mut buffer, left.len() + middle.len(), right);
+        Ok(Storage {
+            held: Held::Inline {
+                len: len as u64,
+                buffer,
+            },
+            alloc,
+        })
+    }
+
+    /// A new block of the bytes of a vector.
+    pub(super) fn in_block(alloc: Global, bytes: Vec<u8>) -> Result<Self, Refusal>
+        requires fits { length bytes.items ≤ MAX_LEN }
+        ensures bytes { IfOk result (λ s. s.bytes ≡ bytes.items) }
+        ensures copied { IfOk result (λ s. s.copied ≡ length bytes.items) }
+        ensures refusal { IfErr result (λ r. r ≡ Refusal.Memory) }
+    {
+        let len = bytes.len() as u32;
+        let Ok(block) = A::make(bytes) else {
+            return Err(Refusal::Memory);
+        };
+        Ok(Storage {
+            held: Held::View {
                 shared: Cell::new(false),
                 block,
                 offset: 0,
-                len: len as u32,
-            }
-        };
-        Ok(Storage { held, alloc })
+                len,
+            },
+            alloc,
+        })
     }
+}
+
+/// A copy of bytes in a vector with room for so many.
+pub(super) fn with_room(alloc: Global, bytes: &[u8], capacity: usize) -> Result<Vec<u8>, AllocError>
+    ensures { IfOk result (λ v. v.items ≡ bytes.now) }
+{
+    let mut copy = Vec::with_capacity(alloc, capacity.max(MIN_CAP as usize))?;
+    copy.extend_from_slice(bytes)?;
+    Ok(copy)
 }
 
 // Three parts in a vector.
@@ -79,8 +105,7 @@ fn joined(alloc: Global, left: &[u8], middle: &[u8], right: &[u8]) -> Result<Vec
     ensures { IfOk result (λ v. v.items ≡ left.now ++ middle.now ++ right.now) }
 {
     let len = left.len() + middle.len() + right.len();
-    let mut bytes = Vec::with_capacity(alloc, len.max(MIN_CAP as usize))?;
-    bytes.extend_from_slice(left)?;
+    let mut bytes = with_room(alloc, left, len)?;
     bytes.extend_from_slice(middle)?;
     bytes.extend_from_slice(right)?;
     Ok(bytes)

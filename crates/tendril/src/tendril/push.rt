@@ -30,6 +30,7 @@ impl<F: Format, A: Atomicity> Tendril<F, A> {
         requires { F.valid more.now }
         ensures short { OnOk result (length (F.join self.old.bytes more.now) ≤ MAX_LEN) }
         ensures bytes { OnOk result (self.new.bytes ≡ F.join self.old.bytes more.now) }
+        ensures grows { length self.new.bytes ≤ length self.old.bytes + length more.now + 4 }
         ensures copied { self.new.copied ≤ max self.old.copied (length self.old.bytes) + length more.now + 4 }
         ensures refusal { IfErr result (LengthRefused (length (F.join self.old.bytes more.now))) }
         ensures err { OnErr result (self.new ≡ self.old) }
@@ -51,6 +52,7 @@ impl<F: Format, A: Atomicity> Tendril<F, A> {
     pub fn push_tendril(&mut self, other: &Tendril<F, A>) -> Result<(), Refusal>
         ensures short { OnOk result (length (F.join self.old.bytes other.now.bytes) ≤ MAX_LEN) }
         ensures bytes { OnOk result (self.new.bytes ≡ F.join self.old.bytes other.now.bytes) }
+        ensures grows { length self.new.bytes ≤ length self.old.bytes + length other.now.bytes + 4 }
         ensures copied { self.new.copied ≤ max self.old.copied (length self.old.bytes) + length other.now.bytes + 4 }
         ensures refusal { IfErr result (LengthRefused (length (F.join self.old.bytes other.now.bytes))) }
         ensures err { OnErr result (self.new ≡ self.old) }

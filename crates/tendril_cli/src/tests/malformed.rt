@@ -37,13 +37,17 @@ fn a_malformed_line_changes_nothing(rt: HostRuntime) -> Result<(), Fail> {
         run\n\
         run 0 0\n\
         set 0 0 3031\n\
+        set 0 0 -\n\
+        set 0 0\n\
+        zeros 0\n\
+        cmp 0\n\
         text 0 \n\
         \x20\n\
         \xff\xfe 0\n\
         text \xff\n\
         text 0\n";
     let mut printed = Vec::from_slice(rt.alloc(), b"slot 0\n")?;
-    for _ in 0..35 {
+    for _ in 0..39 {
         printed.extend_from_slice(b"malformed\n")?;
     }
     printed.extend_from_slice(b"utf8 3031\n")?;

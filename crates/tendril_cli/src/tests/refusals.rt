@@ -14,6 +14,9 @@ fn no_such_slot(rt: HostRuntime) -> Result<(), Fail> {
         char 0 97 => refused 13 NoSuchSlot
         pop 0 => refused 13 NoSuchSlot
         run 0 => refused 13 NoSuchSlot
+        zeros 0 1 => refused 13 NoSuchSlot
+        set 0 0 00 => refused 13 NoSuchSlot
+        cmp 0 0 => refused 13 NoSuchSlot
         slice 0 0 0 => refused 13 NoSuchSlot
         front 0 0 => refused 13 NoSuchSlot
         back 0 0 => refused 13 NoSuchSlot
@@ -80,7 +83,12 @@ fn wrong_format(rt: HostRuntime) -> Result<(), Fail> {
         pop 0 => refused 14 WrongFormat
         pop 3 => refused 14 WrongFormat
         run 0 => refused 14 WrongFormat
-        run 3 => refused 14 WrongFormat",
+        run 3 => refused 14 WrongFormat
+        zeros 1 1 => refused 14 WrongFormat
+        set 4 0 00 => refused 14 WrongFormat
+        cmp 0 1 => refused 14 WrongFormat
+        cmp 3 2 => refused 14 WrongFormat
+        cmp 0 9 => refused 13 NoSuchSlot",
     )
 }
 
@@ -162,6 +170,21 @@ fn too_long(rt: HostRuntime) -> Result<(), Fail> {
         text 0 => bytes 616263
         reserve 0 0 => ok
         reserve 0 1000 => ok
+        zeros 0 4294967293 => refused 1 TooLong
         text 0 => bytes 616263",
+    )
+}
+
+#[test]
+fn no_byte_at_the_index(rt: HostRuntime) -> Result<(), Fail> {
+    check_session(
+        rt.alloc(),
+        "from bytes 3031 => slot 0
+        set 0 2 ff => refused 5 OutOfBounds
+        set 0 4294967295 ff => refused 5 OutOfBounds
+        set 0 1 ff => ok
+        text 0 => bytes 30ff
+        new utf8 => slot 1
+        set 1 0 ff => refused 14 WrongFormat",
     )
 }

@@ -286,6 +286,71 @@ fn runs_and_rests_of_seven_to_ten_bytes(rt: HostRuntime) -> Result<(), Fail> {
     )
 }
 
+#[test]
+fn zeros_and_bytes(rt: HostRuntime) -> Result<(), Fail> {
+    check_session(
+        rt.alloc(),
+        "from bytes 7879c591 => slot 0
+        set 0 3 ff => ok
+        text 0 => bytes 7879c5ff
+        as 0 utf8 => refused 4 Invalid
+        set 0 3 8B => ok
+        zeros 0 3 => ok
+        text 0 => bytes 7879c58b000000
+        back 0 3 => ok
+        as 0 utf8 => ok
+        text 0 => utf8 7879c58b
+        new bytes => slot 1
+        zeros 1 9 => ok
+        zeros 1 0 => ok
+        text 1 => bytes 000000000000000000",
+    )
+}
+
+#[test]
+fn a_byte_written_beside_a_clone(rt: HostRuntime) -> Result<(), Fail> {
+    check_session(
+        rt.alloc(),
+        "from bytes 30313233343536373839 => slot 0
+        clone 0 => slot 1
+        set 0 9 ff => ok
+        text 1 => bytes 30313233343536373839
+        text 0 => bytes 303132333435363738ff
+        slice 1 0 9 => slot 2
+        zeros 2 1 => ok
+        text 1 => bytes 30313233343536373839
+        text 2 => bytes 30313233343536373800",
+    )
+}
+
+#[test]
+fn texts_compared(rt: HostRuntime) -> Result<(), Fail> {
+    check_session(
+        rt.alloc(),
+        "from utf8 616263 => slot 0
+        from utf8 616264 => slot 1
+        cmp 0 1 => less
+        cmp 1 0 => greater
+        cmp 0 0 => equal
+        from utf8 6162 => slot 2
+        cmp 2 0 => less
+        cmp 1 2 => greater
+        from bytes 80 => slot 3
+        from bytes 7fff => slot 4
+        cmp 3 4 => greater
+        from latin1 80 => slot 5
+        from latin1 7fff => slot 6
+        cmp 5 6 => differ
+        cmp 6 6 => equal
+        new wtf8 => slot 7
+        new wtf8 => slot 8
+        cmp 7 8 => equal
+        new ascii => slot 9
+        from ascii 61 => slot 10
+        cmp 9 10 => differ",
+    )
+}
+
 // Twenty commands on slots from this number on, with each command of a table among them.
 fn twenty_commands<W: Write>(
     script: &mut W,

@@ -1,5 +1,5 @@
 use Rattle.std.proofs.Common.{rules, [], ◌∷◌, map}
-use Rattle.tendril_run.specs.Lines.{AreWords, number, scalar, format, bytes}
+use Rattle.tendril_run.specs.Lines.{AreWords, number, scalar, format, bytes, byte}
 use Rattle.tendril_run.proofs.Reading.{taken}
 use Rattle.tendril_run.specs.declared.command.Command.TheVariants as command
 use Rattle.tendril_run.proofs.line.read.Goals as goal
@@ -29,7 +29,7 @@ pub returns-in-Join : goal.returns-in-Join
 returns-in-Join c = rw c.in-Join.is (taken (λ x. AreWords (number x.0 ∷ number x.1 ∷ []) (map (λ word. word.now) c.args.arguments.now)) (λ x. command.PushTendril x.0 x.1) _ _ _ (λ x y q. search rules) (λ x. c.two_slots.ensures x.0 x.1) c.map-in-Join.ensures.cases)
 
 pub returns-in-Front : goal.returns-in-Front
-returns-in-Front c = rw c.in-Front.is (taken (λ x. AreWords (number x.0 ∷ number x.1 ∷ []) (map (λ word. word.now) c.args.arguments.now)) (λ x. command.PopFront x.0 x.1) _ _ _ (λ x y q. search rules) (λ x. c.two_numbers.ensures x.0 x.1) c.map-in-Front.ensures.cases)
+returns-in-Front c = rw c.in-Front.is (taken (λ x. AreWords (number x.0 ∷ number x.1 ∷ []) (map (λ word. word.now) c.args.arguments.now)) (λ x. command.PopFront x.0 x.1) _ _ _ (λ x y q. search rules) (λ x. c.two_numbers-in-Front.ensures x.0 x.1) c.map-in-Front.ensures.cases)
 
 pub returns-in-Back : goal.returns-in-Back
 returns-in-Back c = rw c.in-Back.is (taken (λ x. AreWords (number x.0 ∷ number x.1 ∷ []) (map (λ word. word.now) c.args.arguments.now)) (λ x. command.PopBack x.0 x.1) _ _ _ (λ x y q. search rules) (λ x. c.two_numbers-in-Back.ensures x.0 x.1) c.map-in-Back.ensures.cases)
@@ -57,3 +57,12 @@ returns-in-Pop c = rw c.in-Pop.is (taken (λ x. AreWords (number x ∷ []) (map 
 
 pub returns-in-Run : goal.returns-in-Run
 returns-in-Run c = rw c.in-Run.is (taken (λ x. AreWords (number x ∷ []) (map (λ word. word.now) c.args.arguments.now)) (λ x. command.PopRun x) _ _ _ (λ x y q. search rules) (λ x. c.one_number-in-Run.ensures x) c.map-in-Run.ensures.cases)
+
+pub returns-in-Zeros : goal.returns-in-Zeros
+returns-in-Zeros c = rw c.in-Zeros.is (taken (λ x. AreWords (number x.0 ∷ number x.1 ∷ []) (map (λ word. word.now) c.args.arguments.now)) (λ x. command.PushZeros x.0 x.1) _ _ _ (λ x y q. search rules) (λ x. c.two_numbers.ensures x.0 x.1) c.map-in-Zeros.ensures.cases)
+
+pub returns-in-Compare : goal.returns-in-Compare
+returns-in-Compare c = rw c.in-Compare.is (taken (λ x. AreWords (number x.0 ∷ number x.1 ∷ []) (map (λ word. word.now) c.args.arguments.now)) (λ x. command.Compare x.0 x.1) _ _ _ (λ x y q. search rules) (λ x. c.two_slots-in-Compare.ensures x.0 x.1) c.map-in-Compare.ensures.cases)
+
+pub returns-in_ok-two_numbers_and_byte-in-Set : goal.returns-in_ok-two_numbers_and_byte-in-Set
+returns-in_ok-two_numbers_and_byte-in-Set c = rw c.in-Set.is (taken (λ x. AreWords (number x.0 ∷ number x.1 ∷ byte x.2 ∷ []) (map (λ word. word.now) c.args.arguments.now)) (λ x. command.WriteByte x.0 x.1 x.2) _ _ _ (λ x y q. search rules) (λ x. c.in_ok-two_numbers_and_byte-in-Set.ensures x.0 x.1 x.2) c.map-in-Set.ensures.cases)

@@ -53,3 +53,12 @@ returns-in-PopChar-clause-step g c = rw c.in-PopChar.is (c.pop_char.ensures.step
 
 pub returns-in-PopRun-clause-step : goal.returns-in-PopRun-clause-step
 returns-in-PopRun-clause-step g c = rw c.in-PopRun.is (c.pop_run.ensures.step)
+
+pub returns-in-PushZeros-clause-step : goal.returns-in-PushZeros-clause-step
+returns-in-PushZeros-clause-step g c = rw c.in-PushZeros.is (c.edit_bytes.ensures.edited)
+
+pub returns-in-WriteByte-clause-step : goal.returns-in-WriteByte-clause-step
+returns-in-WriteByte-clause-step g c = rw c.in-WriteByte.is (c.edit_bytes-in-WriteByte.ensures.edited)
+
+pub returns-in-Compare-clause-step : goal.returns-in-Compare-clause-step
+returns-in-Compare-clause-step g c = rw c.in-Compare.is (c.compare.ensures (g.C.Classifier.class c.args.classifier.now))

@@ -1,0 +1,8 @@
+//! Each file tests one subject. What is expected comes from Unicode's table of well-formed UTF-8, from std, or from
+//! rows written by hand, and never from what the calls answered.
+
+mod compared;
+mod items;
+mod printed;
+mod strings;
+mod writing;

@@ -1,0 +1,42 @@
+use Rattle.std.specs.Prelude.{ℕ, ◌≡◌, List, Option, Some, None, nat_eq, if◌then◌else◌}
+use Rattle.std.specs.Cmp.Lexicographic.{pointwise, slice_cmp}
+use Rattle.std.specs.Ordering.{nat_cmp}
+use Rattle.std.specs.declared.cmp.Ordering.{Ordering}
+use Rattle.std.specs.declared.cmp.Ordering.TheVariants as ordering
+use Rattle.tendril_block.specs.declared.refusal.Refusal.{Refusal}
+use Rattle.tendril_block.specs.declared.refusal.Refusal.TheVariants.{NoSuchSlot, WrongFormat}
+use Rattle.tendril_run.specs.Cells.{Cell, gone, text}
+use Rattle.tendril_run.specs.Rules.{First, Outcome}
+use Rattle.tendril_run.specs.declared.command.Comparison.{Comparison}
+use Rattle.tendril_run.specs.declared.command.Comparison.TheVariants.{Less, Equal, Greater, Differ}
+use Rattle.tendril_run.specs.declared.command.Kind.{Kind}
+use Rattle.tendril_run.specs.declared.command.Kind.TheVariants.{Bytes, Utf8}
+use Rattle.tendril_run.specs.declared.command.Reply.{Reply}
+use Rattle.tendril_run.specs.declared.command.Reply.TheVariants.{Compared}
+
+-- an order, as it is answered
+abbrev pub in_order : Ordering → Comparison
+in_order ordering.Less = Less
+in_order ordering.Equal = Equal
+in_order ordering.Greater = Greater
+
+-- how two texts of a format compare: by the order of their bytes, or, where the format has none, whether they are equal
+abbrev pub comparison_in : Kind → List ℕ → List ℕ → Comparison
+comparison_in Bytes b y = in_order (slice_cmp nat_cmp b y)
+comparison_in Utf8 b y = in_order (slice_cmp nat_cmp b y)
+comparison_in kind b y = if pointwise nat_eq b y then Equal else Differ
+
+-- the first refusal of a comparison of two cells
+abbrev pub CompareMust : Cell → Cell → Option Refusal → Type 0
+CompareMust gone other must = must ≡ Some NoSuchSlot
+CompareMust (text kind b) gone must = must ≡ Some NoSuchSlot
+CompareMust (text kind b) (text format y) must = First (kind ≡ format → ⊥) WrongFormat (must ≡ None) must
+
+-- the reply that tells how two cells compare
+abbrev pub TellsComparison : Cell → Cell → Reply → Type 0
+TellsComparison (text kind b) (text format y) reply = reply ≡ Compared (comparison_in kind b y)
+TellsComparison cell other reply = ⊥
+
+-- what is answered to a question how two cells compare
+abbrev pub CellsCompared : Cell → Cell → Reply → Type 0
+CellsCompared cell other reply = Outcome (CompareMust cell other) (λ r. ⊥) (λ reply new. TellsComparison cell other reply) cell reply cell
