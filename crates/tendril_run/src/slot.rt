@@ -3,15 +3,16 @@ ghost use Rattle.std.specs.Prelude.{◌≡◌, ◌⊎◌, ℕ, [], length, IfOk,
 ghost use Rattle.tendril_run.specs.CellOf.{cell_of};
 ghost use Rattle.tendril_run.specs.Cells.{IsCell, text as text_cell, valid_in};
 ghost use Rattle.tendril_run.specs.Comparisons.{CellsCompared};
-ghost use Rattle.tendril_run.specs.OneCell.{CellPushed, CellCharPushed, CellCharPopped, CellJoined, CellEdited, CellByteEdited, CellConverted, CellDropped, CellTold, CellMust, CharsMust, char_of, RunMay, IsRunOf, CellSliceMust, CellCloneMay, ConversionMust, converted, part};
+ghost use Rattle.tendril_run.specs.OneCell.{CellPushed, CellCharPushed, CellCharPopped, CellJoined, CellEdited, CellByteEdited, CellDropped, CellTold, CellMust, CharsMust, char_of, RunMay, IsRunOf, CellSliceMust, CellCloneMay, part};
 ghost use Rattle.tendril_run.specs.Rules.{BytesMust, MemoryMay, CountMay};
 
-use crate::change::{ByteEdit, Conversion, Edit};
+mod convert;
+
+use crate::change::{ByteEdit, Edit};
 use crate::classifier::Classifier;
 use crate::command::{ByteList, Kind, Reply};
 use crate::text;
 use std::alloc::Global;
-use std::mem;
 use tendril::block::Refusal;
 use tendril::fmt::{ASCII, Bytes, Latin1, UTF8, WTF8};
 use tendril::{Atomicity, Tendril};
@@ -69,30 +70,6 @@ macro_rules! on_characters {
     };
 }
 
-// A reply of the text, where it is one of bytes.
-macro_rules! on_bytes {
-    ($slot:expr, $text:ident => $body:expr) => {
-        match $slot {
-            Slot::Bytes($text) => $body,
-            Slot::Gone => gone(),
-            _ => Reply::Refused(Refusal::WrongFormat),
-        }
-    };
-}
-
-// A run of the text with its class, where its format has characters.
-macro_rules! run_like_text {
-    ($slot:expr, $text:ident => $body:expr) => {
-        match $slot {
-            Slot::Ascii($text) => Ok($body?.map(|(run, class)| (Slot::Ascii(run), class))),
-            Slot::Utf8($text) => Ok($body?.map(|(run, class)| (Slot::Utf8(run), class))),
-            Slot::Latin1($text) => Ok($body?.map(|(run, class)| (Slot::Latin1(run), class))),
-            Slot::Bytes(_) | Slot::Wtf8(_) => Err(Refusal::WrongFormat),
-            Slot::Gone => Err(Refusal::NoSuchSlot),
-        }
-    };
-}
-
 // The same as `on_text`, for what gives a text of the same format.
 macro_rules! like_text {
     ($slot:expr, $text:ident => $body:expr, $gone:expr) => {
@@ -102,35 +79,6 @@ macro_rules! like_text {
             Slot::Utf8($text) => Ok(Slot::Utf8($body?)),
             Slot::Wtf8($text) => Ok(Slot::Wtf8($body?)),
             Slot::Latin1($text) => Ok(Slot::Latin1($body?)),
-            Slot::Gone => $gone,
-        }
-    };
-}
-
-// The same as `on_text`, for what takes the text and gives another slot, or the text back.
-macro_rules! from_text {
-    ($slot:expr, $text:ident => $body:expr, $refusal:expr, $gone:expr) => {
-        match $slot {
-            Slot::Bytes($text) => match $body {
-                Ok(made) => Ok(made),
-                Err(back) => Err(($refusal, Slot::Bytes(back))),
-            },
-            Slot::Ascii($text) => match $body {
-                Ok(made) => Ok(made),
-                Err(back) => Err(($refusal, Slot::Ascii(back))),
-            },
-            Slot::Utf8($text) => match $body {
-                Ok(made) => Ok(made),
-                Err(back) => Err(($refusal, Slot::Utf8(back))),
-            },
-            Slot::Wtf8($text) => match $body {
-                Ok(made) => Ok(made),
-                Err(back) => Err(($refusal, Slot::Wtf8(back))),
-            },
-            Slot::Latin1($text) => match $body {
-                Ok(made) => Ok(made),
-                Err(back) => Err(($refusal, Slot::Latin1(back))),
-            },
             Slot::Gone => $gone,
         }
     };
@@ -232,7 +180,22 @@ impl<A: Atomicity> Slot<A> {
         ensures refusal { IfErr result (λ r. CharsMust (cell_of self.old) (Some r) ⊎ (CharsMust (cell_of self.old) None × RunMay (C.class classifier.now) (cell_of self.old) r)) }
         ensures err { OnErr result (cell_of self.new ≡ cell_of self.old) }
     {
-        run_like_text!(self, text => text::pop_run(text, classifier))
+        match self {
+            Slot::Ascii(text) => Ok(text::pop_run(text, classifier)?.map(|(run, class)| (
+                Slot::Ascii(run),
+                class,
+            ))),
+            Slot::Utf8(text) => Ok(text::pop_run(text, classifier)?.map(|(run, class)| (
+                Slot::Utf8(run),
+                class,
+            ))),
+            Slot::Latin1(text) => Ok(text::pop_run(text, classifier)?.map(|(run, class)| (
+                Slot::Latin1(run),
+                class,
+            ))),
+            Slot::Bytes(_) | Slot::Wtf8(_) => Err(Refusal::WrongFormat),
+            Slot::Gone => Err(Refusal::NoSuchSlot),
+        }
     }
 
     /// Puts the text of another slot at the end of the text.
@@ -278,88 +241,13 @@ impl<A: Atomicity> Slot<A> {
         ensures edited { CellByteEdited (cell_of self.old) edit result (cell_of self.new) }
         ensures valid { IsCell (cell_of self.new) }
     {
-        let reply = on_bytes!(self, text => text::edit_bytes(text, edit));
-        let _kind = self.kind();
-        reply
-    }
-
-    /// Changes the text's format.
-    pub(crate) fn convert(&mut self, conversion: Conversion) -> Reply
-        ensures converted { CellConverted (cell_of self.old) conversion result (cell_of self.new) }
-        ensures valid { IsCell (cell_of self.new) }
-    {
-        let old = mem::replace(self, Slot::Gone);
-        let reply = match old.converted(conversion) {
-            Ok(new) => {
-                *self = new;
-                Reply::Done
-            }
-            Err((refusal, back)) => {
-                *self = back;
-                Reply::Refused(refusal)
-            }
+        let reply = match self {
+            Slot::Bytes(text) => text::edit_bytes(text, edit),
+            Slot::Gone => gone(),
+            _ => Reply::Refused(Refusal::WrongFormat),
         };
         let _kind = self.kind();
         reply
-    }
-
-    // The text in another format, or back with the refusal.
-    fn converted(self, conversion: Conversion) -> Result<Self, (Refusal, Self)>
-        ensures ok { IfOk result (λ s. ConversionMust (cell_of self) conversion None × (cell_of s ≡ converted (cell_of self) conversion)) }
-        ensures refusal { IfErr result (λ e. ConversionMust (cell_of self) conversion (Some e.0) × (cell_of e.1 ≡ cell_of self)) }
-    {
-        match conversion {
-            Conversion::Reinterpret(kind) => self.reinterpreted(kind),
-            Conversion::ToSuperset(kind) => self.into_superset(kind),
-            Conversion::ToSubset(kind) => self.into_subset(kind),
-        }
-    }
-
-    fn reinterpreted(self, kind: Kind) -> Result<Self, (Refusal, Self)>
-        ensures ok { IfOk result (λ s. ConversionMust (cell_of self) (Conversion.Reinterpret kind) None × (cell_of s ≡ converted (cell_of self) (Conversion.Reinterpret kind))) }
-        ensures refusal { IfErr result (λ e. ConversionMust (cell_of self) (Conversion.Reinterpret kind) (Some e.0) × (cell_of e.1 ≡ cell_of self)) }
-    {
-        from_text!(
-            self,
-            text => text::reinterpreted(text, kind),
-            Refusal::Invalid,
-            Err((Refusal::NoSuchSlot, Slot::Gone))
-        )
-    }
-
-    fn into_superset(self, kind: Kind) -> Result<Self, (Refusal, Self)>
-        ensures ok { IfOk result (λ s. ConversionMust (cell_of self) (Conversion.ToSuperset kind) None × (cell_of s ≡ converted (cell_of self) (Conversion.ToSuperset kind))) }
-        ensures refusal { IfErr result (λ e. ConversionMust (cell_of self) (Conversion.ToSuperset kind) (Some e.0) × (cell_of e.1 ≡ cell_of self)) }
-    {
-        match (self, kind) {
-            (Slot::Ascii(text), Kind::Utf8) => Ok(Slot::Utf8(text.into_superset())),
-            (Slot::Ascii(text), Kind::Latin1) => Ok(Slot::Latin1(text.into_superset())),
-            (Slot::Utf8(text), Kind::Wtf8) => Ok(Slot::Wtf8(text.into_superset())),
-            (Slot::Gone, _) => Err((Refusal::NoSuchSlot, Slot::Gone)),
-            (other, _) => Err((Refusal::WrongFormat, other)),
-        }
-    }
-
-    fn into_subset(self, kind: Kind) -> Result<Self, (Refusal, Self)>
-        ensures ok { IfOk result (λ s. ConversionMust (cell_of self) (Conversion.ToSubset kind) None × (cell_of s ≡ converted (cell_of self) (Conversion.ToSubset kind))) }
-        ensures refusal { IfErr result (λ e. ConversionMust (cell_of self) (Conversion.ToSubset kind) (Some e.0) × (cell_of e.1 ≡ cell_of self)) }
-    {
-        match (self, kind) {
-            (Slot::Utf8(text), Kind::Ascii) => match text.try_into_subset() {
-                Ok(text) => Ok(Slot::Ascii(text)),
-                Err(text) => Err((Refusal::Invalid, Slot::Utf8(text))),
-            },
-            (Slot::Latin1(text), Kind::Ascii) => match text.try_into_subset() {
-                Ok(text) => Ok(Slot::Ascii(text)),
-                Err(text) => Err((Refusal::Invalid, Slot::Latin1(text))),
-            },
-            (Slot::Wtf8(text), Kind::Utf8) => match text.try_into_subset() {
-                Ok(text) => Ok(Slot::Utf8(text)),
-                Err(text) => Err((Refusal::Invalid, Slot::Wtf8(text))),
-            },
-            (Slot::Gone, _) => Err((Refusal::NoSuchSlot, Slot::Gone)),
-            (other, _) => Err((Refusal::WrongFormat, other)),
-        }
     }
 
     /// A part of the text.

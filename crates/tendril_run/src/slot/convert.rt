@@ -1,0 +1,111 @@
+//! Slots whose text changes its format.
+ghost use Rattle.std.specs.Prelude.{◌≡◌, IfOk, IfErr, None, Some};
+ghost use Rattle.tendril_run.specs.CellOf.{cell_of};
+ghost use Rattle.tendril_run.specs.Cells.{IsCell};
+ghost use Rattle.tendril_run.specs.OneCell.{CellConverted, ConversionMust, converted};
+
+use crate::change::Conversion;
+use crate::command::{Kind, Reply};
+use crate::slot::Slot;
+use crate::text;
+use std::mem;
+use tendril::Atomicity;
+use tendril::block::Refusal;
+
+impl<A: Atomicity> Slot<A> {
+    /// Changes the text's format.
+    pub(crate) fn convert(&mut self, conversion: Conversion) -> Reply
+        ensures converted { CellConverted (cell_of self.old) conversion result (cell_of self.new) }
+        ensures valid { IsCell (cell_of self.new) }
+    {
+        let old = mem::replace(self, Slot::Gone);
+        let reply = match old.converted(conversion) {
+            Ok(new) => {
+                *self = new;
+                Reply::Done
+            }
+            Err((refusal, back)) => {
+                *self = back;
+                Reply::Refused(refusal)
+            }
+        };
+        let _kind = self.kind();
+        reply
+    }
+
+    // The text in another format, or back with the refusal.
+    fn converted(self, conversion: Conversion) -> Result<Self, (Refusal, Self)>
+        ensures ok { IfOk result (λ s. ConversionMust (cell_of self) conversion None × (cell_of s ≡ converted (cell_of self) conversion)) }
+        ensures refusal { IfErr result (λ e. ConversionMust (cell_of self) conversion (Some e.0) × (cell_of e.1 ≡ cell_of self)) }
+    {
+        match conversion {
+            Conversion::Reinterpret(kind) => self.reinterpreted(kind),
+            Conversion::ToSuperset(kind) => self.into_superset(kind),
+            Conversion::ToSubset(kind) => self.into_subset(kind),
+        }
+    }
+
+    fn reinterpreted(self, kind: Kind) -> Result<Self, (Refusal, Self)>
+        ensures ok { IfOk result (λ s. ConversionMust (cell_of self) (Conversion.Reinterpret kind) None × (cell_of s ≡ converted (cell_of self) (Conversion.Reinterpret kind))) }
+        ensures refusal { IfErr result (λ e. ConversionMust (cell_of self) (Conversion.Reinterpret kind) (Some e.0) × (cell_of e.1 ≡ cell_of self)) }
+    {
+        match self {
+            Slot::Bytes(text) => text::reinterpreted(text, kind).map_err(|back| (
+                Refusal::Invalid,
+                Slot::Bytes(back),
+            )),
+            Slot::Ascii(text) => text::reinterpreted(text, kind).map_err(|back| (
+                Refusal::Invalid,
+                Slot::Ascii(back),
+            )),
+            Slot::Utf8(text) => text::reinterpreted(text, kind).map_err(|back| (
+                Refusal::Invalid,
+                Slot::Utf8(back),
+            )),
+            Slot::Wtf8(text) => text::reinterpreted(text, kind).map_err(|back| (
+                Refusal::Invalid,
+                Slot::Wtf8(back),
+            )),
+            Slot::Latin1(text) => text::reinterpreted(text, kind).map_err(|back| (
+                Refusal::Invalid,
+                Slot::Latin1(back),
+            )),
+            Slot::Gone => Err((Refusal::NoSuchSlot, Slot::Gone)),
+        }
+    }
+
+    fn into_superset(self, kind: Kind) -> Result<Self, (Refusal, Self)>
+        ensures ok { IfOk result (λ s. ConversionMust (cell_of self) (Conversion.ToSuperset kind) None × (cell_of s ≡ converted (cell_of self) (Conversion.ToSuperset kind))) }
+        ensures refusal { IfErr result (λ e. ConversionMust (cell_of self) (Conversion.ToSuperset kind) (Some e.0) × (cell_of e.1 ≡ cell_of self)) }
+    {
+        match (self, kind) {
+            (Slot::Ascii(text), Kind::Utf8) => Ok(Slot::Utf8(text.into_superset())),
+            (Slot::Ascii(text), Kind::Latin1) => Ok(Slot::Latin1(text.into_superset())),
+            (Slot::Utf8(text), Kind::Wtf8) => Ok(Slot::Wtf8(text.into_superset())),
+            (Slot::Gone, _) => Err((Refusal::NoSuchSlot, Slot::Gone)),
+            (other, _) => Err((Refusal::WrongFormat, other)),
+        }
+    }
+
+    fn into_subset(self, kind: Kind) -> Result<Self, (Refusal, Self)>
+        ensures ok { IfOk result (λ s. ConversionMust (cell_of self) (Conversion.ToSubset kind) None × (cell_of s ≡ converted (cell_of self) (Conversion.ToSubset kind))) }
+        ensures refusal { IfErr result (λ e. ConversionMust (cell_of self) (Conversion.ToSubset kind) (Some e.0) × (cell_of e.1 ≡ cell_of self)) }
+    {
+        match (self, kind) {
+            (Slot::Utf8(text), Kind::Ascii) => match text.try_into_subset() {
+                Ok(text) => Ok(Slot::Ascii(text)),
+                Err(text) => Err((Refusal::Invalid, Slot::Utf8(text))),
+            },
+            (Slot::Latin1(text), Kind::Ascii) => match text.try_into_subset() {
+                Ok(text) => Ok(Slot::Ascii(text)),
+                Err(text) => Err((Refusal::Invalid, Slot::Latin1(text))),
+            },
+            (Slot::Wtf8(text), Kind::Utf8) => match text.try_into_subset() {
+                Ok(text) => Ok(Slot::Utf8(text)),
+                Err(text) => Err((Refusal::Invalid, Slot::Wtf8(text))),
+            },
+            (Slot::Gone, _) => Err((Refusal::NoSuchSlot, Slot::Gone)),
+            (other, _) => Err((Refusal::WrongFormat, other)),
+        }
+    }
+}
