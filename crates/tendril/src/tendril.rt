@@ -108,7 +108,7 @@ impl<F: Format, A: Atomicity> Tendril<F, A> {
             return Err(Refusal::TooLong);
         }
         Ok(Tendril {
-            storage: Storage::from_parts(alloc, bytes, &[], &[])?,
+            storage: Storage::from_slice(alloc, bytes)?,
             format: PhantomData,
         })
     }

@@ -107,8 +107,13 @@ impl Body {
         ensures refusal { IfErr result (λ r. r ≡ Refusal.Memory) }
         ensures err { OnErr result (self.new ≡ self.old) }
     {
+        if middle.is_empty() && self.bytes.len() <= keep {
+            return self.append(more);
+        }
         let extra = middle.len().checked_add(more.len()).ok_or(Refusal::Memory)?;
-        if self.bytes.reserve(extra).is_err() {
+        let wanted = keep.checked_add(extra).ok_or(Refusal::Memory)?;
+        let missing = wanted.saturating_sub(self.bytes.len());
+        if self.bytes.reserve(missing).is_err() {
             return Err(Refusal::Memory);
         }
         self.bytes.truncate(keep);

@@ -60,7 +60,8 @@ impl<A: Atomicity> Storage<A> {
                 len,
             } => {
                 let start = *offset as usize;
-                if total > MAX_LEN as usize - start {
+                // Where more bytes were popped off the front than there are, a copy of these lets go of those.
+                if start > total || total > MAX_LEN as usize - start {
                     return false;
                 }
                 if !replaces_alone::<A>(block, start + keep, middle, more) {
@@ -91,17 +92,20 @@ impl<A: Atomicity> Storage<A> {
                 shared,
                 block,
                 offset,
-                ..
+                len,
             } => {
                 if shared.get() {
                     return Ok(());
+                }
+                if *offset > *len {
+                    return self.spill(total);
                 }
                 reserve_alone::<A>(block, *offset as usize + total)
             }
         }
     }
 
-    // Inline bytes in a block with room for so many.
+    // The bytes in a new block with room for so many.
     fn spill(&mut self, capacity: usize) -> Result<(), Refusal>
         ensures bytes { self.new.bytes ≡ self.old.bytes }
         ensures copied { OnOk result (self.new.copied ≡ length self.old.bytes) }

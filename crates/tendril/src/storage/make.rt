@@ -30,9 +30,42 @@ impl<A: Atomicity> Storage<A> {
         ensures refusal { IfErr result (λ r. (r ≡ Refusal.Memory) × (8 < length bytes.items)) }
     {
         if bytes.len() <= INLINE {
-            return Self::from_parts(alloc, bytes.as_slice(), &[], &[]);
+            return Ok(Self::inline(alloc, bytes.as_slice()));
         }
         Self::in_block(alloc, bytes)
+    }
+
+    /// A copy of bytes.
+    pub(crate) fn from_slice(alloc: Global, bytes: &[u8]) -> Result<Self, Refusal>
+        requires fits { length bytes.now ≤ MAX_LEN }
+        ensures bytes { IfOk result (λ s. s.bytes ≡ bytes.now) }
+        ensures copied { IfOk result (λ s. s.copied ≡ length bytes.now) }
+        ensures refusal { IfErr result (λ r. (r ≡ Refusal.Memory) × (8 < length bytes.now)) }
+    {
+        if bytes.len() <= INLINE {
+            return Ok(Self::inline(alloc, bytes));
+        }
+        let Ok(copy) = with_room(alloc, bytes, bytes.len()) else {
+            return Err(Refusal::Memory);
+        };
+        Self::in_block(alloc, copy)
+    }
+
+    // A copy of few bytes.
+    pub(super) fn inline(alloc: Global, bytes: &[u8]) -> Self
+        requires fits { length bytes.now ≤ 8 }
+        ensures bytes { result.bytes ≡ bytes.now }
+        ensures copied { result.copied ≡ length bytes.now }
+    {
+        let mut buffer = [0; 8];
+        put(&mut buffer, 0, bytes);
+        Storage {
+            held: Held::Inline {
+                len: bytes.len() as u64,
+                buffer,
+            },
+            alloc,
+        }
     }
 
     /// A copy of three parts, one behind the other.
@@ -105,7 +138,7 @@ fn joined(alloc: Global, left: &[u8], middle: &[u8], right: &[u8]) -> Result<Vec
     ensures { IfOk result (λ v. v.items ≡ left.now ++ middle.now ++ right.now) }
 {
     let len = left.len() + middle.len() + right.len();
-    let mut bytes = with_room(alloc, left, len)?;
+    let mut bytes = with_room(alloc, left, len + len)?;
     bytes.extend_from_slice(middle)?;
     bytes.extend_from_slice(right)?;
     Ok(bytes)

@@ -22,7 +22,7 @@ impl<A: Atomicity> Storage<A> {
         if self.as_slice().len() <= INLINE {
             return Ok(self.write_inline(edit));
         }
-        let mut copy = Self::from_parts(self.alloc, self.as_slice(), &[], &[])?;
+        let mut copy = Self::from_slice(self.alloc, self.as_slice())?;
         let Ok(answer) = copy.writes_in_block(edit) else {
             return Err(Refusal::Memory); // the block was made for this copy, so it is alone
         };

@@ -8,6 +8,24 @@ use tendril_block::{Atomicity, Refusal};
 impl<A: Atomicity> Storage<A> {
     ghost use Rattle.tendril.specs.Texts.{Shares};
 
+    /// All bytes once more: inline ones as they stand, the others as one more view of the same block.
+    pub(crate) fn whole(&self) -> Result<Self, Refusal>
+        ensures bytes { IfOk result (λ s. s.bytes ≡ self.now.bytes) }
+        ensures copied { IfOk result Shares }
+        ensures refusal { IfErr result (λ r. (r ≡ Refusal.Count) × (8 < length self.now.bytes)) }
+    {
+        match &self.held {
+            Held::Inline { len, buffer } => Ok(Storage {
+                held: Held::Inline {
+                    len: *len,
+                    buffer: *buffer,
+                },
+                alloc: self.alloc,
+            }),
+            Held::View { .. } => self.part(0, self.len32()),
+        }
+    }
+
     /// The bytes from the offset on: copied where they are few, else a view of the same block.
     pub(crate) fn part(&self, offset: u32, count: u32) -> Result<Self, Refusal>
         requires { offset + count ≤ length self.now.bytes }

@@ -47,7 +47,7 @@ impl<A: Atomicity> Storage<A> {
                 len,
             } => {
                 let end = *offset as usize + *len as usize;
-                if count > MAX_LEN as usize - end {
+                if *offset as usize > *len as usize + count || count > MAX_LEN as usize - end {
                     return false;
                 }
                 if !appends_zeros_alone::<A>(block, end, count) {

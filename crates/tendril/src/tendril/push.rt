@@ -9,8 +9,9 @@ use tendril_fmt::fmt::Format;
 impl<F: Format, A: Atomicity> Tendril<F, A> {
     /// Puts bytes at the end by the format's join, where they are valid by themselves.
     ///
-    /// The bytes of a text that has its block for itself stay where they are, and n pushes of one byte take O(n) time.
-    /// Else the text is copied into a new block first.
+    /// The bytes of a text that has its block for itself stay where they are, unless more bytes were popped off their
+    /// front than there are with these. Else the text is copied into a new block first. n pushes of one byte take O(n)
+    /// time, and so do n pushes and pops in turn.
     pub fn try_push_bytes(&mut self, more: &[u8]) -> Result<(), Refusal>
         ensures valid { OnOk result (F.valid more.now) }
         ensures short { OnOk result (length (F.join self.old.bytes more.now) ≤ MAX_LEN) }
@@ -61,7 +62,7 @@ impl<F: Format, A: Atomicity> Tendril<F, A> {
     }
 
     /// Makes room for so many more bytes, so that pushing them takes no memory. A text that is marked shared is left as
-    /// it is, since its next push copies it anyway.
+    /// it is: its next push may copy it.
     pub fn reserve(&mut self, more: u32) -> Result<(), Refusal>
         ensures short { OnOk result (length self.old.bytes + more ≤ MAX_LEN) }
         ensures bytes { self.new.bytes ≡ self.old.bytes }

@@ -147,7 +147,7 @@ pub(crate) fn share<F: Format, A: Atomicity>(storage: &Storage<A>) -> Result<Ten
     ensures refusal { IfErr result (λ r. (r ≡ Refusal.Count) × (8 < length storage.now.bytes)) }
 {
     Ok(Tendril {
-        storage: storage.part(0, storage.len32())?,
+        storage: storage.whole()?,
         format: PhantomData,
     })
 }

@@ -183,3 +183,32 @@ fn a_million_bytes_one_by_one(rt: HostRuntime) -> Result<(), Fail> {
     assert_eq!(rt; text.clone()?.try_subtendril(1, 999998)?.len32(), 999998);
     Ok(())
 }
+
+#[test]
+fn a_queue_of_pieces(rt: HostRuntime) -> Result<(), Fail> {
+    let mut queue: ByteTendril = Tendril::new(rt.alloc());
+    for round in 0..100000u32 {
+        queue.push_slice(&[(round % 251) as u8; 24])?;
+        if round > 2 {
+            queue.try_pop_front(24)?;
+        }
+    }
+    assert_eq!(rt; queue.len32(), 72);
+    // The last three rounds are 99997 to 99999, which leave 99, 100 and 101.
+    let left = [[99u8; 24], [100; 24], [101; 24]];
+    assert_eq!(rt; queue.as_byte_slice(), left.as_flattened());
+    Ok(())
+}
+
+#[test]
+fn room_behind_bytes_that_were_popped(rt: HostRuntime) -> Result<(), Fail> {
+    let mut text: ByteTendril = slice_to_tendril(rt.alloc(), &[b'x'; 100])?;
+    text.try_pop_front(90)?;
+    text.bytes_mut(|bytes| bytes.fill(b'y'))?;
+    text.reserve(100)?;
+    assert_eq!(rt; text.as_byte_slice(), [b'y'; 10].as_slice());
+    text.push_uninitialized(3)?;
+    text.push_slice(b"z")?;
+    assert_eq!(rt; text.as_byte_slice(), b"yyyyyyyyyy\0\0\0z".as_slice());
+    Ok(())
+}
