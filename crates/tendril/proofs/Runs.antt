@@ -1,9 +1,9 @@
-use Rattle.std.proofs.Common.{◌≡◌, ℕ, ◌+◌, ◌<◌, List, [], ◌∷◌, ◌++◌, length, take, drop, Bool, true, refl, sym, ap, ◌∙◌}
+use Rattle.std.proofs.Common.{◌≡◌, ℕ, ◌+◌, ◌<◌, List, [], ◌∷◌, ◌++◌, length, take, drop, Bool, true, sym, ap, ◌∙◌}
 use Rattle.std.proofs.lemmas.Fn.{FoldsTo-push}
 use Rattle.std.proofs.lemmas.List.{take-append-drop}
 use Rattle.std.specs.List.{FoldsTo}
 use Rattle.tendril.specs.Characters.{SaysClass, SaysOther, IsRun, EndsRun, HasLongParts}
-use Rattle.tendril_fmt.proofs.Splits.{IsSplitAfter-start, IsSplitAfter-step, IsSplitAfter-texts}
+use Rattle.tendril_fmt.proofs.Splits.{IsSplitAfter-step, IsSplitAfter-texts}
 use Rattle.tendril_fmt.specs.Chars.{IsFirstChar, AreTextsOf, IsSplitAfter}
 
 module _ {F R : Type 0} (step : F → ℕ → R → F → Type 0) (eq : R → R → Bool) (valid : List ℕ → Type 0) (chars : List ℕ → List ℕ) (encodes : ℕ → Type 0) (encoding : ℕ → List ℕ) where

@@ -1,13 +1,5 @@
 use Rattle.std.specs.Prelude.{ℕ, ◌≡◌, ◌≤◌, ◌<◌, ◌+◌, List, [], ◌∷◌, ◌++◌, length, take, drop, Bool, true, false}
 use Rattle.std.specs.List.{FoldsTo}
-use Rattle.tendril_block.specs.declared.refusal.Refusal.{Refusal}
-use Rattle.tendril_block.specs.declared.refusal.Refusal.TheVariants.{NotInFormat}
-use Rattle.tendril.specs.Refusals.{LengthRefused}
-
--- when a push of the character c is refused, where the text would have so many bytes then
-abbrev pub CharRefused : (ℕ → Type 0) → ℕ → ℕ → Refusal → Type 0
-CharRefused encodes c count NotInFormat = encodes c → ⊥
-CharRefused encodes c count r = encodes c × LengthRefused count r
 
 -- What a classifier was asked and answered. `step f c r f'` says that f, asked for the character c, may answer r and
 -- become f'; `eq` compares answers.

@@ -3,7 +3,7 @@ use Rattle.std.specs.Cmp.Lexicographic.{pointwise, slice_cmp}
 use Rattle.std.specs.Hash as fed
 use Rattle.std.specs.declared.cmp.Ordering.{Ordering}
 use Rattle.std.specs.Ordering.{nat_cmp}
-use Rattle.tendril.specs.Texts.{Text}
+use Rattle.tendril_storage.specs.Texts.{Text}
 
 -- whether two texts have the same bytes
 abbrev pub have_equal_bytes : Text → Text → Bool

@@ -1,9 +1,13 @@
-use Rattle.std.specs.Prelude.{ℕ, ◌≡◌, ◌≤◌, ◌<◌, ◌+◌, List, [], ◌∷◌, ◌++◌, Option, Some, Result, IfOk, MatchResult, flat_map, fold, length, max, sum_by, take}
-use Rattle.std.specs.Iterator.{Drains, YieldsThen}
+use Rattle.std.specs.Prelude.{ℕ, ◌≡◌, ◌≤◌, ◌<◌, ◌+◌, List, [], ◌∷◌, ◌++◌, Option, Some, None, Result, IfOk, MatchResult, flat_map, fold, length, max, sum_by, take}
+use Rattle.std.specs.Iterator.{YieldsThen}
 use Rattle.tendril_block.specs.declared.atomicity.TheConstants.{MAX_LEN}
 use Rattle.tendril_block.specs.declared.refusal.Refusal.{Refusal}
-use Rattle.tendril.specs.Refusals.{LengthRefused}
-use Rattle.tendril.specs.Texts.{Text}
+use Rattle.tendril_block.specs.Outcomes.{LengthMust, MemoryMay, Refused}
+use Rattle.tendril_storage.specs.Texts.{Text}
+
+-- why a text is refused that would have so many bytes
+abbrev pub LengthRefused : ℕ → Refusal → Type 0
+LengthRefused count r = Refused (LengthMust count) (MemoryMay count) r
 
 module _ {A : Type 0} (bytes_of : A → List ℕ) where
   -- the bytes b and then those of each item
@@ -18,30 +22,38 @@ module _ {A : Type 0} (bytes_of : A → List ℕ) where
   abbrev pub cost : List A → ℕ
   cost xs = sum_by (λ x. length (bytes_of x) + 4) xs
 
--- The iterator of some items is one that `becomes` ties to them, and its calls give what `steps` says. An item has the
--- bytes `bytes_of x`, and a text of the bytes b has the bytes `after b xs` once the items xs are in it.
-module _ {I S A : Type 0} (becomes : I → S → Type 0) (steps : S → Option A → S → Type 0) (bytes_of : A → List ℕ) (after : List ℕ → List A → List ℕ) where
+-- The calls of an iterator give what `steps` says. An item has the bytes `bytes_of x`, and a text of the bytes b has the
+-- bytes `after b xs` once the items xs are in it.
+module _ {S A : Type 0} (steps : S → Option A → S → Type 0) (bytes_of : A → List ℕ) (after : List ℕ → List A → List ℕ) where
   -- The items that go into a text of the bytes b. After each of them it is short enough, and then the iterator gave no
-  -- other, or one more, with which the text is refused.
-  pub record Takes {R : Type 0} (items : I) (b : List ℕ) (taken : List A) (result : Result R Refusal) : Type 0 where
-    pub iterator : S
-    pub made : becomes items iterator
+  -- other, or one more, with which the text is refused. It was asked for nothing after that, and is left as `last`.
+  pub record Takes {R : Type 0} (iterator : S) (b : List ℕ) (taken : List A) (result : Result R Refusal) (last : S) : Type 0 where
     pub fits : (n : ℕ) → n < length taken → length (after b (take (n + 1) taken)) ≤ MAX_LEN
     pub ends : MatchResult result
-        (λ _. Drains steps iterator taken)
-        (λ r. (x : A) × (rest : S) × YieldsThen steps iterator taken (Some x) rest
-        × LengthRefused (length (after b (taken ++ x ∷ []))) r)
+        (λ _. YieldsThen steps iterator taken None last)
+        (λ r. (x : A) × YieldsThen steps iterator taken (Some x) last × LengthRefused (length (after b (taken ++ x ∷ []))) r)
 
   -- a text has what it had, and then all items or exactly those before the one that is refused
-  pub record Extends (items : I) (old new : Text) (result : Result (Unit {0}) Refusal) : Type 0 where
+  pub record TakesItems (iterator : S) (old : Text) (result : Result (Unit {0}) Refusal) (new : Text) (last : S) : Type 0 where
     pub taken : List A
-    pub takes : Takes items old.bytes taken result
+    pub takes : Takes iterator old.bytes taken result last
     pub bytes : new.bytes ≡ after old.bytes taken
     pub copied : new.copied ≤ max old.copied (length old.bytes) + cost bytes_of taken
 
+-- the same, where the iterator of some items is one that `becomes` ties to them
+module _ {I S A : Type 0} (becomes : I → S → Type 0) (steps : S → Option A → S → Type 0) (bytes_of : A → List ℕ) (after : List ℕ → List A → List ℕ) where
+  pub record Extends (items : I) (old new : Text) (result : Result (Unit {0}) Refusal) : Type 0 where
+    pub iterator : S
+    pub made : becomes items iterator
+    pub last : S
+    pub extends : TakesItems steps bytes_of after iterator old result new last
+
   -- a text has all items, or one of them is refused
   pub record Makes (items : I) (result : Result Text Refusal) : Type 0 where
+    pub iterator : S
+    pub made : becomes items iterator
+    pub last : S
     pub taken : List A
-    pub takes : Takes items [] taken result
+    pub takes : Takes steps bytes_of after iterator [] taken result last
     pub bytes : IfOk result (λ t. t.bytes ≡ after [] taken)
     pub copied : IfOk result (λ t. t.copied ≤ cost bytes_of taken)

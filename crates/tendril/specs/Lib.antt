@@ -1,8 +1,9 @@
+pub use Rattle.tendril_storage.specs.Texts
 pub mod Errors
-pub mod Texts
+pub mod Making
+pub mod Parts
+pub mod Pushes
 pub mod Characters
 pub mod Comparisons
 pub mod Items
-pub mod Storages
-pub mod Refusals
 pub mod Writes

@@ -1,13 +1,12 @@
 //! Characters of texts, and runs of them.
 ghost use Rattle.std.specs.Prelude.{◌≡◌, ◌<◌, ◌≤◌, ◌+◌, ◌-◌, ◌++◌, ◌∷◌, [], length, take, drop, max, encode_utf8, IfSome, IfNone, IfOk, IfErr, OnOk, OnErr, OnSome, IsOk, MatchOption};
-ghost use Rattle.tendril.specs.Characters.{CharRefused, EndsRun, HasLongParts, IsRun};
-ghost use Rattle.tendril.specs.Refusals.{LengthRefused};
-ghost use Rattle.tendril.specs.Texts.{Keeps, Parts};
+ghost use Rattle.tendril.specs.Characters.{EndsRun, HasLongParts, IsRun};
+ghost use Rattle.tendril.specs.Pushes.{Joins, JoinsChar};
+ghost use Rattle.tendril_storage.specs.Texts.{Keeps, Parts};
 ghost use Rattle.tendril_fmt.specs.Chars.{IsFirstChar};
 
 use crate::tendril::Tendril;
 use std::alloc::Global;
-use std::mem;
 use tendril_block::{Atomicity, MAX_LEN, Refusal};
 use tendril_fmt::fmt::{CharFormat, UTF8};
 
@@ -34,10 +33,12 @@ impl<F: CharFormat, A: Atomicity> Tendril<F, A> {
         mut classify: C,
     ) -> Result<Option<(Self, R)>, Refusal>
         requires { C.IsAlwaysCallable classify }
-        ensures run { IfOk result (λ found. IfSome found (λ run. IsRun C.step R.eq F.valid F.chars classify run.1 self.old.bytes run.0.bytes self.new.bytes)) }
+        ensures run { IfOk result (λ found. IfSome found (λ run.
+            IsRun C.step R.eq F.valid F.chars classify run.1 self.old.bytes run.0.bytes self.new.bytes)) }
         ensures copied { IfOk result (λ found. IfSome found (λ run. Parts self.old run.0 self.new)) }
         ensures none { IfOk result (λ found. IfNone found ((self.old.bytes ≡ []) × (self.new ≡ self.old))) }
-        ensures refusal { IfErr result (λ r. (r ≡ Refusal.Count) × HasLongParts C.step R.eq F.valid F.chars classify self.old.bytes) }
+        ensures refusal { IfErr result (λ r.
+            (r ≡ Refusal.Count) × HasLongParts C.step R.eq F.valid F.chars classify self.old.bytes) }
         ensures err { OnErr result (self.new ≡ self.old) }
     {
         let Some((end, class)) = run_end::<F, C, R>(self.as_byte_slice(), &mut classify) else {
@@ -49,40 +50,12 @@ impl<F: CharFormat, A: Atomicity> Tendril<F, A> {
 
     /// Puts a character at the end, where the format has it.
     pub fn try_push_char(&mut self, character: char) -> Result<(), Refusal>
-        ensures encoded { OnOk result (F.encodes character) }
-        ensures short { OnOk result (length (F.join self.old.bytes (F.encoding character)) ≤ MAX_LEN) }
-        ensures bytes { OnOk result (self.new.bytes ≡ F.join self.old.bytes (F.encoding character)) }
-        ensures copied { self.new.copied ≤ max self.old.copied (length self.old.bytes) + length (F.encoding character) + 4 }
-        ensures refusal { IfErr result (CharRefused F.encodes character (length (F.join self.old.bytes (F.encoding character)))) }
-        ensures err { OnErr result (self.new ≡ self.old) }
+        ensures { JoinsChar F.encodes F.encoding F.join character self.old result self.new }
     {
         let Some(encoded) = F::encode_char(character) else {
             return Err(Refusal::NotInFormat);
         };
         self.push_bytes_without_validating(encoded.as_slice())
-    }
-
-    // Takes the first bytes out of the text. Only where both parts are long do they share a block.
-    fn take_front(&mut self, count: u32) -> Result<Self, Refusal>
-        requires within { count ≤ length self.old.bytes }
-        requires front_valid { F.valid (take count self.old.bytes) }
-        requires rest_valid { F.valid (drop count self.old.bytes) }
-        ensures front { IfOk result (λ t. t.bytes ≡ take count self.old.bytes) }
-        ensures rest { OnOk result (self.new.bytes ≡ drop count self.old.bytes) }
-        ensures copied { IfOk result (λ t. Parts self.old t self.new) }
-        ensures refusal { IfErr result (λ r. (r ≡ Refusal.Count) × (8 < count) × (8 + count < length self.old.bytes)) }
-        ensures err { OnErr result (self.new ≡ self.old) }
-    {
-        if count <= 8 {
-            let front = self.subtendril(0, count)?;
-            self.pop_front(count);
-            return Ok(front);
-        }
-        let rest = self.len32() - count;
-        let end = self.subtendril(count, rest)?;
-        let mut front = mem::replace(self, end);
-        front.pop_back(rest);
-        Ok(front)
     }
 }
 
@@ -100,11 +73,7 @@ impl<A: Atomicity> Tendril<UTF8, A> {
 
     /// Puts a character at the end.
     pub fn push_char(&mut self, character: char) -> Result<(), Refusal>
-        ensures short { OnOk result (length self.old.bytes + length (encode_utf8 character) ≤ MAX_LEN) }
-        ensures bytes { OnOk result (self.new.bytes ≡ self.old.bytes ++ encode_utf8 character) }
-        ensures copied { self.new.copied ≤ max self.old.copied (length self.old.bytes) + length (encode_utf8 character) + 4 }
-        ensures refusal { IfErr result (LengthRefused (length self.old.bytes + length (encode_utf8 character))) }
-        ensures err { OnErr result (self.new ≡ self.old) }
+        ensures { Joins ◌++◌ (encode_utf8 character) self.old result self.new }
     {
         self.try_push_char(character)
     }
@@ -117,7 +86,9 @@ fn run_end<F: CharFormat, C: FnMut(char) -> R, R: PartialEq + Drop>(
 ) -> Option<(usize, R)>
     requires valid { F.valid bytes.now }
     requires callable { C.IsAlwaysCallable classify.old }
-    ensures { MatchOption result ((bytes.now ≡ []) × (classify.new ≡ classify.old)) (λ found. EndsRun C.step R.eq F.valid F.chars classify.old found.1 bytes.now found.0 classify.new) }
+    ensures { MatchOption result
+        ((bytes.now ≡ []) × (classify.new ≡ classify.old))
+        (λ found. EndsRun C.step R.eq F.valid F.chars classify.old found.1 bytes.now found.0 classify.new) }
 {
     let (first, mut end) = F::first_char(bytes)?;
     let class = classify(first);
@@ -134,7 +105,8 @@ fn run_end<F: CharFormat, C: FnMut(char) -> R, R: PartialEq + Drop>(
 fn char_at<F: CharFormat>(bytes: &[u8], at: usize) -> Option<(char, usize)>
     requires within { at ≤ length bytes.now }
     requires valid { F.valid (drop at bytes.now) }
-    ensures first { IfSome result (λ found. IsFirstChar F.valid F.chars F.encodes F.encoding (drop at bytes.now) found.0 found.1) }
+    ensures first { IfSome result (λ found.
+        IsFirstChar F.valid F.chars F.encodes F.encoding (drop at bytes.now) found.0 found.1) }
     ensures none { IfNone result (drop at bytes.now ≡ []) }
 {
     F::first_char(&bytes[at..])

@@ -2,9 +2,9 @@
 #![tactic(auto, using(crate::proofs::Taken::appends))]
 
 ghost use Rattle.std.specs.Prelude.{◌++◌, encode_utf8, map};
-ghost use Rattle.std.specs.Iterator.{IsFiniteIterable};
+ghost use Rattle.std.specs.Iterator.{IsFinite, IsFiniteIterable};
 ghost use Rattle.tendril_fmt.specs.Chars.{one_byte};
-ghost use Rattle.tendril.specs.Items.{Extends, Makes, appended, joined};
+ghost use Rattle.tendril.specs.Items.{Extends, Makes, TakesItems, appended, joined};
 
 mod piece;
 
@@ -47,7 +47,6 @@ impl<F: Format, A: Atomicity> Tendril<F, A> {
         Self::from_items(alloc, texts)
     }
 
-    // The loop of all `extend_` functions.
     fn extend_with<I: IntoIterator>(&mut self, items: I) -> Result<(), Refusal>
     where
         I::Item: Piece<F, A>,
@@ -55,7 +54,20 @@ impl<F: Format, A: Atomicity> Tendril<F, A> {
         ensures { Extends I.into_iter_gives I.IntoIter.next_gives
             I.Item.bytes (joined I.Item.bytes F.join) items self.old self.new result }
     {
-        for item in items {
+        self.take_items(&mut items.into_iter())
+    }
+
+    // The loop of all `extend_` functions. It is lent the iterator, so that its clause can say what that is when the
+    // loop ends: it was asked for no item after the one that is refused.
+    fn take_items<I: Iterator>(&mut self, source: &mut I) -> Result<(), Refusal>
+    where
+        I::Item: Piece<F, A>,
+        requires can { I.can_next source.old }
+        requires finite { IsFinite (I.remaining source.old) }
+        ensures { TakesItems I.next_gives I.Item.bytes (joined I.Item.bytes F.join)
+            source.old self.old result self.new source.new }
+    {
+        while let Some(item) = source.next() {
             item.push_to(self)?;
         }
         Ok(())

@@ -5,7 +5,6 @@
 mod chars;
 mod error;
 mod items;
-mod storage;
 mod tendril;
 mod view;
 

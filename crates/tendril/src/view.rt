@@ -1,13 +1,13 @@
 //! Texts seen in another format.
 ghost use Rattle.std.specs.Prelude.{◌≡◌, ◌<◌, ◌≤◌, ◌+◌, length, take, drop, IfOk, IfErr, OnOk};
-ghost use Rattle.tendril.specs.Refusals.{SliceRefused};
+ghost use Rattle.tendril.specs.Parts.{Clones, SlicesValid};
 
 use crate::error::SubtendrilError;
-use crate::storage::Storage;
 use crate::tendril::{Tendril, share, try_part};
 use std::marker::{Model, PhantomData};
 use tendril_block::{Atomicity, MAX_LEN, Refusal};
 use tendril_fmt::fmt::{Format, UTF8};
+use tendril_storage::Storage;
 
 /// A text that is lent and seen in the format `F`, in which it is valid. It stands for a reference to a text in `F`.
 #[derive(Drop)]
@@ -17,7 +17,7 @@ pub struct View<'a, F: Format, A: Atomicity> {
 }
 
 impl<'a, F: Format, A: Atomicity> Model for View<'a, F, A> {
-    ghost use Rattle.tendril.specs.Texts.{Text};
+    ghost use Rattle.tendril_storage.specs.Texts.{Text};
 
     ghost Value = { Text };
 
@@ -27,8 +27,6 @@ impl<'a, F: Format, A: Atomicity> Model for View<'a, F, A> {
 }
 
 impl<'a, F: Format, A: Atomicity> View<'a, F, A> {
-    ghost use Rattle.tendril.specs.Texts.{Shares};
-
     /// The view of bytes that are valid in the format.
     pub(crate) fn new(storage: &'a Storage<A>) -> Self
         requires { F.valid storage.now.bytes }
@@ -47,8 +45,8 @@ impl<'a, F: Format, A: Atomicity> View<'a, F, A> {
         self.storage.len32()
     }
 
-    /// The bytes.
-    pub fn as_byte_slice(&self) -> &[u8]
+    /// The bytes. They are lent for as long as the text is.
+    pub fn as_byte_slice(&self) -> &'a [u8]
         ensures value { result.now ≡ self.now.bytes }
         ensures valid { F.valid self.now.bytes }
         ensures short { length self.now.bytes ≤ MAX_LEN }
@@ -59,28 +57,22 @@ impl<'a, F: Format, A: Atomicity> View<'a, F, A> {
     /// The part of so many bytes from the offset on, as a text, where it is there and valid in the format. A long part
     /// shares the text's bytes.
     pub fn try_subtendril(&self, offset: u32, count: u32) -> Result<Tendril<F, A>, SubtendrilError>
-        ensures within { OnOk result (offset + count ≤ length self.now.bytes) }
-        ensures valid { OnOk result (F.valid (take count (drop offset self.now.bytes))) }
-        ensures bytes { IfOk result (λ t. t.bytes ≡ take count (drop offset self.now.bytes)) }
-        ensures copied { IfOk result Shares }
-        ensures refusal { IfErr result (SliceRefused F.valid self.now.bytes offset count) }
+        ensures { SlicesValid F.valid self.now.bytes offset count result }
     {
         try_part(self.storage, offset, count)
     }
 
     /// The text in the view's format, which shares the bytes of a long one.
     pub fn to_tendril(&self) -> Result<Tendril<F, A>, Refusal>
-        ensures bytes { IfOk result (λ t. t.bytes ≡ self.now.bytes) }
-        ensures copied { IfOk result Shares }
-        ensures refusal { IfErr result (λ r. (r ≡ Refusal.Count) × (8 < length self.now.bytes)) }
+        ensures { Clones self.now.bytes result }
     {
         share(self.storage)
     }
 }
 
-impl<A: Atomicity> View<'_, UTF8, A> {
-    /// The text as a string.
-    pub fn as_str(&self) -> &str
+impl<'a, A: Atomicity> View<'a, UTF8, A> {
+    /// The text as a string. It is lent for as long as the text is.
+    pub fn as_str(&self) -> &'a str
         ensures { result.now ≡ self.now.bytes }
     {
         unsafe { str::from_utf8_unchecked(self.as_byte_slice()) }

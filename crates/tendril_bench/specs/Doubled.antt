@@ -1,7 +1,10 @@
 -- ASCII with each byte written twice, and the laws that it owes.
-use Rattle.std.proofs.Common.{◌≡◌, ℕ, ◌<◌, List, [], ◌∷◌, ◌++◌, length, refl, sym, ap, subst, ◌∙◌}
-use Rattle.std.specs.List.{AllByRecursion}
+use Rattle.std.proofs.Common.{◌≡◌, ℕ, ◌<◌, List, [], ◌∷◌, ◌++◌, length, refl, sym, ap, subst, ◌∙◌, arith}
+use Rattle.std.specs.List.{All, AllByRecursion}
 use Rattle.std.proofs.lemmas.List.Concat.{flat_map-append}
+use Rattle.std.proofs.lemmas.List.Elements.{All-from_recursion}
+use Rattle.tendril_fmt.specs.Bytes.{AreBytes}
+use Rattle.tendril_fmt.specs.Proved.Bytes.{AreBytes-nil, AreBytes-cons}
 use Rattle.tendril_fmt.specs.Chars.{encodings, AreTextsOf}
 
 -- a byte twice
@@ -37,6 +40,16 @@ pub IsDoubled-append : (l r : List ℕ) → IsDoubled l → IsDoubled r → IsDo
 IsDoubled-append l r h k =
     (h.0 ++ k.0, AreAscii-append h.0 k.0 h.1 k.1, flat_map-append twice h.0 k.0 ∙ ap (λ x. x ++ encodings twice k.0) h.2 ∙ ap (λ x. l ++ x) k.2)
 
+AreBytes-encodings : (cs : List ℕ) → AreAscii cs → AreBytes (encodings twice cs)
+AreBytes-encodings [] h = AreBytes-nil
+AreBytes-encodings (c ∷ cs) h =
+    let byte : c < 256 = omega (arith, h.0) in
+    let rest = AreBytes-encodings cs h.1 in
+    AreBytes-cons c (c ∷ encodings twice cs) byte (AreBytes-cons c (encodings twice cs) byte rest)
+
+pub AreBytes-doubled : (bytes : List ℕ) → IsDoubled bytes → AreBytes bytes
+AreBytes-doubled bytes w = subst AreBytes w.2 (AreBytes-encodings w.0 w.1)
+
 pub IsDoubled-twice : (c : ℕ) → c < 128 → IsDoubled (twice c)
 IsDoubled-twice c h = (c ∷ [], (h, tt), refl)
 
@@ -50,6 +63,9 @@ characters bytes w = ap firsts (sym w.2) ∙ firsts-encodings w.0
 
 pub firsts-spell : (bytes : List ℕ) → IsDoubled bytes → bytes ≡ encodings twice (firsts bytes)
 firsts-spell bytes w = sym w.2 ∙ ap (encodings twice) (sym (characters bytes w))
+
+pub All-doubled : (bytes : List ℕ) → IsDoubled bytes → All (λ c. c < 128) (firsts bytes)
+All-doubled bytes w = All-from_recursion (λ c. c < 128) (firsts bytes) (subst AreAscii (sym (characters bytes w)) w.1)
 
 pub AreTextsOf-doubled : (bytes cs ds : List ℕ) → IsDoubled bytes → firsts bytes ≡ cs ++ ds → AreTextsOf IsDoubled firsts twice cs ds
 AreTextsOf-doubled bytes cs ds w e =

@@ -1,6 +1,14 @@
 -- Bytes two by two.
-use Rattle.std.specs.Prelude.{◌≡◌, ℕ, ◌%◌, List, length}
+use Rattle.std.proofs.Common.{◌≡◌, ℕ, ◌%◌, List, [], ◌++◌, length, refl, arith, length-append}
+use Rattle.tendril_fmt.specs.Bytes.{AreBytes}
+use Rattle.tendril_fmt.specs.Proved.Bytes.{AreBytes-nil, AreBytes-append}
 
--- the number of bytes is even
+-- bytes, and their number is even
 abbrev pub IsPaired : List ℕ → Type 0
-IsPaired bytes = length bytes % 2 ≡ 0
+IsPaired bytes = AreBytes bytes × (length bytes % 2 ≡ 0)
+
+pub IsPaired-nil : IsPaired []
+IsPaired-nil = (AreBytes-nil, refl)
+
+pub IsPaired-append : (l r : List ℕ) → IsPaired l → IsPaired r → IsPaired (l ++ r)
+IsPaired-append l r h k = (AreBytes-append l r h.0 k.0, omega (arith, length-append l r, h.1, k.1))

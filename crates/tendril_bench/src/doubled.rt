@@ -8,7 +8,7 @@ pub struct Doubled;
 
 impl Format for Doubled {
     ghost use Rattle.std.specs.Prelude.{◌++◌};
-    ghost use Rattle.tendril_bench.specs.Doubled.{IsDoubled, IsDoubled-nil, IsDoubled-append};
+    ghost use Rattle.tendril_bench.specs.Doubled.{IsDoubled, IsDoubled-nil, IsDoubled-append, AreBytes-doubled};
 
     ghost valid = { IsDoubled };
 
@@ -17,6 +17,8 @@ impl Format for Doubled {
     ghost empty_valid = { IsDoubled-nil };
 
     ghost join_valid = { IsDoubled-append };
+
+    ghost are_bytes = { AreBytes-doubled };
 
     fn validate(bytes: &[u8]) -> bool {
         let mut rest = bytes;
@@ -37,7 +39,7 @@ impl Format for Doubled {
 impl CharFormat for Doubled {
     ghost use Rattle.std.specs.Prelude.{◌<◌, refl};
     ghost use Rattle.std.proofs.Common.{lit≤};
-    ghost use Rattle.tendril_bench.specs.Doubled.{twice, firsts, firsts-spell, AreTextsOf-doubled, IsDoubled-twice};
+    ghost use Rattle.tendril_bench.specs.Doubled.{twice, firsts, firsts-spell, All-doubled, AreTextsOf-doubled, IsDoubled-twice};
 
     ghost chars = { firsts };
 
@@ -48,6 +50,8 @@ impl CharFormat for Doubled {
     ghost empty_chars = { refl };
 
     ghost chars_spell = { firsts-spell };
+
+    ghost chars_encode = { All-doubled };
 
     ghost cut = { AreTextsOf-doubled };
 

@@ -7,17 +7,18 @@ use tendril_fmt::fmt::{Fixup, Format};
 pub struct Pairs;
 
 impl Format for Pairs {
-    ghost use Rattle.std.specs.Prelude.{◌++◌, refl};
-    ghost use Rattle.std.proofs.Common.{arith, length-append};
-    ghost use Rattle.tendril_bench.specs.Pairs.{IsPaired};
+    ghost use Rattle.std.specs.Prelude.{◌++◌};
+    ghost use Rattle.tendril_bench.specs.Pairs.{IsPaired, IsPaired-nil, IsPaired-append};
 
     ghost valid = { IsPaired };
 
     ghost join = { λ l r. l ++ r };
 
-    ghost empty_valid = { refl };
+    ghost empty_valid = { IsPaired-nil };
 
-    ghost join_valid = { λ l r hl hr. Prim.omega (arith, length-append l r, hl, hr) };
+    ghost join_valid = { IsPaired-append };
+
+    ghost are_bytes = { λ _ v. v.0 };
 
     fn validate(bytes: &[u8]) -> bool {
         bytes.len() % 2 == 0

@@ -49,12 +49,20 @@ pub trait Atomicity {
     /// The body, to change it, where no other holds the block.
     fn alone_mut(block: &mut Self::Block) -> Option<&mut Body>
         // What is left in the body is the block's list, and what the body took was copied for this holder.
-        ensures* lends { sem 𝓛 (LendsSo Self.Block.row body_row block.entry result (λ n w. IfSome result (λ b. (bytes_of n ≡ w.bytes) × (copied n ≡ copied block.old + (w.took - b.now.took)))) (λ n. (bytes_of n ≡ bytes_of block.old) × (copied n ≡ copied block.old))) }
+        ensures* lends { sem 𝓛 (LendsSo Self.Block.row body_row block.entry result
+            (λ n w. IfSome result (λ b.
+            (bytes_of n ≡ w.bytes) × (copied n ≡ copied block.old + (w.took - b.now.took))))
+            (λ n. (bytes_of n ≡ bytes_of block.old) × (copied n ≡ copied block.old))) }
         ensures bytes { IfSome result (λ b. b.now.bytes ≡ bytes_of block.old) };
 
     /// The body, to change it. Where others hold the block, a copy that is made of it takes its place first.
     fn make_mut(block: &mut Self::Block) -> Result<&mut Body, Refusal>
-        ensures* lends { sem 𝓛 (LendsSoOk Self.Block.row body_row block.entry result (λ n w. IfOk result (λ b. (bytes_of n ≡ w.bytes) × ((copied n ≡ copied block.old + (w.took - b.now.took)) ⊎ (copied n ≡ length (bytes_of block.old) + (w.took - b.now.took))))) (λ n. (bytes_of n ≡ bytes_of block.old) × ((copied n ≡ copied block.old) ⊎ (copied n ≡ length (bytes_of block.old))))) }
+        ensures* lends { sem 𝓛 (LendsSoOk Self.Block.row body_row block.entry result
+            (λ n w. IfOk result (λ b. (bytes_of n ≡ w.bytes)
+            × ((copied n ≡ copied block.old + (w.took - b.now.took))
+            ⊎ (copied n ≡ length (bytes_of block.old) + (w.took - b.now.took)))))
+            (λ n. (bytes_of n ≡ bytes_of block.old)
+            × ((copied n ≡ copied block.old) ⊎ (copied n ≡ length (bytes_of block.old))))) }
         ensures bytes { IfOk result (λ b. b.now.bytes ≡ bytes_of block.old) }
         ensures refusal { IfErr result (λ r. r ≡ Refusal.Memory) };
 

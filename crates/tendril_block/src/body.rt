@@ -63,7 +63,8 @@ impl Body {
         ensures same { self.new ≡ self.old }
         ensures refusal { IfErr result (λ r. r ≡ Refusal.Memory) }
     {
-        self.bytes.reserve(more).map_err(|_| Refusal::Memory)
+        self.bytes.reserve(more)?;
+        Ok(())
     }
 
     /// Puts bytes at the end, in amortized time of their number.
@@ -73,13 +74,9 @@ impl Body {
         ensures refusal { IfErr result (λ r. r ≡ Refusal.Memory) }
         ensures err { OnErr result (self.new ≡ self.old) }
     {
-        match self.bytes.extend_from_slice(more) {
-            Ok(()) => {
-                self.took = self.took.plus(&self.took, &self.took, more.len());
-                Ok(())
-            }
-            Err(_) => Err(Refusal::Memory),
-        }
+        self.bytes.extend_from_slice(more)?;
+        self.took = self.took.plus(&self.took, &self.took, more.len());
+        Ok(())
     }
 
     /// Puts so many zeros at the end, in amortized time of their number.
@@ -90,13 +87,9 @@ impl Body {
         ensures err { OnErr result (self.new ≡ self.old) }
     {
         let len = self.bytes.len().checked_add(count).ok_or(Refusal::Memory)?;
-        match self.bytes.resize(len, 0) {
-            Ok(()) => {
-                self.took = self.took.plus(&self.took, &self.took, count);
-                Ok(())
-            }
-            Err(_) => Err(Refusal::Memory),
-        }
+        self.bytes.resize(len, 0)?;
+        self.took = self.took.plus(&self.took, &self.took, count);
+        Ok(())
     }
 
     /// Puts bytes in the place of all from `keep` on, in amortized time of their number. Where there is no room for
@@ -113,9 +106,7 @@ impl Body {
         let extra = middle.len().checked_add(more.len()).ok_or(Refusal::Memory)?;
         let wanted = keep.checked_add(extra).ok_or(Refusal::Memory)?;
         let missing = wanted.saturating_sub(self.bytes.len());
-        if self.bytes.reserve(missing).is_err() {
-            return Err(Refusal::Memory);
-        }
+        self.bytes.reserve(missing)?;
         self.bytes.truncate(keep);
         append_reserved(&mut self.bytes, middle);
         append_reserved(&mut self.bytes, more);

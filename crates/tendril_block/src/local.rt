@@ -116,16 +116,16 @@ impl LocalBlock {
     // Where others hold the block, a copy takes its place.
     fn own(&mut self) -> Result<(), Refusal>
         ensures bytes { self.new.body.value.bytes ≡ self.old.body.value.bytes }
-        ensures copied { (self.new ≡ self.old) ⊎ (self.new.before.bytes + (self.new.body.value.took - self.new.since.bytes) ≡ length self.old.body.value.bytes) }
+        ensures copied { (self.new ≡ self.old)
+            ⊎ (self.new.before.bytes + (self.new.body.value.took - self.new.since.bytes)
+            ≡ length self.old.body.value.bytes) }
         ensures refusal { IfErr result (λ r. r ≡ Refusal.Memory) }
     {
         if Rc::strong_count(&self.body) == 1 {
             return Ok(());
         }
         let alloc = self.body.as_ref().allocator();
-        let Ok(bytes) = Vec::from_slice(alloc, self.body.as_slice()) else {
-            return Err(Refusal::Memory);
-        };
+        let bytes = Vec::from_slice(alloc, self.body.as_slice())?;
         let Ok(own) = NonAtomic::make(bytes) else {
             return Err(Refusal::Memory);
         };

@@ -2,6 +2,7 @@
 ghost use Rattle.std.specs.Prelude.{◌≡◌};
 ghost use Rattle.tendril_block.specs.Refusals.{number_of, name_of};
 
+use std::alloc::AllocError;
 use std::error::Error;
 use std::fmt;
 
@@ -79,3 +80,14 @@ impl fmt::Display for Refusal {
 }
 
 impl Error for Refusal {}
+
+/// Memory was wanting. So `?` passes a refused growth up.
+impl From<AllocError> for Refusal {
+    ghost use Rattle.tendril_block.specs.declared.refusal.Refusal.TheVariants.{Memory};
+
+    ghost from_gives = { λ _ r. r ≡ Memory };
+
+    fn from(_: AllocError) -> Self {
+        Refusal::Memory
+    }
+}

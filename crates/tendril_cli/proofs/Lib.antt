@@ -1,2 +1,4 @@
+mod EndingLemmas
+mod HeldLemmas
 mod SessionLemmas
 mod WordLemmas

@@ -1,2 +1,4 @@
+pub mod Endings
+pub mod Held
 pub mod Sessions
 pub mod Words

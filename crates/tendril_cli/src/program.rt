@@ -1,11 +1,15 @@
 //! The program over any reader and writers.
-ghost use Rattle.std.specs.Prelude.{◌≡◌, ◌≤◌, ◌↔◌, ◌⊎◌, map, IsTrue, IfErr, OnOk};
+ghost use Rattle.std.specs.Prelude.{◌≡◌, ◌≢◌, ◌≤◌, ◌↔◌, ◌⊎◌, map, IsTrue, IfSome, IfOk, IfErr, OnOk};
+ghost use Rattle.std.specs.Io.KnownBytes.{IsAtEnd, Keeps};
+ghost use Rattle.std.specs.IoError.{error_kind};
+ghost use Rattle.tendril_cli.specs.Endings.{Ended, Ends, Stops, TakesFront, complaint, usage};
+ghost use Rattle.tendril_cli.specs.Sessions.{Ran, lines};
 ghost use Rattle.tendril_cli.specs.Words.{AskToRun};
-ghost use Rattle.tendril_cli.specs.Sessions.{Ran};
 
-use crate::script::{refusal_of, run_script};
+use crate::output::write_bytes;
+use crate::script::run_script;
 use std::alloc::Global;
-use std::io::{Read, Write};
+use std::io::{Error, ErrorKind, Read, Write};
 use tendril::block::Refusal;
 
 const DONE: u8 = 0;
@@ -17,8 +21,8 @@ const MISUSED: u8 = 2;
 /// Runs what the words ask for, and answers the program's status.
 ///
 /// No word, or `run`: the lines of the input are run on one table, and the replies printed (status 0). A refused read,
-/// write or want of memory prints `tendril: refused N Name` to `err`, and what was printed before stands (status 1).
-/// All other words print the usage to `err` (status 2).
+/// write or want of memory prints `tendril: refused N Name` to `err`, and what was printed before stands (status 1): in
+/// whole lines, unless a write failed. All other words print the usage to `err` (status 2).
 pub fn program<R: Read, W: Write, E: Write>(
     alloc: Global,
     words: &[&str],
@@ -29,11 +33,23 @@ pub fn program<R: Read, W: Write, E: Write>(
     ensures usage { (result ≡ 2) ↔ (AskToRun (map (λ word. word.now) words.now) → ⊥) }
     ensures status { result ≤ 2 }
 
-    // Where the reader and the writer tell their bytes, all that was asked is answered.
+    // Where the reader and the writers tell their bytes, all that was asked is answered.
     ensures ran { result ≡ 0 → Ran (R.remaining input.old) (W.contents out.old) (W.contents out.new) }
+    ensures silent { result ≡ 0 → Keeps (E.contents err.old) (E.contents err.new) }
+
+    // Or a refusal is told, and some first lines of the script are answered, in whole lines unless a write failed.
+    ensures refused { result ≡ 1 → Ended (R.remaining input.old)
+        (W.contents out.old) (W.contents out.new) (E.contents err.old) (E.contents err.new) }
+
+    // Or the words ask for nothing.
+    ensures misused { result ≡ 2 → Keeps (W.contents out.old) (W.contents out.new) }
+    ensures told { result ≡ 2 → TakesFront (E.contents err.old) (E.contents err.new) usage }
+
+    // Nothing is printed before the input's end.
+    ensures reads_first { Keeps (W.contents out.old) (W.contents out.new) ⊎ IsAtEnd (R.remaining input.new) }
 {
     if !asks_to_run(words) {
-        let _ = err.write_all(b"usage: tendril run | tendril decode\n");
+        let _ = write_bytes(err, b"usage: tendril run | tendril decode\n");
         return MISUSED;
     }
     match run_input(alloc, input, out) {
@@ -54,20 +70,56 @@ fn asks_to_run(words: &[&str]) -> bool
 
 /// Prints a refusal that ends the program, and answers its status. What can't be printed is left out.
 pub fn refuse<E: Write>(refusal: Refusal, err: &mut E) -> u8
-    ensures { result ≡ 1 }
+    requires { Ends refusal }
+    ensures status { result ≡ 1 }
+    ensures told { TakesFront (E.contents err.old) (E.contents err.new) (complaint refusal) }
 {
-    let _ = writeln!(err, "tendril: refused {refusal}");
+    let _ = write_bytes(err, complaint(refusal).as_bytes());
     REFUSED
+}
+
+// A refusal's line. It is made without memory, which may be wanting.
+fn complaint(refusal: Refusal) -> &'static str
+    requires { Ends refusal }
+    ensures { result.now ≡ complaint refusal }
+{
+    match refusal {
+        Refusal::Memory => "tendril: refused 2 Memory\n",
+        _ => "tendril: refused 9 Io\n",
+    }
 }
 
 // Runs the script that the input has.
 fn run_input<R: Read, W: Write>(alloc: Global, input: &mut R, out: &mut W) -> Result<(), Refusal>
     ensures ok { OnOk result (Ran (R.remaining input.old) (W.contents out.old) (W.contents out.new)) }
-    ensures refusal { IfErr result (λ r. (r ≡ Refusal.Memory) ⊎ (r ≡ Refusal.Io)) }
+    ensures refusal { IfErr result Ends }
+    ensures stops { IfErr result (λ r. IfSome (R.remaining input.old)
+        (λ script. Stops (lines script) (W.contents out.old) (W.contents out.new) r)) }
+    ensures reads_first { Keeps (W.contents out.old) (W.contents out.new) ⊎ IsAtEnd (R.remaining input.new) }
+{
+    let script = read_script(alloc, input)?;
+    run_script(alloc, script.as_slice(), out)
+}
+
+fn read_script<R: Read>(alloc: Global, input: &mut R) -> Result<Vec<u8>, Refusal>
+    ensures ok { IfOk result (λ v. IfSome (R.remaining input.old) (λ script. v.items ≡ script)) }
+    ensures end { OnOk result (IsAtEnd (R.remaining input.new)) }
+    ensures refusal { IfErr result Ends }
 {
     let mut script = Vec::new(alloc);
-    if let Err(error) = input.read_to_end(&mut script) {
-        return Err(refusal_of(&error));
+    match input.read_to_end(&mut script) {
+        Ok(_) => Ok(script),
+        Err(error) => Err(refusal_of(&error)),
     }
-    run_script(alloc, script.as_slice(), out)
+}
+
+/// The refusal that a failed read is: of memory, or of the read.
+pub fn refusal_of(error: &Error) -> Refusal
+    ensures memory { error_kind error.now ≡ ErrorKind.OutOfMemory → result ≡ Refusal.Memory }
+    ensures io { error_kind error.now ≢ ErrorKind.OutOfMemory → result ≡ Refusal.Io }
+{
+    match error.kind() {
+        ErrorKind::OutOfMemory => Refusal::Memory,
+        _ => Refusal::Io,
+    }
 }

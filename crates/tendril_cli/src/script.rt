@@ -1,39 +1,39 @@
 //! A script of commands: its lines one by one, on one table.
-ghost use Rattle.std.specs.Prelude.{◌≡◌, ◌≢◌, ◌⊎◌, Some, IfOk, IfErr, OnOk, OnErr, [], ◌∷◌, ◌++◌, map, string_bytes};
-ghost use Rattle.std.specs.Io.KnownBytes.{Keeps, append_known};
-ghost use Rattle.std.specs.IoError.{error_kind};
-ghost use Rattle.tendril_cli.specs.Sessions.{Answers, Replies, WritesFromEmpty, WritesLine, WritesScript, lines};
+ghost use Rattle.std.specs.Prelude.{◌≡◌, Some, IfOk, IfErr, OnOk, OnErr, [], ◌∷◌, ◌++◌, map, string_bytes};
+ghost use Rattle.std.specs.Io.KnownBytes.{Appends};
+ghost use Rattle.tendril_cli.specs.Endings.{Stops, TakesFront};
+ghost use Rattle.tendril_cli.specs.Held.{Passes, PrintsAll, PrintsSome};
+ghost use Rattle.tendril_cli.specs.Sessions.{Answers, Replies, WritesLine, WritesScript, lines};
 
+use crate::output::{flush, write_bytes};
 use crate::white_space::WhiteSpace;
 use std::alloc::{AllocError, Global};
-use std::io::{Error, ErrorKind, Write};
+use std::io::Write;
 use tendril::NonAtomic;
 use tendril::block::Refusal;
-use tendril_run::{Command, Reply, Table, parse_line, print_reply, run};
+use tendril_run::{Command, Reply, Table, parse_line, print_reply};
 
 // How many bytes are held back before they are written.
 const CHUNK: usize = 8192;
 
 const NEWLINE: u8 = b'\n';
 
-/// Runs the lines of a script on a new table, and writes one line for each that isn't empty, in chunks. It stops at the
-/// first refusal of memory or of a write; what was printed before is written then too.
+/// Runs the lines of a script on a new table, and writes one line for each that isn't empty, in chunks.
+///
+/// It stops at the first refusal of memory or of a write. What was printed before a refusal of memory is written then
+/// too, in whole lines; where a write fails, that is the refusal.
 pub fn run_script<W: Write>(alloc: Global, script: &[u8], out: &mut W) -> Result<(), Refusal>
     ensures ok { OnOk result (WritesScript script.now (W.contents out.old) (W.contents out.new)) }
-    ensures refusal { IfErr result (λ r. (r ≡ Refusal.Memory) ⊎ (r ≡ Refusal.Io)) }
+    ensures refusal { IfErr result (Stops (lines script.now) (W.contents out.old) (W.contents out.new)) }
 {
     let Ok(lines) = split_lines(alloc, script) else {
         return Err(Refusal::Memory);
     };
     let mut held = Vec::new(alloc);
     let ran = run_lines(alloc, lines.as_slice(), &mut held, out);
-    let written = write_held(&mut held, out);
-    ran?;
-    written?;
-    match out.flush() {
-        Ok(()) => Ok(()),
-        Err(error) => Err(refusal_of(&error)),
-    }
+    write_held(&mut held, out)?;
+    flush(out)?;
+    ran
 }
 
 // The lines of a script, without their line feeds.
@@ -50,8 +50,10 @@ fn run_lines<W: Write>(
     held: &mut Vec<u8>,
     out: &mut W,
 ) -> Result<(), Refusal>
-    ensures ok { OnOk result (WritesFromEmpty (map (λ line. line.now) lines.now) (append_known (W.contents out.old) held.old.items) (append_known (W.contents out.new) held.new.items)) }
-    ensures refusal { IfErr result (λ r. (r ≡ Refusal.Memory) ⊎ (r ≡ Refusal.Io)) }
+    ensures ok { OnOk result (PrintsAll (map (λ line. line.now) lines.now)
+        (W.contents out.old) (W.contents out.new) held.old.items held.new.items) }
+    ensures refusal { IfErr result (PrintsSome (map (λ line. line.now) lines.now)
+        (W.contents out.old) (W.contents out.new) held.old.items held.new.items) }
 {
     let mut table = Table::<NonAtomic>::new(alloc);
     for line in lines {
@@ -63,8 +65,10 @@ fn run_lines<W: Write>(
 
 // Writes what is held back, where it is a chunk.
 fn write_chunk<W: Write>(held: &mut Vec<u8>, out: &mut W) -> Result<(), Refusal>
-    ensures ok { OnOk result (Keeps (append_known (W.contents out.old) held.old.items) (append_known (W.contents out.new) held.new.items)) }
-    ensures refusal { IfErr result (λ r. (r ≡ Refusal.Memory) ⊎ (r ≡ Refusal.Io)) }
+    ensures ok { OnOk result (Passes (W.contents out.old) (W.contents out.new) held.old.items [] held.new.items) }
+    ensures err { OnErr result (TakesFront (W.contents out.old) (W.contents out.new) held.old.items) }
+    ensures none_held { OnErr result (held.new.items ≡ []) }
+    ensures refusal { IfErr result (λ r. r ≡ Refusal.Io) }
 {
     if held.len() < CHUNK {
         return Ok(());
@@ -74,16 +78,14 @@ fn write_chunk<W: Write>(held: &mut Vec<u8>, out: &mut W) -> Result<(), Refusal>
 
 // Writes what is held back. After a failed write nothing is held, since a part of it may have been written.
 fn write_held<W: Write>(held: &mut Vec<u8>, out: &mut W) -> Result<(), Refusal>
-    ensures written { OnOk result (Keeps (append_known (W.contents out.old) held.old.items) (W.contents out.new)) }
-    ensures held { held.new.items ≡ [] }
-    ensures refusal { IfErr result (λ r. (r ≡ Refusal.Memory) ⊎ (r ≡ Refusal.Io)) }
+    ensures ok { OnOk result (Appends (W.contents out.old) (W.contents out.new) held.old.items) }
+    ensures err { OnErr result (TakesFront (W.contents out.old) (W.contents out.new) held.old.items) }
+    ensures none_held { held.new.items ≡ [] }
+    ensures refusal { IfErr result (λ r. r ≡ Refusal.Io) }
 {
-    let written = out.write_all(held.as_slice());
+    let written = write_bytes(out, held.as_slice());
     held.clear();
-    match written {
-        Ok(()) => Ok(()),
-        Err(error) => Err(refusal_of(&error)),
-    }
+    written
 }
 
 // Runs one line, and puts what it prints behind what is held back.
@@ -93,7 +95,9 @@ fn run_line(
     line: &[u8],
     held: &mut Vec<u8>,
 ) -> Result<(), Refusal>
-    ensures ok { OnOk result (WritesLine table.old.cells line.now table.new.cells (Some held.old.items) (Some held.new.items)) }
+    ensures ok { OnOk result (WritesLine
+        table.old.cells line.now table.new.cells (Some held.old.items) (Some held.new.items)) }
+    ensures err { OnErr result (held.new.items ≡ held.old.items) }
     ensures refusal { IfErr result (λ r. r ≡ Refusal.Memory) }
 {
     if line.is_empty() {
@@ -127,32 +131,17 @@ fn answer(table: &mut Table<NonAtomic>, alloc: Global, line: &[u8]) -> Result<St
     ensures refusal { IfErr result (λ r. r ≡ Refusal.Memory) }
 {
     match parse_line(alloc, line)? {
-        Some(command) => print_reply(alloc, &reply(table, command)),
+        Some(command) => print_reply(alloc, &reply(table, &command)),
         None => String::from_str(alloc, "malformed").map_err(|_| Refusal::Memory),
     }
 }
 
-// The reply to one command.
-fn reply(table: &mut Table<NonAtomic>, command: Command) -> Reply
-    ensures { Replies table.old.cells command result table.new.cells }
+// The reply to one command. Room for the slot that it may make is reserved first.
+fn reply(table: &mut Table<NonAtomic>, command: &Command) -> Reply
+    ensures { Replies table.old.cells command.now result table.new.cells }
 {
-    let mut replies = match run(table, &[command], &WhiteSpace) {
-        Ok(replies) => replies,
-        Err(refusal) => return Reply::Refused(refusal),
-    };
-    match replies.pop() {
-        Some(reply) => reply,
-        None => unreachable!(),
-    }
-}
-
-/// The refusal that an error of a reader or a writer is: of memory, or of the read or the write.
-pub fn refusal_of(error: &Error) -> Refusal
-    ensures memory { error_kind error.now ≡ ErrorKind.OutOfMemory → result ≡ Refusal.Memory }
-    ensures io { error_kind error.now ≢ ErrorKind.OutOfMemory → result ≡ Refusal.Io }
-{
-    match error.kind() {
-        ErrorKind::OutOfMemory => Refusal::Memory,
-        _ => Refusal::Io,
+    match table.reserve_slots(1) {
+        Ok(()) => table.step(command, &WhiteSpace),
+        Err(refusal) => Reply::Refused(refusal),
     }
 }

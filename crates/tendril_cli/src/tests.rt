@@ -1,5 +1,6 @@
 //! The program on scripted input: what is printed, and its status.
 
+mod arguments;
 mod malformed;
 mod refusals;
 mod sessions;
@@ -132,30 +133,41 @@ fn other_words_print_the_usage(rt: HostRuntime) {
     }
 }
 
-/// A reader that gives its bytes a few at a time, and then fails.
+/// A reader that gives its bytes one at a time, and then fails.
 #[derive(Drop)]
-struct Breaks<'a>(&'a [u8]);
+struct Breaks<'a> {
+    bytes: &'a [u8],
+    kind: ErrorKind,
+}
 
 impl Read for Breaks<'_> {
     fn read(&mut self, buf: &mut [u8]) -> io::Result<usize> {
-        if self.0.is_empty() || buf.is_empty() {
-            return Err(Error::from(ErrorKind::BrokenPipe));
+        if self.bytes.is_empty() || buf.is_empty() {
+            return Err(Error::from(self.kind));
         }
-        buf[0] = self.0[0];
-        self.0 = &self.0[1..];
+        buf[0] = self.bytes[0];
+        self.bytes = &self.bytes[1..];
         Ok(1)
     }
 }
 
 #[test]
 fn a_reader_that_fails_in_the_middle(rt: HostRuntime) {
-    let mut input = Breaks(b"new bytes\ntext 0\n");
-    let mut out = Vec::new(rt.alloc());
-    let mut err = Vec::new(rt.alloc());
-    let status = program(rt.alloc(), &[], &mut input, &mut out, &mut err);
-    assert_eq!(rt; status, 1);
-    assert_eq!(rt; out.as_slice(), b"".as_slice());
-    assert_eq!(rt; err.as_slice(), b"tendril: refused 9 Io\n".as_slice());
+    for (kind, told) in [
+        (ErrorKind::BrokenPipe, b"tendril: refused 9 Io\n".as_slice()),
+        (ErrorKind::OutOfMemory, b"tendril: refused 2 Memory\n"),
+    ] {
+        let mut input = Breaks {
+            bytes: b"new bytes\ntext 0\n",
+            kind,
+        };
+        let mut out = Vec::new(rt.alloc());
+        let mut err = Vec::new(rt.alloc());
+        let status = program(rt.alloc(), &[], &mut input, &mut out, &mut err);
+        assert_eq!(rt; status, 1);
+        assert_eq!(rt; out.as_slice(), b"".as_slice());
+        assert_eq!(rt; err.as_slice(), told);
+    }
 }
 
 /// A writer that takes a few bytes at a time, and fails once it has taken so many.
@@ -163,6 +175,7 @@ fn a_reader_that_fails_in_the_middle(rt: HostRuntime) {
 struct Fills {
     bytes: Vec<u8>,
     most: usize,
+    kind: ErrorKind,
 }
 
 impl Write for Fills {
@@ -173,7 +186,7 @@ impl Write for Fills {
             .min(1000)
             .min(buf.len());
         if room == 0 {
-            return Err(Error::from(ErrorKind::BrokenPipe));
+            return Err(Error::from(self.kind));
         }
         self.bytes.extend_from_slice(&buf[..room])?;
         Ok(room)
@@ -193,12 +206,19 @@ fn a_writer_that_fails(rt: HostRuntime) -> Result<(), Fail> {
         script.extend_from_slice(b"text 0\n")?;
         printed.extend_from_slice(b"refused 13 NoSuchSlot\n")?;
     }
-    // At its first write, at a later one, and in the middle of a chunk.
-    for most in [0, 1000, 8192, 50000, 109999] {
+    // At its first write, at a later one, in the middle of a chunk, and for want of memory.
+    for (most, kind) in [
+        (0, ErrorKind::BrokenPipe),
+        (1000, ErrorKind::BrokenPipe),
+        (8192, ErrorKind::OutOfMemory),
+        (50000, ErrorKind::BrokenPipe),
+        (109999, ErrorKind::OutOfMemory),
+    ] {
         let mut input = script.as_slice();
         let mut out = Fills {
             bytes: Vec::new(alloc),
             most,
+            kind,
         };
         let mut err = Vec::new(alloc);
         let status = program(alloc, &[], &mut input, &mut out, &mut err);

@@ -4,12 +4,18 @@ use Rattle.std.specs.List.{AllByRecursion}
 use Rattle.std.specs.Str.{all_scalars}
 use Rattle.std.specs.Char.{IsScalar}
 use Rattle.std.proofs.lemmas.Str.{chars-encodes}
+use Rattle.tendril_fmt.specs.Bytes.{AreBytes}
 use Rattle.tendril_fmt.specs.Chars.{encodings, one_byte, places_from}
 use Rattle.tendril_fmt.specs.Laws.{SpellText, PlaceIsLengthBefore}
+use Rattle.tendril_fmt.specs.Proved.Bytes.{AreBytes-nil, AreBytes-cons}
 use Rattle.tendril_fmt.specs.Proved.Characters.{encodings-one_byte, encodings-encode_utf8}
 
-pub SpellText-latin1 : SpellText (λ _. Unit {0}) (λ bytes. bytes) (λ c. c < 256) one_byte
-SpellText-latin1 cs h = (tt, encodings-one_byte cs)
+AreBytes-all : (cs : List ℕ) → AllByRecursion (λ c. c < 256) cs → AreBytes cs
+AreBytes-all [] h = AreBytes-nil
+AreBytes-all (c ∷ cs) h = AreBytes-cons c cs h.0 (AreBytes-all cs h.1)
+
+pub SpellText-latin1 : SpellText AreBytes (λ bytes. bytes) (λ c. c < 256) one_byte
+SpellText-latin1 cs h = (subst AreBytes (sym (encodings-one_byte cs)) (AreBytes-all cs h), encodings-one_byte cs)
 
 IsAscii-all : (cs : List ℕ) → AllByRecursion (λ c. c < 128) cs → IsAscii cs
 IsAscii-all [] h i = omega arith

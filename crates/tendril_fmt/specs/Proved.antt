@@ -1,4 +1,5 @@
 -- Lemmas that a format's laws rest on. They stand here since an `impl` may cite nothing else of its own crate.
+pub mod Bytes
 pub mod Characters
 pub mod Encodings
 pub mod Units

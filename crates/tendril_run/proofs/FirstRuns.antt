@@ -10,7 +10,7 @@ use Rattle.tendril_block.specs.declared.refusal.Refusal.{Refusal}
 use Rattle.tendril_block.specs.declared.refusal.Refusal.TheVariants.{Count}
 use Rattle.tendril_fmt.specs.Chars.{encodings}
 use Rattle.tendril_run.specs.Characters.{first_of, first_run, run_bytes, IsFirstRun}
-use Rattle.tendril_run.specs.Rules.{CountMay}
+use Rattle.tendril_block.specs.Outcomes.{CountMay}
 
 -- a classifier that stays as it is and answers each character by its class parts a text after the longest front of the
 -- first one's class

@@ -1,7 +1,7 @@
 mod Chain
 mod FirstRuns
 mod Joined
-mod Numbers
 mod OneChanged
+mod PoppedChars
 mod Reading
 mod TakenRuns

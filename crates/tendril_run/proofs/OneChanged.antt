@@ -1,10 +1,10 @@
 use Rattle.std.proofs.Common.{◌≡◌, ◌≢◌, ℕ, ◌<◌, ◌⊎◌, List, length, get_or, set, map, ap, sym, subst, ◌∙◌, Option, Some, None, Bool, true, false, if◌then◌else◌, [], ◌∷◌, ◌++◌, All}
 use Rattle.std.proofs.lemmas.List.{map-set, map-append, set-set, get_or-map, get_or-set_other, length-map}
-use Rattle.std.proofs.lemmas.List.Elements.{All-set, All-push}
+use Rattle.std.proofs.lemmas.List.Elements.{All-set, All-push, All-get_or}
 use Rattle.std.proofs.Math.Seq.{map-set_same}
 use Rattle.tendril_block.specs.declared.refusal.Refusal.{Refusal}
 use Rattle.tendril_run.specs.Cells.{Cell, IsCell, gone, cell_at}
-use Rattle.tendril_run.specs.Rules.{Outcome, Answered, Changed}
+use Rattle.tendril_run.specs.Rules.{Replied, Answered, Changed}
 use Rattle.tendril_run.specs.declared.command.Reply.{Reply}
 use Rattle.tendril_run.specs.declared.command.Reply.TheVariants.{Done, Made, Char, Run, Compared, Text, Refused}
 
@@ -41,9 +41,9 @@ changed must answer effect cells slot old new after reply one h =
     (subst (λ c. must c None) (sym one.here) h.0, (h.1.0 ∙ ap answer (sym one.here), one.there ∙ ap (λ c. set cells slot c) (h.1.1 ∙ ap effect (sym one.here))))
 
 -- what one cell answers and becomes is what its table does
-pub table_answered : (must : Cell → Option Refusal → Type 0) (may : Cell → Refusal → Type 0) (answer : Cell → Reply) (effect : Cell → Cell) (cells : List Cell) (slot : ℕ) (old new : Cell) (after : List Cell) (reply : Reply) → OneChanged cells slot old new after → Answered (must old) (may old) (answer old) (effect old) old reply new → Outcome (must (cell_at cells slot)) (may (cell_at cells slot)) (λ reply new. (reply ≡ answer (cell_at cells slot)) × (new ≡ set cells slot (effect (cell_at cells slot)))) cells reply after
+pub table_answered : (must : Cell → Option Refusal → Type 0) (may : Cell → Refusal → Type 0) (answer : Cell → Reply) (effect : Cell → Cell) (cells : List Cell) (slot : ℕ) (old new : Cell) (after : List Cell) (reply : Reply) → OneChanged cells slot old new after → Answered (must old) (may old) (answer old) (effect old) old reply new → Replied (must (cell_at cells slot)) (may (cell_at cells slot)) (λ reply new. (reply ≡ answer (cell_at cells slot)) × (new ≡ set cells slot (effect (cell_at cells slot)))) cells reply after
 table_answered must may answer effect cells slot old new after (Refused r) one h =
-    (one.kept h.0, subst (λ c. must c (Some r) ⊎ (must c None × may c r)) (sym one.here) h.1)
+    (subst (λ c. must c (Some r) ⊎ (must c None × may c r)) (sym one.here) h.0, one.kept h.1)
 table_answered must may answer effect cells slot old new after Done one h = changed must answer effect cells slot old new after Done one h
 table_answered must may answer effect cells slot old new after (Made n) one h = changed must answer effect cells slot old new after (Made n) one h
 table_answered must may answer effect cells slot old new after (Char c) one h = changed must answer effect cells slot old new after (Char c) one h
@@ -52,12 +52,22 @@ table_answered must may answer effect cells slot old new after (Compared order) 
 table_answered must may answer effect cells slot old new after (Text kind z) one h = changed must answer effect cells slot old new after (Text kind z) one h
 
 -- the change of one cell is that of its table
-pub table_changed : (must : Cell → Option Refusal → Type 0) (may : Cell → Refusal → Type 0) (effect : Cell → Cell) (cells : List Cell) (slot : ℕ) (old new : Cell) (after : List Cell) (reply : Reply) → OneChanged cells slot old new after → Changed (must old) (may old) (effect old) old reply new → Outcome (must (cell_at cells slot)) (may (cell_at cells slot)) (λ reply new. (reply ≡ Done) × (new ≡ set cells slot (effect (cell_at cells slot)))) cells reply after
+pub table_changed : (must : Cell → Option Refusal → Type 0) (may : Cell → Refusal → Type 0) (effect : Cell → Cell) (cells : List Cell) (slot : ℕ) (old new : Cell) (after : List Cell) (reply : Reply) → OneChanged cells slot old new after → Changed (must old) (may old) (effect old) old reply new → Replied (must (cell_at cells slot)) (may (cell_at cells slot)) (λ reply new. (reply ≡ Done) × (new ≡ set cells slot (effect (cell_at cells slot)))) cells reply after
 table_changed must may effect cells slot old new after reply one h = table_answered must may (λ cell. Done) effect cells slot old new after reply one h
 
 -- cells stay cells where one of them is replaced by a cell
 pub set_cells : {S : Type 0} (f : S → Cell) (items : List S) (slot : ℕ) (s : S) → All IsCell (map f items) → IsCell (f s) → All IsCell (map f (set items slot s))
 set_cells f items slot s h one = subst (λ cells. All IsCell cells) (sym (map-set f items slot s)) (All-set IsCell (map f items) slot (f s) one h)
+
+-- a slot's cell is one of them
+pub cell_within : {S : Type 0} (f : S → Cell) (items : List S) (slot : ℕ) (s : S) → slot < length items → s ≡ get_or items slot s → All IsCell (map f items) → IsCell (f s)
+cell_within f items slot s within found h =
+    subst (λ cell. IsCell cell) (get_or-map f items slot s gone within ∙ ap f (sym found))
+    (All-get_or IsCell (map f items) slot gone (subst (λ n. slot < n) (sym (length-map items f)) within) h)
+
+-- and where a cell becomes what a cell may become
+pub kept_cells : {S : Type 0} (f : S → Cell) (items : List S) (slot : ℕ) (s t : S) → slot < length items → s ≡ get_or items slot s → All IsCell (map f items) → (IsCell (f s) → IsCell (f t)) → All IsCell (map f (set items slot t))
+kept_cells f items slot s t within found h kept = set_cells f items slot t h (kept (cell_within f items slot s within found h))
 
 -- and where a cell is added, or none
 pub added_cells : {S : Type 0} (f : S → Cell) (b : Bool) (items after : List S) (s : S) → after ≡ (if b then items ++ s ∷ [] else items) → All IsCell (map f items) → IsCell (f s) → All IsCell (map f after)

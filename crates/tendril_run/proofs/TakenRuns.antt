@@ -32,4 +32,4 @@ module _ (class : ℕ → ℕ) (cells : List Cell) (slot : ℕ) (old new : Cell)
 
   -- a refused run changes nothing
   pub run_refused : (r : Refusal) → CharsMust old (Some r) ⊎ (CharsMust old None × RunMay class old r) → new ≡ old → Step class cells (PopRun slot) (Refused r) mid
-  run_refused r h same = (one.kept same, subst (λ cell. CharsMust cell (Some r) ⊎ (CharsMust cell None × RunMay class cell r)) (sym one.here) h)
+  run_refused r h same = (subst (λ cell. CharsMust cell (Some r) ⊎ (CharsMust cell None × RunMay class cell r)) (sym one.here) h, one.kept same)

@@ -1,5 +1,6 @@
 use Rattle.std.specs.Prelude.{ℕ, ◌++◌, ◌≤◌, List, length, get_or, IsAscii, IsUtf8}
 use Rattle.tendril_block.specs.declared.atomicity.TheConstants.{MAX_LEN}
+use Rattle.tendril_fmt.specs.Bytes.{AreBytes}
 use Rattle.tendril_fmt.specs.Wtf8.{IsWtf8, wtf8_join}
 use Rattle.tendril_run.specs.declared.command.Kind.{Kind}
 use Rattle.tendril_run.specs.declared.command.Kind.TheVariants.{Bytes, Ascii, Utf8, Wtf8, Latin1}
@@ -16,11 +17,11 @@ pub record Board : Type 0 where
 
 -- the lists that are valid in a format
 abbrev pub valid_in : Kind → List ℕ → Type 0
-valid_in Bytes b = Unit {0}
+valid_in Bytes b = AreBytes b
 valid_in Ascii b = IsAscii b
 valid_in Utf8 b = IsUtf8 b
 valid_in Wtf8 b = IsWtf8 b
-valid_in Latin1 b = Unit {0}
+valid_in Latin1 b = AreBytes b
 
 -- two valid lists as one
 abbrev pub join_in : Kind → List ℕ → List ℕ → List ℕ
@@ -38,7 +39,11 @@ IsPartOf part whole = ⊥
 abbrev pub cell_at : List Cell → ℕ → Cell
 cell_at cells slot = get_or cells slot gone
 
+-- what a text of a format may be: valid, and not too long
+abbrev pub IsText : (List ℕ → Type 0) → List ℕ → Type 0
+IsText valid b = valid b × (length b ≤ MAX_LEN)
+
 -- what a cell may be: gone, or a text that is valid in its format and not too long
 abbrev pub IsCell : Cell → Type 0
 IsCell gone = Unit {0}
-IsCell (text kind b) = valid_in kind b × (length b ≤ MAX_LEN)
+IsCell (text kind b) = IsText (valid_in kind) b

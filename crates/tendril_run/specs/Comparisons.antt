@@ -1,4 +1,4 @@
-use Rattle.std.specs.Prelude.{ℕ, ◌≡◌, List, Option, Some, None, nat_eq, if◌then◌else◌}
+use Rattle.std.specs.Prelude.{ℕ, ◌≡◌, List, Option, Some, nat_eq, if◌then◌else◌}
 use Rattle.std.specs.Cmp.Lexicographic.{pointwise, slice_cmp}
 use Rattle.std.specs.Ordering.{nat_cmp}
 use Rattle.std.specs.declared.cmp.Ordering.{Ordering}
@@ -6,7 +6,8 @@ use Rattle.std.specs.declared.cmp.Ordering.TheVariants as ordering
 use Rattle.tendril_block.specs.declared.refusal.Refusal.{Refusal}
 use Rattle.tendril_block.specs.declared.refusal.Refusal.TheVariants.{NoSuchSlot, WrongFormat}
 use Rattle.tendril_run.specs.Cells.{Cell, gone, text}
-use Rattle.tendril_run.specs.Rules.{First, Outcome}
+use Rattle.tendril_block.specs.Outcomes.{NoneMust, First, NoneMay}
+use Rattle.tendril_run.specs.Rules.{Replied}
 use Rattle.tendril_run.specs.declared.command.Comparison.{Comparison}
 use Rattle.tendril_run.specs.declared.command.Comparison.TheVariants.{Less, Equal, Greater, Differ}
 use Rattle.tendril_run.specs.declared.command.Kind.{Kind}
@@ -30,7 +31,7 @@ comparison_in kind b y = if pointwise nat_eq b y then Equal else Differ
 abbrev pub CompareMust : Cell → Cell → Option Refusal → Type 0
 CompareMust gone other must = must ≡ Some NoSuchSlot
 CompareMust (text kind b) gone must = must ≡ Some NoSuchSlot
-CompareMust (text kind b) (text format y) must = First (kind ≡ format → ⊥) WrongFormat (must ≡ None) must
+CompareMust (text kind b) (text format y) must = First (kind ≡ format) WrongFormat NoneMust must
 
 -- the reply that tells how two cells compare
 abbrev pub TellsComparison : Cell → Cell → Reply → Type 0
@@ -39,4 +40,4 @@ TellsComparison cell other reply = ⊥
 
 -- what is answered to a question how two cells compare
 abbrev pub CellsCompared : Cell → Cell → Reply → Type 0
-CellsCompared cell other reply = Outcome (CompareMust cell other) (λ r. ⊥) (λ reply new. TellsComparison cell other reply) cell reply cell
+CellsCompared cell other reply = Replied (CompareMust cell other) NoneMay (λ reply new. TellsComparison cell other reply) cell reply cell

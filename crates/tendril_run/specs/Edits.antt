@@ -1,7 +1,8 @@
-use Rattle.std.specs.Prelude.{ℕ, ◌≡◌, ◌≤◌, ◌+◌, ◌-◌, ◌++◌, List, [], length, take, drop, replicate, slice_set, Option, None}
+use Rattle.std.specs.Prelude.{ℕ, ◌≡◌, ◌<◌, ◌+◌, ◌-◌, ◌++◌, List, [], length, take, drop, replicate, slice_set, Option}
 use Rattle.tendril_block.specs.declared.refusal.Refusal.{Refusal}
 use Rattle.tendril_block.specs.declared.refusal.Refusal.TheVariants.{Memory, OutOfBounds}
-use Rattle.tendril_run.specs.Rules.{First, LengthMust, PopMust, MemoryMay, Changed}
+use Rattle.tendril_block.specs.Outcomes.{NoneMust, First, LengthMust, PopMust, MemoryMay}
+use Rattle.tendril_run.specs.Rules.{Changed}
 use Rattle.tendril_run.specs.declared.change.ByteEdit.{ByteEdit}
 use Rattle.tendril_run.specs.declared.change.ByteEdit.TheVariants.{PushZeros, WriteByte}
 use Rattle.tendril_run.specs.declared.change.Edit.{Edit}
@@ -19,7 +20,7 @@ edited b (Reserve more) = b
 abbrev pub EditMust : (List ℕ → Type 0) → List ℕ → Edit → Option Refusal → Type 0
 EditMust valid b (PopFront count) must = PopMust valid b count (drop count b) must
 EditMust valid b (PopBack count) must = PopMust valid b count (take (length b - count) b) must
-EditMust valid b Clear must = must ≡ None
+EditMust valid b Clear must = NoneMust must
 EditMust valid b (Reserve more) must = LengthMust (length b + more) must
 
 -- the refusals of an edit that no state rules out
@@ -41,7 +42,7 @@ byte_edited b (WriteByte index byte) = slice_set b index byte
 -- the first refusal of an edit of the bytes b
 abbrev pub ByteEditMust : List ℕ → ByteEdit → Option Refusal → Type 0
 ByteEditMust b (PushZeros count) must = LengthMust (length b + count) must
-ByteEditMust b (WriteByte index byte) must = First (length b ≤ index) OutOfBounds (must ≡ None) must
+ByteEditMust b (WriteByte index byte) must = First (index < length b) OutOfBounds NoneMust must
 
 -- the refusals of an edit of the bytes b that no state rules out
 abbrev pub ByteEditMay : List ℕ → ByteEdit → Refusal → Type 0

@@ -7,7 +7,7 @@ pub mod Comparisons
 pub mod OneCell
 pub mod Steps
 pub mod Runs
-pub mod Words
+pub mod Names
 pub mod Lines
 pub mod Verbs
 pub mod Printed

@@ -1,8 +1,9 @@
 use Rattle.std.specs.Prelude.{ℕ, ◌≡◌, List, [], ◌∷◌, codes}
-use Rattle.tendril_run.specs.Words.{words, IsNumber, IsCharWord, IsByteWord, kind_name, IsHex}
+use Rattle.tendril_run.specs.Names.{kind_name}
 use Rattle.tendril_run.specs.declared.command.Kind.{Kind}
 use Rattle.tendril_run.specs.declared.command.Command.{Command}
 use Rattle.tendril_run.specs.declared.command.Command.TheVariants.{New, FromBytes, PushBytes, PushTendril, PushChar, PushZeros, Slice, PopFront, PopBack, PopChar, PopRun, Clone, Clear, Reserve, Reinterpret, ToSuperset, ToSubset, WriteByte, Compare, Text, Drop}
+use Rattle.tendril_words.specs.Words.{words, IsNumber, IsCharWord, IsHex, IsByteWord}
 
 -- what a word of a line stands for
 pub data Word : Type 0 where

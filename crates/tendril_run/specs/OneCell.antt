@@ -4,7 +4,8 @@ use Rattle.tendril_block.specs.declared.refusal.Refusal.TheVariants.{Memory, NoS
 use Rattle.tendril_run.specs.Cells.{Cell, gone, text, valid_in, join_in, IsPartOf}
 use Rattle.tendril_run.specs.Characters.{HasChars, IsCharIn, chars_in, encoding_in, first_of, without_first, run_bytes}
 use Rattle.tendril_run.specs.Edits.{EditMust, EditMay, edited, ByteEditMust, ByteEditMay, byte_edited}
-use Rattle.tendril_run.specs.Rules.{First, LengthMust, ValidMust, BytesMust, MemoryMay, SliceMust, CharMust, CountMay, Outcome, Answered, Changed}
+use Rattle.tendril_block.specs.Outcomes.{NoneMust, First, LengthMust, ValidMust, BytesMust, MemoryMay, SliceMust, CharMust, CountMay, NoneMay}
+use Rattle.tendril_run.specs.Rules.{Replied, Answered, Changed}
 use Rattle.tendril_run.specs.declared.change.Conversion.{Conversion}
 use Rattle.tendril_run.specs.declared.change.Conversion.TheVariants.{Reinterpret, ToSuperset, ToSubset}
 use Rattle.tendril_run.specs.declared.change.ByteEdit.{ByteEdit}
@@ -17,7 +18,7 @@ use Rattle.tendril_run.specs.declared.command.Reply.TheVariants.{Char, Text}
 -- the first refusal of a call that a cell only needs to be there for
 abbrev pub CellMust : Cell → Option Refusal → Type 0
 CellMust gone must = must ≡ Some NoSuchSlot
-CellMust (text kind b) must = must ≡ None
+CellMust (text kind b) must = NoneMust must
 
 -- of a part of a cell
 abbrev pub CellSliceMust : Cell → ℕ → ℕ → Option Refusal → Type 0
@@ -52,7 +53,7 @@ pushed (text kind b) y = text kind (join_in kind b y)
 -- the first refusal of a push of the character c onto a cell
 abbrev pub PushCharMust : Cell → ℕ → Option Refusal → Type 0
 PushCharMust gone c must = must ≡ Some NoSuchSlot
-PushCharMust (text kind b) c must = First (HasChars kind → ⊥) WrongFormat (CharMust (IsCharIn kind) c (length (join_in kind b (encoding_in kind c))) must) must
+PushCharMust (text kind b) c must = First (HasChars kind) WrongFormat (CharMust (IsCharIn kind) c (length (join_in kind b (encoding_in kind c)))) must
 
 -- the bytes of a character in a cell's format
 abbrev pub encoding_of : Cell → ℕ → List ℕ
@@ -62,7 +63,7 @@ encoding_of (text kind b) c = encoding_in kind c
 -- the first refusal of a call that asks for a cell's characters
 abbrev pub CharsMust : Cell → Option Refusal → Type 0
 CharsMust gone must = must ≡ Some NoSuchSlot
-CharsMust (text kind b) must = First (HasChars kind → ⊥) WrongFormat (must ≡ None) must
+CharsMust (text kind b) must = First (HasChars kind) WrongFormat NoneMust must
 
 -- the first character of a cell
 abbrev pub char_of : Cell → Option ℕ
@@ -97,7 +98,7 @@ IsRunOf class cell k run rest = (c : ℕ) × (char_of cell ≡ Some c) × (k ≡
 abbrev pub JoinMust : Cell → Cell → Option Refusal → Type 0
 JoinMust gone other must = must ≡ Some NoSuchSlot
 JoinMust (text kind b) gone must = must ≡ Some NoSuchSlot
-JoinMust (text kind b) (text format y) must = First (kind ≡ format → ⊥) WrongFormat (LengthMust (length (join_in kind b y)) must) must
+JoinMust (text kind b) (text format y) must = First (kind ≡ format) WrongFormat (LengthMust (length (join_in kind b y))) must
 
 -- the refusals of it that no state rules out: a slot that is pushed onto itself is shared first
 abbrev pub JoinMay : ℕ → ℕ → Cell → Cell → Refusal → Type 0
@@ -122,7 +123,7 @@ edited_cell (text kind b) edit = text kind (edited b edit)
 -- the first refusal of an edit of a cell's bytes
 abbrev pub CellByteEditMust : Cell → ByteEdit → Option Refusal → Type 0
 CellByteEditMust gone edit must = must ≡ Some NoSuchSlot
-CellByteEditMust (text kind b) edit must = First (kind ≡ Bytes → ⊥) WrongFormat (ByteEditMust b edit must) must
+CellByteEditMust (text kind b) edit must = First (kind ≡ Bytes) WrongFormat (ByteEditMust b edit) must
 
 -- the refusals of it that no state rules out
 abbrev pub CellByteEditMay : Cell → ByteEdit → Refusal → Type 0
@@ -138,8 +139,8 @@ byte_edited_cell (text kind b) edit = text kind (byte_edited b edit)
 abbrev pub ConversionMust : Cell → Conversion → Option Refusal → Type 0
 ConversionMust gone conversion must = must ≡ Some NoSuchSlot
 ConversionMust (text kind b) (Reinterpret other) must = ValidMust (valid_in other) b must
-ConversionMust (text kind b) (ToSuperset other) must = First (IsPartOf kind other → ⊥) WrongFormat (must ≡ None) must
-ConversionMust (text kind b) (ToSubset other) must = First (IsPartOf other kind → ⊥) WrongFormat (ValidMust (valid_in other) b must) must
+ConversionMust (text kind b) (ToSuperset other) must = First (IsPartOf kind other) WrongFormat NoneMust must
+ConversionMust (text kind b) (ToSubset other) must = First (IsPartOf other kind) WrongFormat (ValidMust (valid_in other) b) must
 
 -- the format that is asked for
 abbrev pub target : Conversion → Kind
@@ -167,7 +168,7 @@ CellCharPushed cell c reply new = Changed (PushCharMust cell c) (PushMay cell (e
 
 -- a pop of a cell's first character
 abbrev pub CellCharPopped : Cell → Reply → Cell → Type 0
-CellCharPopped cell reply new = Answered (CharsMust cell) (λ r. ⊥) (Char (char_of cell)) (char_popped cell) cell reply new
+CellCharPopped cell reply new = Answered (CharsMust cell) NoneMay (Char (char_of cell)) (char_popped cell) cell reply new
 
 -- a push of the cell of one slot onto that of another
 abbrev pub CellJoined : ℕ → ℕ → Cell → Cell → Reply → Cell → Type 0
@@ -183,12 +184,12 @@ CellByteEdited cell edit reply new = Changed (CellByteEditMust cell edit) (CellB
 
 -- a conversion of a cell
 abbrev pub CellConverted : Cell → Conversion → Reply → Cell → Type 0
-CellConverted cell conversion reply new = Changed (ConversionMust cell conversion) (λ r. ⊥) (converted cell conversion) cell reply new
+CellConverted cell conversion reply new = Changed (ConversionMust cell conversion) NoneMay (converted cell conversion) cell reply new
 
 -- a cell that is dropped
 abbrev pub CellDropped : Cell → Reply → Cell → Type 0
-CellDropped cell reply new = Changed (CellMust cell) (λ r. ⊥) gone cell reply new
+CellDropped cell reply new = Changed (CellMust cell) NoneMay gone cell reply new
 
 -- what is answered to a question for the cell's text
 abbrev pub CellTold : Cell → Reply → Type 0
-CellTold cell reply = Outcome (CellMust cell) (λ r. r ≡ Memory) (λ reply new. Tells cell reply) cell reply cell
+CellTold cell reply = Replied (CellMust cell) (λ r. r ≡ Memory) (λ reply new. Tells cell reply) cell reply cell

@@ -1,23 +1,10 @@
-use Rattle.std.specs.Prelude.{ℕ, List, [], ◌∷◌, ◌++◌, codes, Some, None}
+use Rattle.std.specs.Prelude.{ℕ, List, ◌++◌, codes, Some, None}
 use Rattle.std.specs.Fmt.{decimal}
-use Rattle.hex.specs.Hex.{encode_lower}
 use Rattle.tendril_block.specs.Refusals.{number_of, name_of}
-use Rattle.tendril_run.specs.Words.{kind_name}
-use Rattle.tendril_run.specs.declared.command.Comparison.{Comparison}
-use Rattle.tendril_run.specs.declared.command.Comparison.TheVariants.{Less, Equal, Greater, Differ}
+use Rattle.tendril_run.specs.Names.{kind_name, comparison_name}
 use Rattle.tendril_run.specs.declared.command.Reply.{Reply}
 use Rattle.tendril_run.specs.declared.command.Reply.TheVariants.{Done, Made, Char, Run, Compared, Text, Refused}
-
--- bytes as two hexadecimal digits each, in lower case, or a dash for none
-abbrev pub hex_text : List ℕ → List ℕ
-hex_text [] = codes "-"
-hex_text (x ∷ xs) = encode_lower (x ∷ xs)
-
-abbrev pub comparison_name : Comparison → List ℕ
-comparison_name Less = codes "less"
-comparison_name Equal = codes "equal"
-comparison_name Greater = codes "greater"
-comparison_name Differ = codes "differ"
+use Rattle.tendril_words.specs.Words.{hex_text}
 
 -- a reply's line
 abbrev pub printed : Reply → List ℕ

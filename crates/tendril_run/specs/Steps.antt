@@ -4,7 +4,8 @@ use Rattle.tendril_block.specs.declared.refusal.Refusal.TheVariants.{Memory}
 use Rattle.tendril_run.specs.Cells.{Cell, gone, text, valid_in, cell_at}
 use Rattle.tendril_run.specs.Comparisons.{CompareMust, TellsComparison}
 use Rattle.tendril_run.specs.Edits.{EditMay}
-use Rattle.tendril_run.specs.Rules.{BytesMust, MemoryMay, CountMay, Outcome}
+use Rattle.tendril_block.specs.Outcomes.{NoneMust, BytesMust, MemoryMay, CountMay, NoneMay}
+use Rattle.tendril_run.specs.Rules.{Replied}
 use Rattle.tendril_run.specs.OneCell.{CellMust, CellSliceMust, CellCloneMay, part, PushMust, PushMay, pushed, JoinMust, JoinMay, joined, PushCharMust, encoding_of, CharsMust, char_of, char_popped, run_of, run_popped, RunMay, CellEditMust, edited_cell, CellByteEditMust, CellByteEditMay, byte_edited_cell, ConversionMust, converted, Tells}
 use Rattle.tendril_run.specs.declared.change.ByteEdit.{ByteEdit}
 use Rattle.tendril_run.specs.declared.change.ByteEdit.TheVariants as byte_edit
@@ -19,7 +20,7 @@ use Rattle.tendril_run.specs.declared.command.Reply.TheVariants as reply
 
 -- the first refusal that applies, or none
 abbrev pub Must : List Cell → Command → Option Refusal → Type 0
-Must old (New kind) must = must ≡ None
+Must old (New kind) must = NoneMust must
 Must old (FromBytes kind y) must = BytesMust (valid_in kind) y (length y) must
 Must old (PushBytes slot y) must = PushMust (cell_at old slot) y must
 Must old (PushTendril to from) must = JoinMust (cell_at old to) (cell_at old from) must
@@ -77,15 +78,15 @@ TakesRun class old slot answer new =
 
 -- an edit of one cell of a table
 abbrev pub TableEdited : List Cell → ℕ → Edit → Reply → List Cell → Type 0
-TableEdited old slot edit answer new = Outcome (CellEditMust (cell_at old slot) edit) (EditMay edit) (Becomes old slot (edited_cell (cell_at old slot) edit)) old answer new
+TableEdited old slot edit answer new = Replied (CellEditMust (cell_at old slot) edit) (EditMay edit) (Becomes old slot (edited_cell (cell_at old slot) edit)) old answer new
 
 -- an edit of the bytes of one cell of a table
 abbrev pub TableByteEdited : List Cell → ℕ → ByteEdit → Reply → List Cell → Type 0
-TableByteEdited old slot edit answer new = Outcome (CellByteEditMust (cell_at old slot) edit) (CellByteEditMay (cell_at old slot) edit) (Becomes old slot (byte_edited_cell (cell_at old slot) edit)) old answer new
+TableByteEdited old slot edit answer new = Replied (CellByteEditMust (cell_at old slot) edit) (CellByteEditMay (cell_at old slot) edit) (Becomes old slot (byte_edited_cell (cell_at old slot) edit)) old answer new
 
 -- a conversion of one cell of a table
 abbrev pub TableConverted : List Cell → ℕ → Conversion → Reply → List Cell → Type 0
-TableConverted old slot conversion answer new = Outcome (ConversionMust (cell_at old slot) conversion) (λ r. ⊥) (Becomes old slot (converted (cell_at old slot) conversion)) old answer new
+TableConverted old slot conversion answer new = Replied (ConversionMust (cell_at old slot) conversion) NoneMay (Becomes old slot (converted (cell_at old slot) conversion)) old answer new
 
 -- what a command does and answers, where it isn't refused; `class` sorts characters
 abbrev pub Effect : (ℕ → ℕ) → List Cell → Command → Reply → List Cell → Type 0
@@ -113,4 +114,4 @@ Effect class old (Drop slot) answer new = Becomes old slot gone answer new
 
 -- one command: from the cells before it to its reply and the cells after it
 abbrev pub Step : (ℕ → ℕ) → List Cell → Command → Reply → List Cell → Type 0
-Step class old command answer new = Outcome (Must old command) (May class old command) (Effect class old command) old answer new
+Step class old command answer new = Replied (Must old command) (May class old command) (Effect class old command) old answer new

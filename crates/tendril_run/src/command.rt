@@ -1,8 +1,7 @@
 //! What a table is asked, and what it answers.
-ghost use Rattle.std.specs.Prelude.{◌≡◌, ℕ, List};
 
-use std::marker::Model;
 use tendril::block::Refusal;
+use tendril_words::ByteList;
 
 /// A format, by its name.
 #[derive(Clone, Copy, Debug, PartialEq, Eq)]
@@ -22,42 +21,6 @@ pub enum Comparison {
     Greater,
     /// They aren't equal, and their format has no order.
     Differ,
-}
-
-/// Bytes that a command or a reply carries.
-#[derive(Debug, Drop)]
-pub struct ByteList {
-    bytes: Vec<u8>,
-}
-
-impl Model for ByteList {
-    ghost Value = { List ℕ };
-
-    ghost view = { λ b. b.bytes.items };
-}
-
-impl ByteList {
-    /// The bytes of a vector. Takes no memory.
-    pub fn new(bytes: Vec<u8>) -> Self
-        ensures { result ≡ bytes.items }
-    {
-        ByteList { bytes }
-    }
-
-    /// The bytes.
-    pub fn as_slice(&self) -> &[u8]
-        ensures { result.now ≡ self.now }
-    {
-        self.bytes.as_slice()
-    }
-
-    /// The vector of the bytes. Takes no memory.
-    pub fn into_vec(self) -> Vec<u8>
-        ensures { result.items ≡ self }
-    {
-        let Self { bytes } = self;
-        bytes
-    }
 }
 
 /// What is asked of a table. Slots are named by their numbers, from 0.

@@ -9,19 +9,18 @@ mod classifier;
 mod command;
 mod line;
 mod reply;
-mod runs;
 mod slot;
 mod table;
 mod text;
 mod words;
 
 pub use classifier::Classifier;
-pub use command::{ByteList, Command, Comparison, Kind, Reply};
+pub use command::{Command, Comparison, Kind, Reply};
 pub use line::parse_line;
 pub use reply::print_reply;
-pub use runs::run;
 pub use slot::Slot;
-pub use table::Table;
+pub use table::{Table, run};
+pub use tendril_words::ByteList;
 
 #[cfg(test)]
 mod tests;

@@ -6,10 +6,11 @@ ghost use Rattle.tendril_run.specs.Verbs.{Reads};
 use crate::command::Command;
 use crate::words::{
     Verb, kind_and_bytes, number_and_bytes, number_and_char, number_and_kind, one_kind, one_number,
-    split_words, three_numbers, two_numbers, two_numbers_and_byte, two_slots, verb_of,
+    three_numbers, two_numbers, two_numbers_and_byte, two_slots, verb_of,
 };
 use std::alloc::{AllocError, Global};
 use tendril::block::Refusal;
+use tendril_words::split_words;
 
 /// The command of a line without its line feed, or `None` where no command has this line.
 ///
@@ -22,14 +23,8 @@ pub fn parse_line(alloc: Global, line: &[u8]) -> Result<Option<Command>, Refusal
     ensures found { IfOk result (λ found. (c : _) → (found ≡ Some c) ↔ IsLine c line.now) }
     ensures refusal { IfErr result (λ r. r ≡ Refusal.Memory) }
 {
-    read_line(alloc, line).map_err(|_| Refusal::Memory)
-}
-
-fn read_line(alloc: Global, line: &[u8]) -> Result<Option<Command>, AllocError>
-    ensures { IfOk result (λ found. (c : _) → (found ≡ Some c) ↔ IsLine c line.now) }
-{
     let words = split_words(alloc, line)?;
-    read_words(alloc, words.as_slice())
+    Ok(read_words(alloc, words.as_slice())?)
 }
 
 fn read_words(alloc: Global, words: &[&[u8]]) -> Result<Option<Command>, AllocError>

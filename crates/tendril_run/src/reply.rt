@@ -1,12 +1,13 @@
 //! The lines of replies.
 ghost use Rattle.std.specs.Prelude.{◌≡◌, ◌++◌, IfOk, IfErr, string_bytes, codes};
 ghost use Rattle.std.specs.Fmt.{decimal};
-ghost use Rattle.tendril_run.specs.Words.{kind_name};
-ghost use Rattle.tendril_run.specs.Printed.{hex_text, comparison_name, printed};
+ghost use Rattle.tendril_run.specs.Names.{kind_name, comparison_name};
+ghost use Rattle.tendril_run.specs.Printed.{printed};
 
 use crate::command::{Comparison, Kind, Reply};
 use std::alloc::{AllocError, Global};
 use tendril::block::Refusal;
+use tendril_words::hex_of;
 
 /// A reply's line, without its line feed: `ok`, `slot N`, `char C`, `run N K`, `none`, `less`, `equal`, `greater`,
 /// `differ`, a format's name with the bytes in lower-case digits or `-`, or `refused N Name`.
@@ -14,29 +15,23 @@ pub fn print_reply(alloc: Global, reply: &Reply) -> Result<String, Refusal>
     ensures printed { IfOk result (λ text. string_bytes text ≡ printed reply.now) }
     ensures refusal { IfErr result (λ r. r ≡ Refusal.Memory) }
 {
-    reply_text(alloc, reply).map_err(|_| Refusal::Memory)
-}
-
-fn reply_text(alloc: Global, reply: &Reply) -> Result<String, AllocError>
-    ensures { IfOk result (λ text. string_bytes text ≡ printed reply.now) }
-{
-    match reply {
-        Reply::Done => String::from_str(alloc, "ok"),
-        Reply::Made(slot) => format!(in alloc; "slot {slot}"),
-        Reply::Char(None) | Reply::Run(None) => String::from_str(alloc, "none"),
+    Ok(match reply {
+        Reply::Done => String::from_str(alloc, "ok")?,
+        Reply::Made(slot) => format!(in alloc; "slot {slot}")?,
+        Reply::Char(None) | Reply::Run(None) => String::from_str(alloc, "none")?,
         Reply::Char(Some(character)) => {
             let number = *character as u32;
-            format!(in alloc; "char {number}")
+            format!(in alloc; "char {number}")?
         }
-        Reply::Run(Some((slot, class))) => run_text(alloc, *slot, *class),
-        Reply::Compared(comparison) => String::from_str(alloc, name_of_comparison(*comparison)),
+        Reply::Run(Some((slot, class))) => run_text(alloc, *slot, *class)?,
+        Reply::Compared(comparison) => String::from_str(alloc, name_of_comparison(*comparison))?,
         Reply::Text(kind, bytes) => {
             let name = name_of_kind(*kind);
             let digits = hex_of(alloc, bytes.as_slice())?;
-            format!(in alloc; "{name} {digits}")
+            format!(in alloc; "{name} {digits}")?
         }
-        Reply::Refused(refusal) => refused_text(alloc, refusal.number(), refusal.name()),
-    }
+        Reply::Refused(refusal) => refused_text(alloc, refusal.number(), refusal.name())?,
+    })
 }
 
 fn run_text(alloc: Global, slot: usize, class: u32) -> Result<String, AllocError>
@@ -49,15 +44,6 @@ fn refused_text(alloc: Global, number: u8, name: &str) -> Result<String, AllocEr
     ensures { IfOk result (λ text. string_bytes text ≡ codes "refused " ++ decimal number ++ codes " " ++ name.now) }
 {
     format!(in alloc; "refused {number} {name}")
-}
-
-fn hex_of(alloc: Global, bytes: &[u8]) -> Result<String, AllocError>
-    ensures { IfOk result (λ text. string_bytes text ≡ hex_text bytes.now) }
-{
-    if bytes.is_empty() {
-        return String::from_str(alloc, "-");
-    }
-    hex::encode(alloc, bytes)
 }
 
 fn name_of_comparison(comparison: Comparison) -> &'static str

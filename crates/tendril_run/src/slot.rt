@@ -4,18 +4,19 @@ ghost use Rattle.tendril_run.specs.CellOf.{cell_of};
 ghost use Rattle.tendril_run.specs.Cells.{IsCell, text as text_cell, valid_in};
 ghost use Rattle.tendril_run.specs.Comparisons.{CellsCompared};
 ghost use Rattle.tendril_run.specs.OneCell.{CellPushed, CellCharPushed, CellCharPopped, CellJoined, CellEdited, CellByteEdited, CellDropped, CellTold, CellMust, CharsMust, char_of, RunMay, IsRunOf, CellSliceMust, CellCloneMay, part};
-ghost use Rattle.tendril_run.specs.Rules.{BytesMust, MemoryMay, CountMay};
+ghost use Rattle.tendril_block.specs.Outcomes.{BytesMust, MemoryMay, CountMay, Gives, Outcome};
 
 mod convert;
 
 use crate::change::{ByteEdit, Edit};
 use crate::classifier::Classifier;
-use crate::command::{ByteList, Kind, Reply};
+use crate::command::{Kind, Reply};
 use crate::text;
 use std::alloc::Global;
 use tendril::block::Refusal;
 use tendril::fmt::{ASCII, Bytes, Latin1, UTF8, WTF8};
 use tendril::{Atomicity, Tendril};
+use tendril_words::ByteList;
 
 /// A text in one of the formats, or nothing any more.
 #[derive(Drop)]
@@ -100,8 +101,8 @@ impl<A: Atomicity> Slot<A> {
 
     /// A text of these bytes.
     pub(crate) fn from_bytes(alloc: Global, kind: Kind, bytes: &ByteList) -> Result<Self, Refusal>
-        ensures ok { IfOk result (λ s. BytesMust (valid_in kind) bytes.now (length bytes.now) None × (cell_of s ≡ text_cell kind bytes.now)) }
-        ensures refusal { IfErr result (λ r. BytesMust (valid_in kind) bytes.now (length bytes.now) (Some r) ⊎ (BytesMust (valid_in kind) bytes.now (length bytes.now) None × MemoryMay (length bytes.now) r)) }
+        ensures { Gives (BytesMust (valid_in kind) bytes.now (length bytes.now)) (MemoryMay (length bytes.now))
+            (λ s. cell_of s ≡ text_cell kind bytes.now) result }
     {
         match kind {
             Kind::Bytes => Ok(Slot::Bytes(text::from_bytes(alloc, bytes)?)),
@@ -131,31 +132,25 @@ impl<A: Atomicity> Slot<A> {
     /// Puts bytes at the end of the text.
     pub(crate) fn push_bytes(&mut self, bytes: &ByteList) -> Reply
         ensures pushed { CellPushed (cell_of self.old) bytes.now result (cell_of self.new) }
-        ensures valid { IsCell (cell_of self.new) }
+        ensures kept { IsCell (cell_of self.old) → IsCell (cell_of self.new) }
     {
-        let reply = on_text!(self, _kind, text => text::push(text, bytes), gone());
-        let _kind = self.kind();
-        reply
+        on_text!(self, _kind, text => text::push(text, bytes), gone())
     }
 
     /// Puts a character at the end of the text.
     pub(crate) fn push_char(&mut self, character: char) -> Reply
         ensures pushed { CellCharPushed (cell_of self.old) character result (cell_of self.new) }
-        ensures valid { IsCell (cell_of self.new) }
+        ensures kept { IsCell (cell_of self.old) → IsCell (cell_of self.new) }
     {
-        let reply = on_characters!(self, text => text::push_char(text, character));
-        let _kind = self.kind();
-        reply
+        on_characters!(self, text => text::push_char(text, character))
     }
 
     /// Takes the first character out of the text.
     pub(crate) fn pop_char(&mut self) -> Reply
         ensures popped { CellCharPopped (cell_of self.old) result (cell_of self.new) }
-        ensures valid { IsCell (cell_of self.new) }
+        ensures kept { IsCell (cell_of self.old) → IsCell (cell_of self.new) }
     {
-        let reply = on_characters!(self, text => text::pop_char(text));
-        let _kind = self.kind();
-        reply
+        on_characters!(self, text => text::pop_char(text))
     }
 
     /// Takes the longest run of characters of one class out of the front of the text, with the class.
@@ -163,22 +158,11 @@ impl<A: Atomicity> Slot<A> {
         &mut self,
         classifier: &C,
     ) -> Result<Option<(Self, u32)>, Refusal>
-        ensures must { IfOk result (λ found. CharsMust (cell_of self.old) None) }
-        ensures ok { IfOk result (λ found. MatchOption found ((char_of (cell_of self.old) ≡ None) × (cell_of self.new ≡ cell_of self.old)) (λ run. IsRunOf (C.class classifier.now) (cell_of self.old) run.1 (cell_of run.0) (cell_of self.new))) }
-        ensures refusal { IfErr result (λ r. CharsMust (cell_of self.old) (Some r) ⊎ (CharsMust (cell_of self.old) None × RunMay (C.class classifier.now) (cell_of self.old) r)) }
-        ensures err { OnErr result (cell_of self.new ≡ cell_of self.old) }
-        ensures valid { IsCell (cell_of self.new) }
-    {
-        let popped = self.popped_run(classifier);
-        let _kind = self.kind();
-        popped
-    }
-
-    fn popped_run<C: Classifier>(&mut self, classifier: &C) -> Result<Option<(Self, u32)>, Refusal>
-        ensures must { IfOk result (λ found. CharsMust (cell_of self.old) None) }
-        ensures ok { IfOk result (λ found. MatchOption found ((char_of (cell_of self.old) ≡ None) × (cell_of self.new ≡ cell_of self.old)) (λ run. IsRunOf (C.class classifier.now) (cell_of self.old) run.1 (cell_of run.0) (cell_of self.new))) }
-        ensures refusal { IfErr result (λ r. CharsMust (cell_of self.old) (Some r) ⊎ (CharsMust (cell_of self.old) None × RunMay (C.class classifier.now) (cell_of self.old) r)) }
-        ensures err { OnErr result (cell_of self.new ≡ cell_of self.old) }
+        ensures popped { Outcome (CharsMust (cell_of self.old)) (RunMay (C.class classifier.now) (cell_of self.old))
+            (λ found new. MatchOption found ((char_of (cell_of self.old) ≡ None) × (new ≡ cell_of self.old))
+            (λ run. IsRunOf (C.class classifier.now) (cell_of self.old) run.1 (cell_of run.0) new))
+            (cell_of self.old) result (cell_of self.new) }
+        ensures kept { IsCell (cell_of self.old) → IsCell (cell_of self.new) }
     {
         match self {
             Slot::Ascii(text) => Ok(text::pop_run(text, classifier)?.map(|(run, class)| (
@@ -200,10 +184,11 @@ impl<A: Atomicity> Slot<A> {
 
     /// Puts the text of another slot at the end of the text.
     pub(crate) fn join(&mut self, other: &Slot<A>) -> Reply
-        ensures joined { (to from : ℕ) → CellJoined to from (cell_of self.old) (cell_of other.now) result (cell_of self.new) }
-        ensures valid { IsCell (cell_of self.new) }
+        ensures joined { (to from : ℕ) →
+            CellJoined to from (cell_of self.old) (cell_of other.now) result (cell_of self.new) }
+        ensures kept { IsCell (cell_of self.old) → IsCell (cell_of other.now) → IsCell (cell_of self.new) }
     {
-        let reply = match (&mut *self, other) {
+        match (&mut *self, other) {
             (Slot::Bytes(text), Slot::Bytes(more)) => text::join(text, more),
             (Slot::Ascii(text), Slot::Ascii(more)) => text::join(text, more),
             (Slot::Utf8(text), Slot::Utf8(more)) => text::join(text, more),
@@ -211,57 +196,50 @@ impl<A: Atomicity> Slot<A> {
             (Slot::Latin1(text), Slot::Latin1(more)) => text::join(text, more),
             (Slot::Gone, _) | (_, Slot::Gone) => gone(),
             _ => Reply::Refused(Refusal::WrongFormat),
-        };
-        let _kind = self.kind();
-        reply
+        }
     }
 
     /// Puts the text at its own end.
     pub(crate) fn join_self(&mut self) -> Reply
-        ensures joined { (slot : ℕ) → CellJoined slot slot (cell_of self.old) (cell_of self.old) result (cell_of self.new) }
-        ensures valid { IsCell (cell_of self.new) }
+        ensures joined { (slot : ℕ) →
+            CellJoined slot slot (cell_of self.old) (cell_of self.old) result (cell_of self.new) }
+        ensures kept { IsCell (cell_of self.old) → IsCell (cell_of self.new) }
     {
-        let reply = on_text!(self, _kind, text => text::join_self(text), gone());
-        let _kind = self.kind();
-        reply
+        on_text!(self, _kind, text => text::join_self(text), gone())
     }
 
     /// Changes the text's bytes.
     pub(crate) fn edit(&mut self, edit: Edit) -> Reply
         ensures edited { CellEdited (cell_of self.old) edit result (cell_of self.new) }
-        ensures valid { IsCell (cell_of self.new) }
+        ensures kept { IsCell (cell_of self.old) → IsCell (cell_of self.new) }
     {
-        let reply = on_text!(self, _kind, text => text::edit(text, edit), gone());
-        let _kind = self.kind();
-        reply
+        on_text!(self, _kind, text => text::edit(text, edit), gone())
     }
 
     /// Changes the bytes of a text of bytes.
     pub(crate) fn edit_bytes(&mut self, edit: ByteEdit) -> Reply
         ensures edited { CellByteEdited (cell_of self.old) edit result (cell_of self.new) }
-        ensures valid { IsCell (cell_of self.new) }
+        ensures kept { IsCell (cell_of self.old) → IsCell (cell_of self.new) }
     {
-        let reply = match self {
+        match self {
             Slot::Bytes(text) => text::edit_bytes(text, edit),
             Slot::Gone => gone(),
             _ => Reply::Refused(Refusal::WrongFormat),
-        };
-        let _kind = self.kind();
-        reply
+        }
     }
 
     /// A part of the text.
     pub(crate) fn slice(&self, offset: u32, count: u32) -> Result<Self, Refusal>
-        ensures ok { IfOk result (λ s. CellSliceMust (cell_of self.now) offset count None × (cell_of s ≡ part (cell_of self.now) offset count)) }
-        ensures refusal { IfErr result (λ r. CellSliceMust (cell_of self.now) offset count (Some r) ⊎ (CellSliceMust (cell_of self.now) offset count None × CountMay count r)) }
+        ensures { Gives (CellSliceMust (cell_of self.now) offset count) (CountMay count)
+            (λ s. cell_of s ≡ part (cell_of self.now) offset count) result }
     {
         like_text!(self, text => text::slice(text, offset, count), Err(Refusal::NoSuchSlot))
     }
 
     /// The same text once more.
     pub(crate) fn clone(&self) -> Result<Self, Refusal>
-        ensures ok { IfOk result (λ s. CellMust (cell_of self.now) None × (cell_of s ≡ cell_of self.now)) }
-        ensures refusal { IfErr result (λ r. CellMust (cell_of self.now) (Some r) ⊎ (CellMust (cell_of self.now) None × CellCloneMay (cell_of self.now) r)) }
+        ensures { Gives (CellMust (cell_of self.now)) (CellCloneMay (cell_of self.now))
+            (λ s. cell_of s ≡ cell_of self.now) result }
     {
         like_text!(self, text => text.clone(), Err(Refusal::NoSuchSlot))
     }
@@ -291,7 +269,7 @@ impl<A: Atomicity> Slot<A> {
     /// The slot is gone.
     pub(crate) fn drop_text(&mut self) -> Reply
         ensures dropped { CellDropped (cell_of self.old) result (cell_of self.new) }
-        ensures valid { IsCell (cell_of self.new) }
+        ensures kept { IsCell (cell_of self.old) → IsCell (cell_of self.new) }
     {
         if let Slot::Gone = self {
             return gone();

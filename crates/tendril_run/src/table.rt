@@ -3,18 +3,22 @@ ghost use Rattle.std.specs.Prelude.{◌≡◌, ◌≤◌, ◌<◌, ◌+◌, ◌�
 ghost use Rattle.tendril_run.specs.CellOf.{cell_of};
 ghost use Rattle.tendril_run.specs.Cells.{Cell, IsCell, gone, cell_at};
 ghost use Rattle.tendril_run.specs.OneCell.{CellMust, CellSliceMust, CellCloneMay, part};
-ghost use Rattle.tendril_run.specs.Rules.{CountMay};
+ghost use Rattle.tendril_block.specs.Outcomes.{CountMay, Gives};
 ghost use Rattle.tendril_run.specs.Steps.{Step, TableEdited, TableByteEdited, TableConverted};
+
+mod runs;
 
 use crate::change::{ByteEdit, Conversion, Edit};
 use crate::classifier::Classifier;
-use crate::command::{ByteList, Command, Kind, Reply};
+use crate::command::{Command, Kind, Reply};
 use crate::slot::{Slot, gone};
+pub use runs::run;
 use std::alloc::Global;
 use std::marker::Model;
 use std::mem;
 use tendril::Atomicity;
 use tendril::block::Refusal;
+use tendril_words::ByteList;
 
 /// Slots that are numbered from 0, each with a text or gone.
 #[derive(Drop)]
@@ -58,6 +62,7 @@ impl<A: Atomicity> Table<A> {
         ensures room { self.old.room ≤ self.new.room + 1 }
         ensures succeeds { 1 ≤ self.old.room → IsOk result }
     {
+        // A slot may come from anywhere: that its text is valid is told where it is read.
         let _kind = slot.kind();
         match self.slots.push(slot) {
             Ok(()) => Ok(()),
@@ -67,7 +72,8 @@ impl<A: Atomicity> Table<A> {
 
     /// The slot of a number.
     pub fn slot(&self, index: usize) -> Option<&Slot<A>>
-        ensures { MatchOption result (length self.now.cells ≤ index) (λ s. (index < length self.now.cells) × (cell_of s.now ≡ cell_at self.now.cells index)) }
+        ensures { MatchOption result (length self.now.cells ≤ index)
+            (λ s. (index < length self.now.cells) × (cell_of s.now ≡ cell_at self.now.cells index)) }
     {
         self.slots.get(index)
     }
@@ -87,7 +93,8 @@ impl<A: Atomicity> Table<A> {
         ensures refusal { IfErr result (λ r. r ≡ Refusal.Memory) }
         ensures err { OnErr result (self.new.room ≡ self.old.room) }
     {
-        self.slots.reserve(more).map_err(|_| Refusal::Memory)
+        self.slots.reserve(more)?;
+        Ok(())
     }
 
     /// Carries out one command, where there is room for the slot that it may make.
@@ -124,15 +131,7 @@ impl<A: Atomicity> Table<A> {
         }
     }
 
-    /// The number of slots, gone ones too.
-    pub(crate) fn len(&self) -> usize
-        ensures len { result ≡ length self.now.cells }
-        ensures valid { All IsCell self.now.cells }
-    {
-        self.slots.len()
-    }
-
-    pub(crate) fn allocator(&self) -> Global {
+    fn allocator(&self) -> Global {
         self.alloc
     }
 
@@ -295,8 +294,8 @@ impl<A: Atomicity> Table<A> {
     }
 
     fn part(&self, slot: usize, offset: u32, count: u32) -> Result<Slot<A>, Refusal>
-        ensures ok { IfOk result (λ s. CellSliceMust (cell_at self.now.cells slot) offset count None × (cell_of s ≡ part (cell_at self.now.cells slot) offset count)) }
-        ensures refusal { IfErr result (λ r. CellSliceMust (cell_at self.now.cells slot) offset count (Some r) ⊎ (CellSliceMust (cell_at self.now.cells slot) offset count None × CountMay count r)) }
+        ensures { Gives (CellSliceMust (cell_at self.now.cells slot) offset count) (CountMay count)
+            (λ s. cell_of s ≡ part (cell_at self.now.cells slot) offset count) result }
     {
         match self.slot(slot) {
             Some(slot) => slot.slice(offset, count),
@@ -316,8 +315,8 @@ impl<A: Atomicity> Table<A> {
     }
 
     fn copy(&self, slot: usize) -> Result<Slot<A>, Refusal>
-        ensures ok { IfOk result (λ s. CellMust (cell_at self.now.cells slot) None × (cell_of s ≡ cell_at self.now.cells slot)) }
-        ensures refusal { IfErr result (λ r. CellMust (cell_at self.now.cells slot) (Some r) ⊎ (CellMust (cell_at self.now.cells slot) None × CellCloneMay (cell_at self.now.cells slot) r)) }
+        ensures { Gives (CellMust (cell_at self.now.cells slot)) (CellCloneMay (cell_at self.now.cells slot))
+            (λ s. cell_of s ≡ cell_at self.now.cells slot) result }
     {
         match self.slot(slot) {
             Some(slot) => slot.clone(),

@@ -1,39 +1,43 @@
 //! What commands do to a text, in any format.
-ghost use Rattle.std.specs.Prelude.{◌≡◌, ◌<◌, ◌⊎◌, ◌↔◌, length, take, drop, IsTrue, IfOk, IfErr, OnOk, OnErr, MatchOption, [], None, Some, nat_eq, if◌then◌else◌};
+ghost use Rattle.std.specs.Prelude.{◌≡◌, ◌<◌, ◌≤◌, ◌⊎◌, ◌↔◌, length, take, drop, IsTrue, IfOk, IfErr, OnOk, OnErr, MatchOption, [], None, Some, nat_eq, if◌then◌else◌};
 ghost use Rattle.tendril.specs.Errors.{refusal_of};
 ghost use Rattle.tendril_run.specs.CellOf.{cell_of};
-ghost use Rattle.tendril_run.specs.Cells.{text as text_cell, valid_in};
+ghost use Rattle.tendril_run.specs.Cells.{text as text_cell, valid_in, IsText};
 ghost use Rattle.tendril_run.specs.Characters.{first_of, without_first, run_bytes, IsFirstRun};
 ghost use Rattle.std.specs.Cmp.Lexicographic.{pointwise};
 ghost use Rattle.tendril_run.specs.Comparisons.{in_order};
 ghost use Rattle.tendril_run.specs.Edits.{TextEdited, BytesEdited};
 ghost use Rattle.tendril_run.specs.OneCell.{CellTold};
-ghost use Rattle.tendril_run.specs.Rules.{TextPushed, Answered, Changed, LengthMust, CharMust, BytesMust, MemoryMay, SliceMust, CountMay};
+ghost use Rattle.tendril_run.specs.Rules.{TextPushed, Answered, Changed};
+ghost use Rattle.tendril.specs.Making.{MakesValidText};
+ghost use Rattle.tendril_block.specs.Outcomes.{NoneMust, LengthMust, CharMust, BytesMust, SliceMust, NoneMay, MemoryMay, CountMay, Gives};
 
 use crate::change::{ByteEdit, Edit};
 use crate::classifier::Classifier;
-use crate::command::{ByteList, Comparison, Kind, Reply};
+use crate::command::{Comparison, Kind, Reply};
 use crate::slot::Slot;
 use std::alloc::Global;
 use std::cmp::Ordering;
 use tendril::block::{MAX_LEN, Refusal};
 use tendril::fmt::{CharFormat, Format};
 use tendril::{Atomicity, ByteTendril, SubtendrilError, Tendril};
+use tendril_words::ByteList;
 
 /// A text of these bytes.
 pub(crate) fn from_bytes<F: Format, A: Atomicity>(
     alloc: Global,
     bytes: &ByteList,
 ) -> Result<Tendril<F, A>, Refusal>
-    ensures ok { IfOk result (λ t. BytesMust F.valid bytes.now (length bytes.now) None × (t.bytes ≡ bytes.now)) }
-    ensures refusal { IfErr result (λ r. BytesMust F.valid bytes.now (length bytes.now) (Some r) ⊎ (BytesMust F.valid bytes.now (length bytes.now) None × MemoryMay (length bytes.now) r)) }
+    ensures { MakesValidText F.valid bytes.now result }
 {
     Tendril::try_from_byte_slice(alloc, bytes.as_slice())
 }
 
 /// Puts bytes at the end of the text.
 pub(crate) fn push<F: Format, A: Atomicity>(text: &mut Tendril<F, A>, bytes: &ByteList) -> Reply
-    ensures { TextPushed (BytesMust F.valid bytes.now (length (F.join text.old.bytes bytes.now))) (F.join text.old.bytes bytes.now) text.old.bytes result text.new.bytes }
+    ensures done { let joined = F.join text.old.bytes bytes.now in
+        TextPushed (BytesMust F.valid bytes.now (length joined)) joined text.old.bytes result text.new.bytes }
+    ensures kept { IsText F.valid text.old.bytes → IsText F.valid text.new.bytes }
 {
     reply_of(text.try_push_bytes(bytes.as_slice()))
 }
@@ -43,14 +47,18 @@ pub(crate) fn push_char<F: CharFormat, A: Atomicity>(
     text: &mut Tendril<F, A>,
     character: char,
 ) -> Reply
-    ensures { TextPushed (CharMust F.encodes character (length (F.join text.old.bytes (F.encoding character)))) (F.join text.old.bytes (F.encoding character)) text.old.bytes result text.new.bytes }
+    ensures done { let joined = F.join text.old.bytes (F.encoding character) in
+        TextPushed (CharMust F.encodes character (length joined)) joined text.old.bytes result text.new.bytes }
+    ensures kept { IsText F.valid text.old.bytes → IsText F.valid text.new.bytes }
 {
     reply_of(text.try_push_char(character))
 }
 
 /// Takes the first character out of the text.
 pub(crate) fn pop_char<F: CharFormat, A: Atomicity>(text: &mut Tendril<F, A>) -> Reply
-    ensures { Answered (λ must. must ≡ None) (λ r. ⊥) (Reply.Char (first_of (F.chars text.old.bytes))) (without_first F.encoding (F.chars text.old.bytes) text.old.bytes) text.old.bytes result text.new.bytes }
+    ensures done { Answered NoneMust NoneMay (Reply.Char (first_of (F.chars text.old.bytes)))
+        (without_first F.encoding (F.chars text.old.bytes) text.old.bytes) text.old.bytes result text.new.bytes }
+    ensures kept { IsText F.valid text.old.bytes → IsText F.valid text.new.bytes }
 {
     Reply::Char(text.pop_front_char())
 }
@@ -60,23 +68,36 @@ pub(crate) fn pop_run<F: CharFormat, A: Atomicity, C: Classifier>(
     text: &mut Tendril<F, A>,
     classifier: &C,
 ) -> Result<Option<(Tendril<F, A>, u32)>, Refusal>
-    ensures ok { IfOk result (λ found. MatchOption found ((F.chars text.old.bytes ≡ []) × (text.new.bytes ≡ text.old.bytes)) (λ run. IsFirstRun F.chars F.encoding (C.class classifier.now) text.old.bytes run.1 run.0.bytes text.new.bytes)) }
-    ensures refusal { IfErr result (λ r. CountMay (length (run_bytes F.encoding (C.class classifier.now) (F.chars text.old.bytes))) r × CountMay (length (drop (length (run_bytes F.encoding (C.class classifier.now) (F.chars text.old.bytes))) text.old.bytes)) r) }
+    ensures ok { IfOk result (λ found. MatchOption found
+        ((F.chars text.old.bytes ≡ []) × (text.new.bytes ≡ text.old.bytes))
+        (λ run. IsFirstRun F.chars F.encoding (C.class classifier.now)
+        text.old.bytes run.1 run.0.bytes text.new.bytes)) }
+    ensures refusal { IfErr result (λ r.
+        CountMay (length (run_bytes F.encoding (C.class classifier.now) (F.chars text.old.bytes))) r
+        × CountMay (length (drop
+        (length (run_bytes F.encoding (C.class classifier.now) (F.chars text.old.bytes)))
+        text.old.bytes)) r) }
     ensures err { OnErr result (text.new.bytes ≡ text.old.bytes) }
+    ensures kept { IsText F.valid text.old.bytes → IsText F.valid text.new.bytes }
 {
     text.pop_front_char_run(|character| classifier.class_of(character))
 }
 
 /// Puts another text at the end of the text.
 pub(crate) fn join<F: Format, A: Atomicity>(text: &mut Tendril<F, A>, more: &Tendril<F, A>) -> Reply
-    ensures { TextPushed (LengthMust (length (F.join text.old.bytes more.now.bytes))) (F.join text.old.bytes more.now.bytes) text.old.bytes result text.new.bytes }
+    ensures done { let joined = F.join text.old.bytes more.now.bytes in
+        TextPushed (LengthMust (length joined)) joined text.old.bytes result text.new.bytes }
+    ensures kept { IsText F.valid text.old.bytes → F.valid more.now.bytes → IsText F.valid text.new.bytes }
 {
     reply_of(text.push_tendril(more))
 }
 
 /// Puts the text at its own end. It is shared for that, where the result isn't too long.
 pub(crate) fn join_self<F: Format, A: Atomicity>(text: &mut Tendril<F, A>) -> Reply
-    ensures { Changed (LengthMust (length (F.join text.old.bytes text.old.bytes))) (λ r. MemoryMay (length (F.join text.old.bytes text.old.bytes)) r ⊎ CountMay (length text.old.bytes) r) (F.join text.old.bytes text.old.bytes) text.old.bytes result text.new.bytes }
+    ensures done { let joined = F.join text.old.bytes text.old.bytes in
+        Changed (LengthMust (length joined)) (λ r. MemoryMay (length joined) r ⊎ CountMay (length text.old.bytes) r)
+        joined text.old.bytes result text.new.bytes }
+    ensures kept { IsText F.valid text.old.bytes → IsText F.valid text.new.bytes }
 {
     if is_twice_too_long(text) {
         return Reply::Refused(Refusal::TooLong);
@@ -100,7 +121,8 @@ fn is_twice_too_long<F: Format, A: Atomicity>(text: &Tendril<F, A>) -> bool
 
 /// Changes the bytes of the text.
 pub(crate) fn edit<F: Format, A: Atomicity>(text: &mut Tendril<F, A>, edit: Edit) -> Reply
-    ensures { TextEdited F.valid edit text.old.bytes result text.new.bytes }
+    ensures done { TextEdited F.valid edit text.old.bytes result text.new.bytes }
+    ensures kept { IsText F.valid text.old.bytes → IsText F.valid text.new.bytes }
 {
     match edit {
         Edit::PopFront(count) => popped(text.try_pop_front(count)),
@@ -115,7 +137,8 @@ pub(crate) fn edit<F: Format, A: Atomicity>(text: &mut Tendril<F, A>, edit: Edit
 
 /// Changes the bytes of a text of bytes.
 pub(crate) fn edit_bytes<A: Atomicity>(text: &mut ByteTendril<A>, edit: ByteEdit) -> Reply
-    ensures { BytesEdited edit text.old.bytes result text.new.bytes }
+    ensures done { BytesEdited edit text.old.bytes result text.new.bytes }
+    ensures short { length text.old.bytes ≤ MAX_LEN → length text.new.bytes ≤ MAX_LEN }
 {
     match edit {
         ByteEdit::PushZeros(count) => reply_of(text.push_uninitialized(count)),
@@ -124,7 +147,8 @@ pub(crate) fn edit_bytes<A: Atomicity>(text: &mut ByteTendril<A>, edit: ByteEdit
 }
 
 fn write_byte<A: Atomicity>(text: &mut ByteTendril<A>, index: u32, byte: u8) -> Reply
-    ensures { BytesEdited (ByteEdit.WriteByte index byte) text.old.bytes result text.new.bytes }
+    ensures done { BytesEdited (ByteEdit.WriteByte index byte) text.old.bytes result text.new.bytes }
+    ensures short { length text.old.bytes ≤ MAX_LEN → length text.new.bytes ≤ MAX_LEN }
 {
     if index >= text.len32() {
         return Reply::Refused(Refusal::OutOfBounds);
@@ -167,7 +191,8 @@ pub(crate) fn ordered(order: Ordering) -> Reply
 
 /// The reply that tells whether two texts are equal.
 pub(crate) fn equal<F: Format, A: Atomicity>(text: &Tendril<F, A>, other: &Tendril<F, A>) -> Reply
-    ensures { result ≡ Reply.Compared (if pointwise nat_eq text.now.bytes other.now.bytes then Comparison.Equal else Comparison.Differ) }
+    ensures { result ≡ Reply.Compared
+        (if pointwise nat_eq text.now.bytes other.now.bytes then Comparison.Equal else Comparison.Differ) }
 {
     Reply::Compared(if text == other {
         Comparison::Equal
@@ -199,8 +224,8 @@ pub(crate) fn slice<F: Format, A: Atomicity>(
     offset: u32,
     count: u32,
 ) -> Result<Tendril<F, A>, Refusal>
-    ensures ok { IfOk result (λ t. SliceMust F.valid text.now.bytes offset count None × (t.bytes ≡ take count (drop offset text.now.bytes))) }
-    ensures refusal { IfErr result (λ r. SliceMust F.valid text.now.bytes offset count (Some r) ⊎ (SliceMust F.valid text.now.bytes offset count None × CountMay count r)) }
+    ensures { Gives (SliceMust F.valid text.now.bytes offset count) (CountMay count)
+        (λ t. t.bytes ≡ take count (drop offset text.now.bytes)) result }
 {
     Ok(text.try_subtendril(offset, count)?)
 }

@@ -1,13 +1,12 @@
-//! The words of a line.
-
+//! The words of commands.
 ghost use Rattle.std.specs.Prelude.{◌≡◌, ◌↔◌, ℕ, List, [], ◌∷◌, map, Some, IfOk};
 ghost use Rattle.tendril_run.specs.Lines.{AreWords, number as number_word, scalar as scalar_word, format as format_word, bytes as bytes_word, byte as byte_word};
+ghost use Rattle.tendril_run.specs.Names.{kind_name};
 ghost use Rattle.tendril_run.specs.Verbs.{verb_name};
-ghost use Rattle.tendril_run.specs.Words.{words, IsNumber, IsCharWord, IsHex, IsByteWord, kind_name};
 
-use crate::command::{ByteList, Kind};
-use hex::FromHexError;
+use crate::command::Kind;
 use std::alloc::{AllocError, Global};
+use tendril_words::{ByteList, byte, bytes, number, scalar};
 
 /// The first word of a command's line.
 #[derive(Clone, Copy, Debug, PartialEq, Eq)]
@@ -65,31 +64,6 @@ pub(crate) fn verb_of(word: &[u8]) -> Option<Verb>
     }
 }
 
-/// The words of a line.
-pub(crate) fn split_words(alloc: Global, line: &[u8]) -> Result<Vec<&[u8]>, AllocError>
-    ensures { IfOk result (λ v. map (λ word. word.now) v.items ≡ words line.now) }
-{
-    line.split(|byte| *byte == b' ').collect(alloc)
-}
-
-/// A number without leading zeros, up to 4294967295.
-pub(crate) fn number(word: &[u8]) -> Option<u32>
-    ensures { (n : ℕ) → (result ≡ Some n) ↔ IsNumber n word.now }
-{
-    if word.is_empty() || word[0] == b'+' || (word[0] == b'0' && word.len() > 1) {
-        return None;
-    }
-    let text = str::from_utf8(word).ok()?;
-    text.parse().ok()
-}
-
-/// A character, by the number of its scalar value.
-pub(crate) fn scalar(word: &[u8]) -> Option<char>
-    ensures { (c : ℕ) → (result ≡ Some c) ↔ IsCharWord c word.now }
-{
-    char::from_u32(number(word)?)
-}
-
 /// The format of a name.
 pub(crate) fn kind(word: &[u8]) -> Option<Kind>
     ensures { (kind : _) → (result ≡ Some kind) ↔ (word.now ≡ kind_name kind) }
@@ -101,36 +75,6 @@ pub(crate) fn kind(word: &[u8]) -> Option<Kind>
         b"wtf8" => Some(Kind::Wtf8),
         b"latin1" => Some(Kind::Latin1),
         _ => None,
-    }
-}
-
-/// Bytes in hexadecimal, or a dash for none.
-#[tactic(auto, unfolding(crate::specs::Words::IsHex))]
-pub(crate) fn bytes(alloc: Global, word: &[u8]) -> Result<Option<ByteList>, AllocError>
-    ensures { IfOk result (λ found. (b : List ℕ) → (found ≡ Some b) ↔ IsHex b word.now) }
-{
-    match word {
-        [] => Ok(None),
-        b"-" => Ok(Some(ByteList::new(Vec::new(alloc)))),
-        _ => match hex::decode(alloc, word) {
-            Ok(bytes) => Ok(Some(ByteList::new(bytes))),
-            Err(FromHexError::OutOfMemory) => Err(AllocError),
-            Err(_) => Ok(None),
-        },
-    }
-}
-
-/// One byte, by its two digits.
-#[tactic(auto, unfolding(crate::specs::Words::IsByteWord))]
-pub(crate) fn byte(alloc: Global, word: &[u8]) -> Result<Option<u8>, AllocError>
-    ensures { IfOk result (λ found. (b : ℕ) → (found ≡ Some b) ↔ IsByteWord b word.now) }
-{
-    let Some(bytes) = bytes(alloc, word)? else {
-        return Ok(None);
-    };
-    match bytes.as_slice() {
-        [byte] => Ok(Some(*byte)),
-        _ => Ok(None),
     }
 }
 
@@ -156,7 +100,8 @@ pub(crate) fn one_number(args: &[&[u8]]) -> Option<usize>
 
 /// The two slots that the words are.
 pub(crate) fn two_slots(args: &[&[u8]]) -> Option<(usize, usize)>
-    ensures { (a b : ℕ) → (result ≡ Some (a, b)) ↔ AreWords (number_word a ∷ number_word b ∷ []) (map (λ word. word.now) args.now) }
+    ensures { (a b : ℕ) → (result ≡ Some (a, b))
+        ↔ AreWords (number_word a ∷ number_word b ∷ []) (map (λ word. word.now) args.now) }
 {
     let [first, second] = args else {
         return None;
@@ -166,7 +111,8 @@ pub(crate) fn two_slots(args: &[&[u8]]) -> Option<(usize, usize)>
 
 /// The slot and the number that the words are.
 pub(crate) fn two_numbers(args: &[&[u8]]) -> Option<(usize, u32)>
-    ensures { (a b : ℕ) → (result ≡ Some (a, b)) ↔ AreWords (number_word a ∷ number_word b ∷ []) (map (λ word. word.now) args.now) }
+    ensures { (a b : ℕ) → (result ≡ Some (a, b))
+        ↔ AreWords (number_word a ∷ number_word b ∷ []) (map (λ word. word.now) args.now) }
 {
     let [first, second] = args else {
         return None;
@@ -176,7 +122,8 @@ pub(crate) fn two_numbers(args: &[&[u8]]) -> Option<(usize, u32)>
 
 /// The slot and the character that the words are.
 pub(crate) fn number_and_char(args: &[&[u8]]) -> Option<(usize, char)>
-    ensures { (a b : ℕ) → (result ≡ Some (a, b)) ↔ AreWords (number_word a ∷ scalar_word b ∷ []) (map (λ word. word.now) args.now) }
+    ensures { (a b : ℕ) → (result ≡ Some (a, b))
+        ↔ AreWords (number_word a ∷ scalar_word b ∷ []) (map (λ word. word.now) args.now) }
 {
     let [first, second] = args else {
         return None;
@@ -186,7 +133,8 @@ pub(crate) fn number_and_char(args: &[&[u8]]) -> Option<(usize, char)>
 
 /// The slot and the format that the words are.
 pub(crate) fn number_and_kind(args: &[&[u8]]) -> Option<(usize, Kind)>
-    ensures { (a : ℕ) (k : _) → (result ≡ Some (a, k)) ↔ AreWords (number_word a ∷ format_word k ∷ []) (map (λ word. word.now) args.now) }
+    ensures { (a : ℕ) (k : _) → (result ≡ Some (a, k))
+        ↔ AreWords (number_word a ∷ format_word k ∷ []) (map (λ word. word.now) args.now) }
 {
     let [first, second] = args else {
         return None;
@@ -196,7 +144,8 @@ pub(crate) fn number_and_kind(args: &[&[u8]]) -> Option<(usize, Kind)>
 
 /// The three numbers that the words are.
 pub(crate) fn three_numbers(args: &[&[u8]]) -> Option<(usize, u32, u32)>
-    ensures { (a b c : ℕ) → (result ≡ Some (a, b, c)) ↔ AreWords (number_word a ∷ number_word b ∷ number_word c ∷ []) (map (λ word. word.now) args.now) }
+    ensures { (a b c : ℕ) → (result ≡ Some (a, b, c))
+        ↔ AreWords (number_word a ∷ number_word b ∷ number_word c ∷ []) (map (λ word. word.now) args.now) }
 {
     let [first, second, third] = args else {
         return None;
@@ -209,7 +158,9 @@ pub(crate) fn kind_and_bytes(
     alloc: Global,
     args: &[&[u8]],
 ) -> Result<Option<(Kind, ByteList)>, AllocError>
-    ensures { IfOk result (λ found. (k : _) (b : List ℕ) → (found ≡ Some (k, b)) ↔ AreWords (format_word k ∷ bytes_word b ∷ []) (map (λ word. word.now) args.now)) }
+    ensures { IfOk result (λ found.
+        (k : _) (b : List ℕ) → (found ≡ Some (k, b))
+        ↔ AreWords (format_word k ∷ bytes_word b ∷ []) (map (λ word. word.now) args.now)) }
 {
     let [first, second] = args else {
         return Ok(None);
@@ -228,7 +179,9 @@ pub(crate) fn number_and_bytes(
     alloc: Global,
     args: &[&[u8]],
 ) -> Result<Option<(usize, ByteList)>, AllocError>
-    ensures { IfOk result (λ found. (n : ℕ) (b : List ℕ) → (found ≡ Some (n, b)) ↔ AreWords (number_word n ∷ bytes_word b ∷ []) (map (λ word. word.now) args.now)) }
+    ensures { IfOk result (λ found.
+        (n : ℕ) (b : List ℕ) → (found ≡ Some (n, b))
+        ↔ AreWords (number_word n ∷ bytes_word b ∷ []) (map (λ word. word.now) args.now)) }
 {
     let [first, second] = args else {
         return Ok(None);
@@ -247,7 +200,9 @@ pub(crate) fn two_numbers_and_byte(
     alloc: Global,
     args: &[&[u8]],
 ) -> Result<Option<(usize, u32, u8)>, AllocError>
-    ensures { IfOk result (λ found. (a b c : ℕ) → (found ≡ Some (a, b, c)) ↔ AreWords (number_word a ∷ number_word b ∷ byte_word c ∷ []) (map (λ word. word.now) args.now)) }
+    ensures { IfOk result (λ found.
+        (a b c : ℕ) → (found ≡ Some (a, b, c))
+        ↔ AreWords (number_word a ∷ number_word b ∷ byte_word c ∷ []) (map (λ word. word.now) args.now)) }
 {
     let [first, second, third] = args else {
         return Ok(None);

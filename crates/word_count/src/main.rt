@@ -3,7 +3,7 @@
 
 use std::alloc::Global;
 use std::collections::BTreeMap;
-use std::io::Read;
+use std::io::{Error, ErrorKind, Read};
 use std::process::ExitCode;
 use tendril::StrTendril;
 use tendril::block::Refusal;
@@ -17,16 +17,20 @@ fn main(rt: HostRuntime) -> ExitCode {
 
 fn print_counts(rt: &HostRuntime) -> Result<(), Refusal> {
     let mut input = String::new(rt.alloc());
-    if rt.stdin().read_to_string(&mut input).is_err() {
-        return Err(Refusal::Io);
-    }
+    rt.stdin().read_to_string(&mut input).map_err(read_refusal)?;
     let counts = count(rt.alloc(), StrTendril::from_string(rt.alloc(), input)?)?;
     for (word, times) in counts.iter() {
-        if println!(rt; "{word}: {times}").is_err() {
-            return Err(Refusal::Io);
-        }
+        println!(rt; "{word}: {times}").map_err(|_| Refusal::Io)?;
     }
     Ok(())
+}
+
+// A read fails for want of memory too.
+fn read_refusal(error: Error) -> Refusal {
+    match error.kind() {
+        ErrorKind::OutOfMemory => Refusal::Memory,
+        _ => Refusal::Io,
+    }
 }
 
 // How often each word stands in the text. A long word shares the text's bytes.

@@ -7,20 +7,15 @@ use tendril_fmt::fmt::{Bytes, Format, UTF8};
 
 /// An item that a text of the format `F` takes whole.
 pub(crate) trait Piece<F: Format, A: Atomicity>: Drop {
-    ghost use Rattle.std.specs.Prelude.{◌≡◌, ◌≤◌, ◌+◌, ℕ, List, length, max, IfErr, OnOk, OnErr};
-    ghost use Rattle.tendril.specs.Refusals.{LengthRefused};
+    ghost use Rattle.std.specs.Prelude.{ℕ, List};
+    ghost use Rattle.tendril.specs.Pushes.{Joins};
 
     /// The bytes of the item.
     ghost bytes: { Self → List ℕ };
 
     /// Puts the bytes at the end by the format's join.
     fn push_to(self, text: &mut Tendril<F, A>) -> Result<(), Refusal>
-        ensures short { OnOk result (length (F.join text.old.bytes (bytes self)) ≤ MAX_LEN) }
-        ensures bytes { OnOk result (text.new.bytes ≡ F.join text.old.bytes (bytes self)) }
-        ensures grows { length text.new.bytes ≤ length text.old.bytes + length (bytes self) + 4 }
-        ensures copied { text.new.copied ≤ max text.old.copied (length text.old.bytes) + length (bytes self) + 4 }
-        ensures refusal { IfErr result (LengthRefused (length (F.join text.old.bytes (bytes self)))) }
-        ensures err { OnErr result (text.new ≡ text.old) };
+        ensures { Joins F.join (bytes self) text.old result text.new };
 }
 
 impl<A: Atomicity> Piece<UTF8, A> for char {

@@ -1,5 +1,6 @@
 //! Texts that change their format and keep their bytes.
 ghost use Rattle.std.specs.Prelude.{◌≡◌, IfOk, IfErr, OnOk, OnErr};
+ghost use Rattle.tendril_block.specs.Outcomes.{ValidMust, NoneMay, Gives};
 
 use crate::tendril::Tendril;
 use crate::view::View;
@@ -84,9 +85,7 @@ impl<F: Format, A: Atomicity> Tendril<F, A> {
 
     /// The text seen in a part of its format, where it is valid there.
     pub fn try_as_subset<Sub: SubsetOf<F>>(&self) -> Result<View<'_, Sub, A>, Refusal>
-        ensures valid { OnOk result (Sub.valid self.now.bytes) }
-        ensures ok { IfOk result (λ v. v ≡ self.now) }
-        ensures refusal { IfErr result (λ r. (r ≡ Refusal.Invalid) × (Sub.valid self.now.bytes → ⊥)) }
+        ensures { Gives (ValidMust Sub.valid self.now.bytes) NoneMay (λ v. v ≡ self.now) result }
     {
         if Sub::revalidate_subset(self.as_byte_slice()) {
             Ok(View::new(&self.storage))
@@ -97,9 +96,7 @@ impl<F: Format, A: Atomicity> Tendril<F, A> {
 
     /// The text seen in another format, where it is valid there.
     pub fn try_reinterpret_view<Other: Format>(&self) -> Result<View<'_, Other, A>, Refusal>
-        ensures valid { OnOk result (Other.valid self.now.bytes) }
-        ensures ok { IfOk result (λ v. v ≡ self.now) }
-        ensures refusal { IfErr result (λ r. (r ≡ Refusal.Invalid) × (Other.valid self.now.bytes → ⊥)) }
+        ensures { Gives (ValidMust Other.valid self.now.bytes) NoneMay (λ v. v ≡ self.now) result }
     {
         if Other::validate(self.as_byte_slice()) {
             Ok(View::new(&self.storage))

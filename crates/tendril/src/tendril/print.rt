@@ -1,10 +1,12 @@
-//! How texts are printed.
-ghost use Rattle.std.specs.Prelude.{Some};
+//! How texts are printed, and texts that values are printed into.
+ghost use Rattle.std.specs.Prelude.{◌≡◌, ◌++◌, Some, IfOk, IfErr, IfSome, OnOk};
 ghost use Rattle.std.specs.Fmt.{styled_text};
+ghost use Rattle.tendril.specs.Writes.{IsGrowthRefusal, IsPrinted, TakesPiece};
 
 use crate::tendril::Tendril;
-use std::fmt::{Debug, Display, Formatter, Result, Write};
-use tendril_block::Atomicity;
+use std::alloc::Global;
+use std::fmt::{self, Debug, Display, Formatter, Write};
+use tendril_block::{Atomicity, Refusal};
 use tendril_fmt::fmt::{Bytes, Format, UTF8};
 
 impl<A: Atomicity> Display for Tendril<UTF8, A> {
@@ -12,30 +14,109 @@ impl<A: Atomicity> Display for Tendril<UTF8, A> {
 
     ghost styled_output = { λ t style. Some (styled_text style t.bytes) };
 
-    fn fmt<W: Write>(&self, f: &mut Formatter<W>) -> Result {
+    fn fmt<W: Write>(&self, f: &mut Formatter<W>) -> fmt::Result {
         Display::fmt(&self.as_str(), f)
     }
 }
 
 impl<A: Atomicity> Debug for Tendril<UTF8, A> {
-    fn fmt<W: Write>(&self, f: &mut Formatter<W>) -> Result {
+    fn fmt<W: Write>(&self, f: &mut Formatter<W>) -> fmt::Result {
         self.debug(&self.as_str(), f)
     }
 }
 
 impl<A: Atomicity> Debug for Tendril<Bytes, A> {
-    fn fmt<W: Write>(&self, f: &mut Formatter<W>) -> Result {
+    fn fmt<W: Write>(&self, f: &mut Formatter<W>) -> fmt::Result {
         self.debug(&self.as_byte_slice(), f)
     }
 }
 
 impl<F: Format + Copy + Default + Debug, A: Atomicity> Tendril<F, A> {
     // Prints the format, where the text stands, and what it is seen as, as `Tendril<UTF8>(inline: "foobar")`.
-    fn debug<T: Debug, W: Write>(&self, text: &T, f: &mut Formatter<W>) -> Result {
+    fn debug<T: Debug, W: Write>(&self, text: &T, f: &mut Formatter<W>) -> fmt::Result {
         let format = F::default();
         let kind = self.storage.kind();
         write!(f, "Tendril<{format:?}>({kind}: ")?;
         text.fmt(f)?;
         f.write_str(")")
     }
+}
+
+impl<A: Atomicity> Tendril<UTF8, A> {
+    /// The text that a value prints. Where the value's own `Display` fails, it is what was printed before.
+    ///
+    /// `print` says which of the two it is. Where a push was refused, so are both, whatever `Display` answered.
+    pub fn format<T: Display>(alloc: Global, value: &T) -> Result<Self, Refusal>
+        ensures refusal { IfErr result IsGrowthRefusal }
+    {
+        let (text, _) = Self::print(alloc, value)?;
+        Ok(text)
+    }
+
+    /// The text that a value prints, and what its `Display` answered.
+    ///
+    /// A value's `Display` sees no refused push: what it prints after one is dropped, and the call is refused once it is
+    /// done. Where `Display` fails of itself, the text is what was printed before.
+    pub fn print<T: Display>(alloc: Global, value: &T) -> Result<(Self, fmt::Result), Refusal>
+        ensures whole { IfOk result (λ printed.
+            OnOk printed.1 (IfSome (T.output value.now) (λ bytes. printed.0.bytes ≡ bytes))) }
+        ensures refusal { IfErr result IsGrowthRefusal }
+    {
+        let (Printer { text, refused }, printed) = Printer::print_value(alloc, value);
+        match refused {
+            Some(Refusal::TooLong) => Err(Refusal::TooLong),
+            Some(_) => Err(Refusal::Memory), // a push is refused for no other reason
+            None => Ok((text, printed)),
+        }
+    }
+}
+
+// A text that is printed into, and why a push was refused.
+#[derive(Drop)]
+struct Printer<A: Atomicity> {
+    text: Tendril<UTF8, A>,
+    refused: Option<Refusal>,
+}
+
+impl<A: Atomicity> Printer<A> {
+    // What a value prints, and what its `Display` answered.
+    fn print_value<T: Display>(alloc: Global, value: &T) -> (Self, fmt::Result)
+        ensures { OnOk result.1 (IfSome (T.output value.now)
+            (λ bytes. IsPrinted bytes result.0.text.bytes result.0.refused)) }
+    {
+        let mut formatter = Formatter::new(Printer {
+            text: Tendril::new(alloc),
+            refused: None,
+        });
+        let printed = formatter.write(value);
+        (formatter.into_inner(), printed)
+    }
+
+    // Pushes a piece, or keeps why that is refused. Once a push was refused, nothing changes.
+    fn push(&mut self, piece: &str)
+        ensures { TakesPiece self.old.text.bytes self.old.refused piece.now self.new.text.bytes self.new.refused }
+    {
+        if self.refused.is_none() {
+            self.refused = self.text.push_slice(piece).err();
+        }
+    }
+}
+
+// Every piece is accepted. So a `Display` that answers Ok has written its whole text, and what is known of all calls says
+// where in it a push was refused.
+impl<A: Atomicity> fmt::Write for Printer<A> {
+    ghost write_str_gives = { λ p piece q. TakesPiece p.text.bytes p.refused piece q.text.bytes q.refused };
+
+    fn write_str(&mut self, text: &str) -> fmt::Result {
+        self.push(text);
+        Ok(())
+    }
+}
+
+/// A text as `format!` writes it, `format_tendril!(in alloc; "two and two make {}", 4)?`.
+#[macro_export]
+macro_rules! format_tendril {
+    (in $alloc:expr; $($arg:tt)+) => {
+        $crate::StrTendril::<$crate::NonAtomic>::format($alloc, &format_args!($($arg)+))
+    };
 }

@@ -1,10 +1,10 @@
-//! Texts that grow.
-ghost use Rattle.std.specs.Prelude.{◌≡◌, ◌≤◌, ◌+◌, [], length, max, IfErr, OnOk, OnErr};
-ghost use Rattle.tendril.specs.Refusals.{BytesRefused, LengthRefused};
+//! Texts that grow, and texts that become empty.
+ghost use Rattle.std.specs.Prelude.{◌≡◌, ◌≤◌, ◌++◌, [], replicate};
+ghost use Rattle.tendril.specs.Pushes.{Joins, JoinsValid, Reserves};
 
 use crate::tendril::Tendril;
 use tendril_block::{Atomicity, MAX_LEN, Refusal};
-use tendril_fmt::fmt::Format;
+use tendril_fmt::fmt::{Bytes, Format, UTF8};
 
 impl<F: Format, A: Atomicity> Tendril<F, A> {
     /// Puts bytes at the end by the format's join, where they are valid by themselves.
@@ -13,12 +13,7 @@ impl<F: Format, A: Atomicity> Tendril<F, A> {
     /// front than there are with these. Else the text is copied into a new block first. n pushes of one byte take O(n)
     /// time, and so do n pushes and pops in turn.
     pub fn try_push_bytes(&mut self, more: &[u8]) -> Result<(), Refusal>
-        ensures valid { OnOk result (F.valid more.now) }
-        ensures short { OnOk result (length (F.join self.old.bytes more.now) ≤ MAX_LEN) }
-        ensures bytes { OnOk result (self.new.bytes ≡ F.join self.old.bytes more.now) }
-        ensures copied { self.new.copied ≤ max self.old.copied (length self.old.bytes) + length more.now + 4 }
-        ensures refusal { IfErr result (BytesRefused F.valid more.now (length (F.join self.old.bytes more.now))) }
-        ensures err { OnErr result (self.new ≡ self.old) }
+        ensures { JoinsValid F.valid F.join more.now self.old result self.new }
     {
         if !F::validate(more) {
             return Err(Refusal::Invalid);
@@ -29,12 +24,7 @@ impl<F: Format, A: Atomicity> Tendril<F, A> {
     /// Puts bytes at the end by the format's join, where they are known to be valid by themselves.
     pub fn push_bytes_without_validating(&mut self, more: &[u8]) -> Result<(), Refusal>
         requires { F.valid more.now }
-        ensures short { OnOk result (length (F.join self.old.bytes more.now) ≤ MAX_LEN) }
-        ensures bytes { OnOk result (self.new.bytes ≡ F.join self.old.bytes more.now) }
-        ensures grows { length self.new.bytes ≤ length self.old.bytes + length more.now + 4 }
-        ensures copied { self.new.copied ≤ max self.old.copied (length self.old.bytes) + length more.now + 4 }
-        ensures refusal { IfErr result (LengthRefused (length (F.join self.old.bytes more.now))) }
-        ensures err { OnErr result (self.new ≡ self.old) }
+        ensures { Joins F.join more.now self.old result self.new }
     {
         let text = self.storage.as_slice();
         let fixup = F::fixup(text, more);
@@ -51,12 +41,7 @@ impl<F: Format, A: Atomicity> Tendril<F, A> {
 
     /// Puts a text at the end by the format's join, as `try_push_bytes` puts bytes.
     pub fn push_tendril(&mut self, other: &Tendril<F, A>) -> Result<(), Refusal>
-        ensures short { OnOk result (length (F.join self.old.bytes other.now.bytes) ≤ MAX_LEN) }
-        ensures bytes { OnOk result (self.new.bytes ≡ F.join self.old.bytes other.now.bytes) }
-        ensures grows { length self.new.bytes ≤ length self.old.bytes + length other.now.bytes + 4 }
-        ensures copied { self.new.copied ≤ max self.old.copied (length self.old.bytes) + length other.now.bytes + 4 }
-        ensures refusal { IfErr result (LengthRefused (length (F.join self.old.bytes other.now.bytes))) }
-        ensures err { OnErr result (self.new ≡ self.old) }
+        ensures { Joins F.join other.now.bytes self.old result self.new }
     {
         self.push_bytes_without_validating(other.as_byte_slice())
     }
@@ -64,11 +49,7 @@ impl<F: Format, A: Atomicity> Tendril<F, A> {
     /// Makes room for so many more bytes, so that pushing them takes no memory. A text that is marked shared is left as
     /// it is: its next push may copy it.
     pub fn reserve(&mut self, more: u32) -> Result<(), Refusal>
-        ensures short { OnOk result (length self.old.bytes + more ≤ MAX_LEN) }
-        ensures bytes { self.new.bytes ≡ self.old.bytes }
-        ensures copied { self.new.copied ≤ max self.old.copied (length self.old.bytes) }
-        ensures refusal { IfErr result (LengthRefused (length self.old.bytes + more)) }
-        ensures err { OnErr result (self.new ≡ self.old) }
+        ensures { Reserves more self.old result self.new }
     {
         if more > MAX_LEN - self.len32() {
             return Err(Refusal::TooLong);
@@ -82,5 +63,33 @@ impl<F: Format, A: Atomicity> Tendril<F, A> {
         ensures copied { self.new.copied ≤ self.old.copied }
     {
         self.storage.clear();
+    }
+}
+
+impl<A: Atomicity> Tendril<Bytes, A> {
+    /// Puts bytes at the end, as `try_push_bytes` does.
+    pub fn push_slice(&mut self, slice: &[u8]) -> Result<(), Refusal>
+        ensures { Joins ◌++◌ slice.now self.old result self.new }
+    {
+        self.push_bytes_without_validating(slice)
+    }
+
+    /// Puts so many zeros at the end, to be written over. They are made where they stand.
+    pub fn push_uninitialized(&mut self, count: u32) -> Result<(), Refusal>
+        ensures { Joins ◌++◌ (replicate count 0) self.old result self.new }
+    {
+        if count > MAX_LEN - self.len32() {
+            return Err(Refusal::TooLong);
+        }
+        self.storage.push_zeros(count as usize)
+    }
+}
+
+impl<A: Atomicity> Tendril<UTF8, A> {
+    /// Puts a string at the end. It isn't validated.
+    pub fn push_slice(&mut self, more: &str) -> Result<(), Refusal>
+        ensures { Joins ◌++◌ more.now self.old result self.new }
+    {
+        self.push_bytes_without_validating(more.as_bytes())
     }
 }

@@ -1,17 +1,34 @@
-//! Texts that are written to, and texts that values are printed into.
-ghost use Rattle.std.specs.Prelude.{◌≡◌, ◌<◌, ◌≤◌, ◌+◌, ◌++◌, length, max, Some, IfSome, IfOk, IfErr, OnOk, OnErr, IsOk};
+//! Texts that are written to: over their bytes, or at their end by std's traits.
+ghost use Rattle.std.specs.Prelude.{◌≡◌, ◌<◌, ◌≤◌, ◌+◌, ◌++◌, length, max, Some, IfOk, IfErr, OnOk, OnErr, IsOk};
+ghost use Rattle.std.specs.Fn.{FnOnceTakesAtMut, FnOnceReturnsAtMut};
 ghost use Rattle.std.specs.Io.{WritesAtMost};
 ghost use Rattle.std.specs.Io.KnownBytes.{Appends, Keeps, WriteAppends};
 ghost use Rattle.std.specs.IoError.{error_kind};
-ghost use Rattle.tendril.specs.Writes.{IsGrowthRefusal, WriteRefused};
+ghost use Rattle.tendril.specs.Writes.{WriteRefused};
+ghost use Rattle.tendril_block.specs.Outcomes.{MemoryMay};
 
 use crate::tendril::Tendril;
-use std::alloc::Global;
-use std::fmt::{Display, Formatter};
 use std::io::ErrorKind;
 use std::{fmt, io};
 use tendril_block::{Atomicity, MAX_LEN, Refusal};
 use tendril_fmt::fmt::{Bytes, UTF8};
+
+impl<A: Atomicity> Tendril<Bytes, A> {
+    /// Lends the bytes to `edit`, and answers what it answers. What it leaves there are the text's bytes.
+    ///
+    /// They are written where they stand if no other text has their block; else they alone are copied into a new one
+    /// first, before `edit` sees them. `edit` isn't called where that is refused.
+    pub fn bytes_mut<R, E: FnOnce(&mut [u8]) -> R>(&mut self, edit: E) -> Result<R, Refusal>
+        requires { FnOnceTakesAtMut E.FnOnce edit self.old.bytes }
+        ensures bytes { IfOk result (λ r. FnOnceReturnsAtMut E.FnOnce edit self.old.bytes r self.new.bytes) }
+        ensures len { length self.new.bytes ≡ length self.old.bytes }
+        ensures copied { self.new.copied ≤ max self.old.copied (length self.old.bytes) }
+        ensures refusal { IfErr result (MemoryMay (length self.old.bytes)) }
+        ensures err { OnErr result (self.new ≡ self.old) }
+    {
+        self.storage.write_over(edit)
+    }
+}
 
 /// A string is put at the end whole, as by `push_slice`, or not at all.
 impl<A: Atomicity> fmt::Write for Tendril<UTF8, A> {
@@ -77,67 +94,4 @@ fn write_error(refusal: Refusal) -> io::Error
         Refusal::TooLong => ErrorKind::FileTooLarge.into(),
         _ => ErrorKind::OutOfMemory.into(),
     }
-}
-
-impl<A: Atomicity> Tendril<UTF8, A> {
-    /// The text that a value prints. Where the value's own `Display` fails, it is what was printed before.
-    ///
-    /// `print` says which of the two it is.
-    pub fn format<T: Display>(alloc: Global, value: &T) -> Result<Self, Refusal>
-        ensures refusal { IfErr result IsGrowthRefusal }
-    {
-        let (text, _) = Self::print(alloc, value)?;
-        Ok(text)
-    }
-
-    /// The text that a value prints, and what its `Display` answered. Where that failed, the text is what was printed
-    /// before. Where a push was refused, so is the call, whatever `Display` answered then.
-    pub fn print<T: Display>(alloc: Global, value: &T) -> Result<(Self, fmt::Result), Refusal>
-        ensures whole { IfOk result (λ printed. OnOk printed.1 (IfSome (T.output value.now) (λ bytes. printed.0.bytes ≡ bytes))) }
-        ensures refusal { IfErr result IsGrowthRefusal }
-    {
-        let mut printer = Formatter::new(Printer {
-            text: Tendril::new(alloc),
-            refused: None,
-        });
-        let printed = printer.write(value);
-        let Printer { text, refused } = printer.into_inner();
-        match refused {
-            Some(Refusal::TooLong) => Err(Refusal::TooLong),
-            Some(_) => Err(Refusal::Memory), // a push is refused for no other reason
-            None => Ok((text, printed)),
-        }
-    }
-}
-
-// A text that is printed into, and why a push was refused.
-#[derive(Drop)]
-struct Printer<A: Atomicity> {
-    text: Tendril<UTF8, A>,
-    refused: Option<Refusal>,
-}
-
-impl<A: Atomicity> fmt::Write for Printer<A> {
-    ghost write_str_gives = { λ p bytes q. q.text.bytes ≡ p.text.bytes ++ bytes };
-
-    fn write_str(&mut self, text: &str) -> fmt::Result {
-        if self.refused.is_some() {
-            return Err(fmt::Error);
-        }
-        match self.text.push_slice(text) {
-            Ok(()) => Ok(()),
-            Err(refusal) => {
-                self.refused = Some(refusal);
-                Err(fmt::Error)
-            }
-        }
-    }
-}
-
-/// A text as `format!` writes it, `format_tendril!(in alloc; "two and two make {}", 4)?`.
-#[macro_export]
-macro_rules! format_tendril {
-    (in $alloc:expr; $($arg:tt)+) => {
-        $crate::StrTendril::<$crate::NonAtomic>::format($alloc, &format_args!($($arg)+))
-    };
 }

@@ -5,7 +5,11 @@ use Rattle.std.specs.Char.{encode_utf8, IsScalar}
 use Rattle.std.proofs.Math.Seq.{take-append_seam, drop-append_seam}
 use Rattle.std.proofs.lemmas.List.{take-append-drop, length-append}
 use Rattle.std.proofs.lemmas.Bool.{and_parts}
+use Rattle.std.specs.List.{All, AllByRecursion}
+use Rattle.std.proofs.lemmas.List.Elements.{All-from_recursion}
 use Rattle.std.proofs.lemmas.Str.{encodes-chars, scalars-chars, chars-encodes, length-encode, len_utf8_bounds, encode_ascii, cons_from_encodes, IsUtf8-encode, IsUtf8-past_char, chars_past_char, IsAscii-take, IsAscii-drop}
+use Rattle.tendril_fmt.specs.Bytes.{AreBytes}
+use Rattle.tendril_fmt.specs.Proved.Bytes.{AreBytes-nil, AreBytes-cons, AreBytes-front, AreBytes-end}
 use Rattle.tendril_fmt.specs.Chars.{encodings, one_byte, IsFirstChar, AreTextsOf, ArePadded, padded}
 
 -- The four bytes of an `Encoded`
@@ -73,6 +77,13 @@ pub IsAscii-one_byte : (c : ℕ) → c < 128 → IsAscii (one_byte c)
 IsAscii-one_byte c h zero = h
 IsAscii-one_byte c h (suc i) = omega arith
 
+-- the same of bytes of any kind
+pub AreTextsOf-latin1 : (bytes cs ds : List ℕ) → AreBytes bytes → bytes ≡ cs ++ ds → AreTextsOf AreBytes (λ bytes. bytes) one_byte cs ds
+AreTextsOf-latin1 bytes cs ds v e = AreTextsOf-one_byte AreBytes cs ds (AreBytes-front cs bytes v (ds, e)) (AreBytes-end ds bytes v (cs, e))
+
+pub AreBytes-one_byte : (c : ℕ) → c < 256 → AreBytes (one_byte c)
+AreBytes-one_byte c h = AreBytes-cons c [] h AreBytes-nil
+
 -- UTF-8
 
 -- the encodings of characters, in std's words
@@ -83,6 +94,14 @@ encodings-encode_utf8 (c ∷ cs) = ap (λ l. encode_utf8 c ++ l) (encodings-enco
 -- a text is the encodings of its characters
 pub encodings-chars : (bytes : List ℕ) → IsUtf8 bytes → bytes ≡ encodings encode_utf8 (chars bytes)
 encodings-chars bytes v = sym (encodings-encode_utf8 (chars bytes) ∙ encodes-chars bytes v)
+
+AllByRecursion-scalars : (cs : List ℕ) → all_scalars cs ≡ true → AllByRecursion IsScalar cs
+AllByRecursion-scalars [] h = tt
+AllByRecursion-scalars (c ∷ cs) h = let b = and_parts _ _ h in (b.0, AllByRecursion-scalars cs b.1)
+
+-- its characters are scalars
+pub All-scalars : (bytes : List ℕ) → IsUtf8 bytes → All IsScalar (chars bytes)
+All-scalars bytes v = All-from_recursion IsScalar (chars bytes) (AllByRecursion-scalars (chars bytes) (scalars-chars bytes v))
 
 all_scalars-parts : (cs ds : List ℕ) → all_scalars (cs ++ ds) ≡ true → (all_scalars cs ≡ true) × (all_scalars ds ≡ true)
 all_scalars-parts [] ds h = (refl, h)

@@ -7,9 +7,11 @@ use Rattle.std.specs.Char.Utf16.{is_high_surrogate, is_low_surrogate, surrogate_
 use Rattle.std.specs.Char.Escape.{encode_utf16}
 use Rattle.std.proofs.lemmas.Bool.{cases_Bool, cases_lt, cond-true, cond-false, and_parts}
 use Rattle.std.proofs.lemmas.Bool.Decides.{nat_tests}
+use Rattle.tendril_fmt.specs.Bytes.{AreBytes}
 use Rattle.tendril_fmt.specs.CodePoints.{IsCodePoint}
 use Rattle.tendril_fmt.specs.Wtf8.{IsUnit, code_points, wtf8, IsWtf8, units, wtf8_join}
 use Rattle.tendril_fmt.specs.Proved.Unpaired.{IsApart, AreUnpaired}
+use Rattle.tendril_fmt.specs.Proved.Bytes.{AreBytes-encode_utf8_all}
 use Rattle.tendril_fmt.specs.Proved.Encodings.{chars-code_points, IsCodePoint-scalar}
 
 -- a term with its type, where a tactic needs to know it
@@ -166,6 +168,10 @@ points_of bs w = (code_points w.0, AreUnpaired-code_points w.0 w.1, w.2)
 pub IsWtf8-nil : IsWtf8 []
 IsWtf8-nil = ([], tt, refl)
 
+-- the encodings of code points are bytes
+pub AreBytes-from_wtf8 : (bs : List ℕ) → IsWtf8 bs → AreBytes bs
+AreBytes-from_wtf8 bs w = subst AreBytes w.2 (AreBytes-encode_utf8_all (code_points w.0) (bounded-code_points w.0 w.1))
+
 -- scalars are no surrogates, so UTF-8 is WTF-8
 AreUnpaired-scalars : (cs : List ℕ) → all_scalars cs ≡ true → AreUnpaired cs
 AreUnpaired-scalars [] h = tt
@@ -177,3 +183,6 @@ AreUnpaired-scalars (c ∷ cs) h =
 -- UTF-8 is WTF-8
 pub IsWtf8-from_utf8 : (bs : List ℕ) → IsUtf8 bs → IsWtf8 bs
 IsWtf8-from_utf8 bs u = subst IsWtf8 u.1.1 (IsWtf8-from_points u.0 (AreUnpaired-scalars u.0 u.1.0))
+
+pub AreBytes-from_utf8 : (bs : List ℕ) → IsUtf8 bs → AreBytes bs
+AreBytes-from_utf8 bs u = AreBytes-from_wtf8 bs (IsWtf8-from_utf8 bs u)

@@ -15,6 +15,7 @@ impl Format for ASCII {
     ghost use Rattle.std.specs.Prelude.{◌++◌, IsAscii};
     ghost use Rattle.std.proofs.lemmas.Str.{IsAscii-append};
     ghost use Rattle.std.proofs.lemmas.Str.Ascii.{IsAscii-nil};
+    ghost use Rattle.tendril_fmt.specs.Proved.Bytes.{AreBytes-from_ascii};
 
     ghost valid = { IsAscii };
 
@@ -23,6 +24,8 @@ impl Format for ASCII {
     ghost empty_valid = { IsAscii-nil };
 
     ghost join_valid = { IsAscii-append };
+
+    ghost are_bytes = { AreBytes-from_ascii };
 
     fn validate(bytes: &[u8]) -> bool {
         bytes.is_ascii()
@@ -48,6 +51,7 @@ impl Format for ASCII {
 impl CharFormat for ASCII {
     ghost use Rattle.std.specs.Prelude.{◌<◌, refl};
     ghost use Rattle.std.proofs.Common.{lit≤, sym};
+    ghost use Rattle.std.proofs.lemmas.Str.Ascii.{All-from_ascii};
     ghost use Rattle.tendril_fmt.specs.Chars.{one_byte};
     ghost use Rattle.tendril_fmt.specs.Proved.Characters.{encodings-one_byte, AreTextsOf-ascii, IsAscii-one_byte};
 
@@ -60,6 +64,8 @@ impl CharFormat for ASCII {
     ghost empty_chars = { refl };
 
     ghost chars_spell = { λ bytes _. sym (encodings-one_byte bytes) };
+
+    ghost chars_encode = { All-from_ascii };
 
     ghost cut = { AreTextsOf-ascii };
 
@@ -88,5 +94,7 @@ impl SubsetOf<UTF8> for ASCII {
 }
 
 impl SubsetOf<Latin1> for ASCII {
-    ghost subset_valid = { λ _ _. tt };
+    ghost use Rattle.tendril_fmt.specs.Proved.Bytes.{AreBytes-from_ascii};
+
+    ghost subset_valid = { AreBytes-from_ascii };
 }

@@ -3,20 +3,24 @@
 use crate::fmt::fixup::Fixup;
 use crate::fmt::format::Format;
 
-/// Any bytes at all.
+/// Any bytes at all. Each is below 256.
 #[derive(Clone, Copy, Debug, Default)]
 pub struct Bytes;
 
 impl Format for Bytes {
     ghost use Rattle.std.specs.Prelude.{◌++◌};
+    ghost use Rattle.tendril_fmt.specs.Bytes.{AreBytes};
+    ghost use Rattle.tendril_fmt.specs.Proved.Bytes.{AreBytes-nil, AreBytes-append};
 
-    ghost valid = { λ _. Unit {0} };
+    ghost valid = { AreBytes };
 
     ghost join = { λ l r. l ++ r };
 
-    ghost empty_valid = { tt };
+    ghost empty_valid = { AreBytes-nil };
 
-    ghost join_valid = { λ _ _ _ _. tt };
+    ghost join_valid = { AreBytes-append };
+
+    ghost are_bytes = { λ _ v. v };
 
     fn validate(_bytes: &[u8]) -> bool {
         true

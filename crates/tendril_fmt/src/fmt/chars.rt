@@ -63,10 +63,8 @@ impl Encoded {
 ///
 /// `ASCII`, `Latin1` and `UTF8` are such formats. `Bytes` and `WTF8` are not: bytes alone mean no characters, and a lone
 /// surrogate is none.
-///
-/// In the laws a byte is any number. A format whose characters need it below 256 says so in `valid`.
 pub trait CharFormat: Format {
-    ghost use Rattle.std.specs.Prelude.{◌≡◌, ◌≤◌, ℕ, List, [], ◌++◌, length, IfSome, IfNone};
+    ghost use Rattle.std.specs.Prelude.{◌≡◌, ◌≤◌, ℕ, List, [], ◌++◌, length, All, IfSome, IfNone};
     ghost use Rattle.tendril_fmt.specs.Chars.{encodings, IsFirstChar, AreTextsOf};
 
     /// The characters of valid bytes, from the front on.
@@ -95,6 +93,9 @@ pub trait CharFormat: Format {
 
     /// A text is the encodings of its characters, one after another.
     ghost chars_spell: { (bytes : List ℕ) → Self.valid bytes → bytes ≡ encodings encoding (chars bytes) };
+
+    /// Each character of a text has an encoding.
+    ghost chars_encode: { (bytes : List ℕ) → Self.valid bytes → All encodes (chars bytes) };
 
     /// A text may be cut between any two of its characters, and each part keeps its own.
     ghost cut: { (bytes cs ds : List ℕ) → Self.valid bytes → chars bytes ≡ cs ++ ds → AreTextsOf Self.valid chars encoding cs ds };

@@ -8,6 +8,7 @@ use crate::fmt::fixup::Fixup;
 /// condition that the bytes are a front, an end or a slice of valid ones.
 pub trait Format {
     ghost use Rattle.std.specs.Prelude.{◌≡◌, ◌≤◌, ℕ, List, [], length, IsTrue, ◌↔◌};
+    ghost use Rattle.tendril_fmt.specs.Bytes.{AreBytes};
     ghost use Rattle.tendril_fmt.specs.Joins.{joined_by};
     ghost use Rattle.tendril_fmt.specs.Parts.{IsFrontOf, IsEndOf, IsSliceOf};
 
@@ -57,4 +58,7 @@ pub trait Format {
 
     /// Valid texts join to a valid one.
     ghost join_valid: { (l r : List ℕ) → valid l → valid r → valid (join l r) };
+
+    /// What is valid are bytes: each is below 256.
+    ghost are_bytes: { (bytes : List ℕ) → valid bytes → AreBytes bytes };
 }

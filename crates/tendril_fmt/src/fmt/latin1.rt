@@ -4,7 +4,7 @@ use crate::fmt::chars::{CharFormat, Encoded};
 use crate::fmt::fixup::Fixup;
 use crate::fmt::format::Format;
 
-/// The first 256 characters of Unicode, one byte each. Any bytes are valid.
+/// The first 256 characters of Unicode, one byte each. Any bytes are valid, and bytes are below 256.
 ///
 /// This is IANA's ISO-8859-1, with the control characters of ISO 6429. What the web's Encoding Standard calls by that
 /// name is Windows-1252, and another encoding.
@@ -13,14 +13,18 @@ pub struct Latin1;
 
 impl Format for Latin1 {
     ghost use Rattle.std.specs.Prelude.{◌++◌};
+    ghost use Rattle.tendril_fmt.specs.Bytes.{AreBytes};
+    ghost use Rattle.tendril_fmt.specs.Proved.Bytes.{AreBytes-nil, AreBytes-append};
 
-    ghost valid = { λ _. Unit {0} };
+    ghost valid = { AreBytes };
 
     ghost join = { λ l r. l ++ r };
 
-    ghost empty_valid = { tt };
+    ghost empty_valid = { AreBytes-nil };
 
-    ghost join_valid = { λ _ _ _ _. tt };
+    ghost join_valid = { AreBytes-append };
+
+    ghost are_bytes = { λ _ v. v };
 
     fn validate(_bytes: &[u8]) -> bool {
         true
@@ -47,7 +51,8 @@ impl CharFormat for Latin1 {
     ghost use Rattle.std.specs.Prelude.{◌<◌, refl};
     ghost use Rattle.std.proofs.Common.{lit≤, sym};
     ghost use Rattle.tendril_fmt.specs.Chars.{one_byte};
-    ghost use Rattle.tendril_fmt.specs.Proved.Characters.{encodings-one_byte, AreTextsOf-one_byte};
+    ghost use Rattle.tendril_fmt.specs.Proved.Bytes.{All-from_bytes};
+    ghost use Rattle.tendril_fmt.specs.Proved.Characters.{encodings-one_byte, AreTextsOf-latin1, AreBytes-one_byte};
 
     ghost chars = { λ bytes. bytes };
 
@@ -59,9 +64,11 @@ impl CharFormat for Latin1 {
 
     ghost chars_spell = { λ bytes _. sym (encodings-one_byte bytes) };
 
-    ghost cut = { λ _ cs ds _ _. AreTextsOf-one_byte (λ _. Unit {0}) cs ds tt tt };
+    ghost chars_encode = { All-from_bytes };
 
-    ghost encoding_valid = { λ _ _. tt };
+    ghost cut = { AreTextsOf-latin1 };
+
+    ghost encoding_valid = { AreBytes-one_byte };
 
     ghost encoding_len = { λ _ _. (lit≤ tt, lit≤ tt) };
 

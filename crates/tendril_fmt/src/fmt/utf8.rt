@@ -15,6 +15,7 @@ pub struct UTF8;
 impl Format for UTF8 {
     ghost use Rattle.std.specs.Prelude.{◌++◌, IsUtf8};
     ghost use Rattle.std.proofs.lemmas.Str.{IsUtf8-append, IsUtf8-nil};
+    ghost use Rattle.tendril_fmt.specs.Proved.Units.{AreBytes-from_utf8};
 
     ghost valid = { IsUtf8 };
 
@@ -23,6 +24,8 @@ impl Format for UTF8 {
     ghost empty_valid = { IsUtf8-nil };
 
     ghost join_valid = { IsUtf8-append };
+
+    ghost are_bytes = { AreBytes-from_utf8 };
 
     fn validate(bytes: &[u8]) -> bool {
         simdutf8::basic::from_utf8(bytes).is_ok()
@@ -49,7 +52,7 @@ impl CharFormat for UTF8 {
     ghost use Rattle.std.specs.Prelude.{encode_utf8, chars};
     ghost use Rattle.std.specs.Char.{IsScalar};
     ghost use Rattle.std.proofs.lemmas.Str.{chars-nil, IsUtf8-encode};
-    ghost use Rattle.tendril_fmt.specs.Proved.Characters.{encodings-chars, AreTextsOf-utf8, encode_utf8-bounds};
+    ghost use Rattle.tendril_fmt.specs.Proved.Characters.{encodings-chars, All-scalars, AreTextsOf-utf8, encode_utf8-bounds};
 
     ghost chars = { chars };
 
@@ -60,6 +63,8 @@ impl CharFormat for UTF8 {
     ghost empty_chars = { chars-nil };
 
     ghost chars_spell = { encodings-chars };
+
+    ghost chars_encode = { All-scalars };
 
     ghost cut = { AreTextsOf-utf8 };
 

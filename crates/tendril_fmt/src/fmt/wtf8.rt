@@ -64,7 +64,7 @@ fn pair_fixup(lead: u16, trail: u16) -> Fixup
 
 impl Format for WTF8 {
     ghost use Rattle.tendril_fmt.specs.Wtf8.{IsWtf8, wtf8_join};
-    ghost use Rattle.tendril_fmt.specs.Proved.Units.{IsWtf8-nil, IsWtf8-join};
+    ghost use Rattle.tendril_fmt.specs.Proved.Units.{IsWtf8-nil, IsWtf8-join, AreBytes-from_wtf8};
 
     ghost valid = { IsWtf8 };
 
@@ -73,6 +73,8 @@ impl Format for WTF8 {
     ghost empty_valid = { IsWtf8-nil };
 
     ghost join_valid = { IsWtf8-join };
+
+    ghost are_bytes = { AreBytes-from_wtf8 };
 
     fn validate(bytes: &[u8]) -> bool {
         let mut rest = bytes;

@@ -16,10 +16,10 @@ impl<A: Atomicity> Slot<A> {
     /// Changes the text's format.
     pub(crate) fn convert(&mut self, conversion: Conversion) -> Reply
         ensures converted { CellConverted (cell_of self.old) conversion result (cell_of self.new) }
-        ensures valid { IsCell (cell_of self.new) }
+        ensures kept { IsCell (cell_of self.old) → IsCell (cell_of self.new) }
     {
         let old = mem::replace(self, Slot::Gone);
-        let reply = match old.converted(conversion) {
+        match old.converted(conversion) {
             Ok(new) => {
                 *self = new;
                 Reply::Done
@@ -28,15 +28,16 @@ impl<A: Atomicity> Slot<A> {
                 *self = back;
                 Reply::Refused(refusal)
             }
-        };
-        let _kind = self.kind();
-        reply
+        }
     }
 
     // The text in another format, or back with the refusal.
     fn converted(self, conversion: Conversion) -> Result<Self, (Refusal, Self)>
-        ensures ok { IfOk result (λ s. ConversionMust (cell_of self) conversion None × (cell_of s ≡ converted (cell_of self) conversion)) }
-        ensures refusal { IfErr result (λ e. ConversionMust (cell_of self) conversion (Some e.0) × (cell_of e.1 ≡ cell_of self)) }
+        ensures ok { IfOk result (λ s.
+            ConversionMust (cell_of self) conversion None × (cell_of s ≡ converted (cell_of self) conversion)) }
+        ensures refusal { IfErr result (λ e. ConversionMust (cell_of self) conversion (Some e.0)
+            × (cell_of e.1 ≡ cell_of self)) }
+        ensures kept { IfOk result (λ s. IsCell (cell_of self) → IsCell (cell_of s)) }
     {
         match conversion {
             Conversion::Reinterpret(kind) => self.reinterpreted(kind),
@@ -46,8 +47,11 @@ impl<A: Atomicity> Slot<A> {
     }
 
     fn reinterpreted(self, kind: Kind) -> Result<Self, (Refusal, Self)>
-        ensures ok { IfOk result (λ s. ConversionMust (cell_of self) (Conversion.Reinterpret kind) None × (cell_of s ≡ converted (cell_of self) (Conversion.Reinterpret kind))) }
-        ensures refusal { IfErr result (λ e. ConversionMust (cell_of self) (Conversion.Reinterpret kind) (Some e.0) × (cell_of e.1 ≡ cell_of self)) }
+        ensures ok { IfOk result (λ s. ConversionMust (cell_of self) (Conversion.Reinterpret kind) None
+            × (cell_of s ≡ converted (cell_of self) (Conversion.Reinterpret kind))) }
+        ensures refusal { IfErr result (λ e. ConversionMust (cell_of self) (Conversion.Reinterpret kind) (Some e.0)
+            × (cell_of e.1 ≡ cell_of self)) }
+        ensures kept { IfOk result (λ s. IsCell (cell_of self) → IsCell (cell_of s)) }
     {
         match self {
             Slot::Bytes(text) => text::reinterpreted(text, kind).map_err(|back| (
@@ -75,8 +79,11 @@ impl<A: Atomicity> Slot<A> {
     }
 
     fn into_superset(self, kind: Kind) -> Result<Self, (Refusal, Self)>
-        ensures ok { IfOk result (λ s. ConversionMust (cell_of self) (Conversion.ToSuperset kind) None × (cell_of s ≡ converted (cell_of self) (Conversion.ToSuperset kind))) }
-        ensures refusal { IfErr result (λ e. ConversionMust (cell_of self) (Conversion.ToSuperset kind) (Some e.0) × (cell_of e.1 ≡ cell_of self)) }
+        ensures ok { IfOk result (λ s. ConversionMust (cell_of self) (Conversion.ToSuperset kind) None
+            × (cell_of s ≡ converted (cell_of self) (Conversion.ToSuperset kind))) }
+        ensures refusal { IfErr result (λ e. ConversionMust (cell_of self) (Conversion.ToSuperset kind) (Some e.0)
+            × (cell_of e.1 ≡ cell_of self)) }
+        ensures kept { IfOk result (λ s. IsCell (cell_of self) → IsCell (cell_of s)) }
     {
         match (self, kind) {
             (Slot::Ascii(text), Kind::Utf8) => Ok(Slot::Utf8(text.into_superset())),
@@ -88,8 +95,11 @@ impl<A: Atomicity> Slot<A> {
     }
 
     fn into_subset(self, kind: Kind) -> Result<Self, (Refusal, Self)>
-        ensures ok { IfOk result (λ s. ConversionMust (cell_of self) (Conversion.ToSubset kind) None × (cell_of s ≡ converted (cell_of self) (Conversion.ToSubset kind))) }
-        ensures refusal { IfErr result (λ e. ConversionMust (cell_of self) (Conversion.ToSubset kind) (Some e.0) × (cell_of e.1 ≡ cell_of self)) }
+        ensures ok { IfOk result (λ s. ConversionMust (cell_of self) (Conversion.ToSubset kind) None
+            × (cell_of s ≡ converted (cell_of self) (Conversion.ToSubset kind))) }
+        ensures refusal { IfErr result (λ e. ConversionMust (cell_of self) (Conversion.ToSubset kind) (Some e.0)
+            × (cell_of e.1 ≡ cell_of self)) }
+        ensures kept { IfOk result (λ s. IsCell (cell_of self) → IsCell (cell_of s)) }
     {
         match (self, kind) {
             (Slot::Utf8(text), Kind::Ascii) => match text.try_into_subset() {

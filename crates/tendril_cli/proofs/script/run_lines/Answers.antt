@@ -1,17 +1,33 @@
-use Rattle.std.proofs.Common.{[], ℕ, List}
+use Rattle.std.proofs.Common.{map, take}
 use Rattle.std.proofs.lemmas.List.{take_all}
-use Rattle.std.specs.Io.KnownBytes.{append_known}
-use Rattle.tendril_cli.proofs.SessionLemmas.{next_line, no_lines, line_through}
+use Rattle.std.proofs.lemmas.Result.{err_from_is_err_and}
+use Rattle.tendril_cli.proofs.HeldLemmas.{nothing_printed, next_line, line_refused, write_refused}
 use Rattle.tendril_cli.proofs.script.run_lines.Goals as goal
 
 pub loop-line-init : goal.loop-line-init
-loop-line-init g c = rw c.new-table.ensures (no_lines [] (append_known (g.W.Write.contents c.args.out.now) c.args.held.now.items))
+loop-line-init g c = rw c.new-table.ensures (nothing_printed (g.W.Write.contents c.args.out.now) c.args.held.now.items)
 
 pub loop-line-preserved : goal.loop-line-preserved
 loop-line-preserved g c =
     let contents = g.W.Write.contents in
-    next_line (λ line. line.now) c.args.lines.now c.loop-line.line-index _ [] c.loop-line.table.cells c.run_line.new.table.cells (append_known (contents c.args.out.now) c.args.held.now.items) (append_known (contents c.loop-line.out) c.loop-line.held.items) (append_known (contents c.write_chunk.new.out) c.write_chunk.new.held.items)
-    c.loop-line-test.true c.loop-line.invariant (line_through _ _ _ _ _ _ _ c.in_ok-run_line.ensures.ok c.in_ok-write_chunk.ensures.ok)
+    next_line (λ line. line.now) c.args.lines.now c.loop-line.line-index _ c.loop-line.table.cells c.run_line.new.table.cells (contents c.args.out.now) (contents c.loop-line.out) (contents c.write_chunk.new.out) c.args.held.now.items c.loop-line.held.items c.run_line.new.held.items c.write_chunk.new.held.items
+    c.loop-line-test.true c.loop-line.invariant c.in_ok-run_line.ensures.ok c.in_ok-write_chunk.ensures.ok
+
+pub returns-in_err-run_line-clause-refusal : goal.returns-in_err-run_line-clause-refusal
+returns-in_err-run_line-clause-refusal g c =
+    let contents = g.W.Write.contents in
+    let p = err_from_is_err_and c.from_residual.result c.from_residual.ensures.1 in
+    rw (p.1, p.2)
+    (line_refused (λ line. line.now) c.args.lines.now c.loop-line.line-index c.loop-line.table.cells (contents c.args.out.now) (contents c.loop-line.out) c.args.held.now.items c.loop-line.held.items c.run_line.new.held.items _
+    c.in_err-run_line.ensures.refusal c.in_err-run_line.ensures.err c.loop-line.invariant)
+
+pub returns-in_err-write_chunk-clause-refusal : goal.returns-in_err-write_chunk-clause-refusal
+returns-in_err-write_chunk-clause-refusal g c =
+    let contents = g.W.Write.contents in
+    let p = err_from_is_err_and c.from_residual-in_err-write_chunk.result c.from_residual-in_err-write_chunk.ensures.1 in
+    rw (p.1, p.2)
+    (write_refused (λ line. line.now) c.args.lines.now c.loop-line.line-index _ c.loop-line.table.cells c.run_line.new.table.cells (contents c.args.out.now) (contents c.loop-line.out) (contents c.write_chunk.new.out) c.args.held.now.items c.loop-line.held.items c.run_line.new.held.items c.write_chunk.new.held.items _
+    c.in_err-write_chunk.ensures.refusal c.in_err-write_chunk.ensures.none_held c.loop-line-test.true c.loop-line.invariant c.in_ok-run_line.ensures.ok c.in_err-write_chunk.ensures.err)
 
 pub returns-clause-ok : goal.returns-clause-ok
 returns-clause-ok g c = (c.loop-line.table.cells, rw (take_all c.loop-line.line-index c.args.lines.now c.loop-line-test.false) at c.loop-line.invariant)

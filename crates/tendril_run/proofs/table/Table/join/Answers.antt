@@ -1,5 +1,5 @@
 use Rattle.std.proofs.Common.{ap, rules, sym}
-use Rattle.tendril_run.proofs.OneChanged.{one_changed, set_cells, table_changed}
+use Rattle.tendril_run.proofs.OneChanged.{one_changed, kept_cells, table_changed}
 use Rattle.tendril_run.specs.CellOf.{cell_of}
 use Rattle.tendril_run.specs.OneCell.{JoinMust, JoinMay, joined}
 use Rattle.tendril_run.proofs.table.Table.join.Goals as goal
@@ -12,4 +12,4 @@ returns-then-to-from-clause-step g c class =
     (table_changed (λ cell. JoinMust cell cell) (λ cell. JoinMay to to cell cell) (λ cell. joined cell cell) c.args.self.now.cells to (cell_of c.index_mut.result.now) (cell_of c.join_self.new.self) _ c.join_self.result one (c.join_self.ensures.joined to))
 
 pub invariant_of-self : goal.invariant_of-self
-invariant_of-self g c = set_cells cell_of c.self.inside.slots.items c.args.to c.join_self.new.self c.self.invariant c.join_self.ensures.valid
+invariant_of-self g c = kept_cells cell_of c.self.inside.slots.items c.args.to c.index_mut.result.now c.join_self.new.self (search rules) c.index_mut.ensures.value c.self.invariant c.join_self.ensures.kept

@@ -1,7 +1,9 @@
-use Rattle.std.proofs.Common.{ap, subst, set}
+use Rattle.std.proofs.Common.{ap, subst, set, sym, ◌<◌}
+use Rattle.std.proofs.lemmas.List.{length-set}
 use Rattle.tendril_run.proofs.Joined.{joined_apart}
-use Rattle.tendril_run.proofs.OneChanged.{set_cells}
+use Rattle.tendril_run.proofs.OneChanged.{cell_within, set_cells, within_items}
 use Rattle.tendril_run.specs.CellOf.{cell_of}
+use Rattle.tendril_run.specs.Cells.{IsCell}
 use Rattle.tendril_run.specs.OneCell.{CellJoined}
 use Rattle.tendril_run.proofs.table.Table.join_other.Goals as goal
 
@@ -15,6 +17,10 @@ pub invariant_of-self : goal.invariant_of-self
 invariant_of-self g c =
     let items = c.self.inside.slots.items in
     let meanwhile = c.replace-text.new.dest in
-    set_cells cell_of (set items c.args.to meanwhile) c.args.to c.join-reply.new.self
-    (set_cells cell_of items c.args.to meanwhile c.self.invariant (rw c.replace-text.ensures.after tt))
-    c.join-reply.ensures.valid
+    let is = ap (λ t. t.cells) c.self.view_is in
+    let mid = set_cells cell_of items c.args.to meanwhile c.self.invariant (rw c.replace-text.ensures.after tt) in
+    let here = cell_within cell_of items c.args.to c.index_mut.result.now (within_items cell_of items c.args.self.now.cells c.args.to is c.requires.to) c.index_mut.ensures.value c.self.invariant in
+    let within = subst (λ n. c.args.from < n) (sym (length-set items c.args.to meanwhile)) (within_items cell_of items c.args.self.now.cells c.args.from is c.requires.from) in
+    let there = cell_within cell_of (set items c.args.to meanwhile) c.args.from c.index.result.now within c.index.ensures mid in
+    set_cells cell_of (set items c.args.to meanwhile) c.args.to c.join-reply.new.self mid
+    (c.join-reply.ensures.kept (subst (λ s. IsCell (cell_of s)) (sym c.replace-text.ensures.value) here) there)

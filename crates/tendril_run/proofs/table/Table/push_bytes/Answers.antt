@@ -1,5 +1,5 @@
 use Rattle.std.proofs.Common.{ap, rules}
-use Rattle.tendril_run.proofs.OneChanged.{one_changed, set_cells, table_changed}
+use Rattle.tendril_run.proofs.OneChanged.{one_changed, kept_cells, table_changed}
 use Rattle.tendril_run.specs.CellOf.{cell_of}
 use Rattle.tendril_run.specs.OneCell.{PushMust, PushMay, pushed}
 use Rattle.tendril_run.proofs.table.Table.push_bytes.Goals as goal
@@ -12,4 +12,4 @@ returns-clause-step g c class =
     c.push_bytes.ensures.pushed
 
 pub invariant_of-self : goal.invariant_of-self
-invariant_of-self g c = set_cells cell_of c.self.inside.slots.items c.args.slot c.push_bytes.new.self c.self.invariant c.push_bytes.ensures.valid
+invariant_of-self g c = kept_cells cell_of c.self.inside.slots.items c.args.slot c.index_mut.result.now c.push_bytes.new.self (search rules) c.index_mut.ensures.value c.self.invariant c.push_bytes.ensures.kept

@@ -1,0 +1,97 @@
+//! Cutting a text of a million bytes, and writing into one that has its block alone, asks for no memory.
+
+use super::refuse_request;
+use std::alloc::Global;
+use std::process::Abort;
+use std::test::Fail;
+use tendril::{StrTendril, Tendril};
+
+const LEN: usize = 1000000;
+
+/// A text of half letters and half spaces, or none where memory is refused. It takes four requests.
+fn long_text(alloc: Global) -> Option<StrTendril> {
+    let mut bytes = Vec::new(alloc);
+    bytes.resize(LEN / 2, b'a').ok()?;
+    bytes.resize(LEN, b' ').ok()?;
+    Tendril::try_from_byte_slice(alloc, bytes.as_slice()).ok()
+}
+
+/// Cuts a long text in each way, where the request of this number is refused. Unless the text itself was refused, each
+/// call answers as it does with ample memory.
+pub fn cut_long_text(rt: &(impl Abort + AllocGlobal), number: usize) -> Result<(), Fail> {
+    refuse_request(rt.alloc(), number)?;
+    let Some(text) = long_text(rt.alloc()) else {
+        return Ok(());
+    };
+    let bytes = text.as_byte_slice();
+    let mut clone = text.clone()?;
+    assert!(rt; clone == text);
+
+    let slice = text.try_subtendril(1, 999998)?;
+    assert!(rt; slice.as_byte_slice() == bytes.get(1..999999).ok_or("a slice")?);
+
+    clone.try_pop_front(5)?;
+    clone.try_pop_back(5)?;
+    assert!(rt; clone.as_byte_slice() == bytes.get(5..999995).ok_or("a slice")?);
+
+    let run = clone.pop_front_char_run(char::is_whitespace)?;
+    let (run, is_space) = run.ok_or("a run")?;
+    assert!(rt; !is_space);
+    assert!(rt; run.as_byte_slice() == bytes.get(5..500000).ok_or("a slice")?);
+    assert!(rt; clone.as_byte_slice() == bytes.get(500000..999995).ok_or("a slice")?);
+    Ok(())
+}
+
+/// Writes a byte into a long text that has its block alone, where the request of this number is refused.
+pub fn write_long_text(rt: &(impl Abort + AllocGlobal), number: usize) -> Result<(), Fail> {
+    refuse_request(rt.alloc(), number)?;
+    let Some(text) = long_text(rt.alloc()) else {
+        return Ok(());
+    };
+    let mut text = text.into_bytes();
+    text.bytes_mut(|bytes| {
+        if let Some(byte) = bytes.get_mut(700000) {
+            *byte = b'!';
+        }
+    })?;
+    assert_eq!(rt; text.len32() as usize, LEN);
+    assert!(rt; text.as_byte_slice().get(699999..700002).ok_or("a slice")? == b" ! ".as_slice());
+    Ok(())
+}
+
+#[test]
+fn cuts_where_the_first_request_is_refused(rt: HostRuntime) -> Result<(), Fail> {
+    cut_long_text(&rt, 1)
+}
+
+#[test]
+fn cuts_where_the_second_request_is_refused(rt: HostRuntime) -> Result<(), Fail> {
+    cut_long_text(&rt, 2)
+}
+
+#[test]
+fn cuts_where_the_third_request_is_refused(rt: HostRuntime) -> Result<(), Fail> {
+    cut_long_text(&rt, 3)
+}
+
+#[test]
+fn cuts_where_the_fourth_request_is_refused(rt: HostRuntime) -> Result<(), Fail> {
+    cut_long_text(&rt, 4)
+}
+
+#[test]
+fn cuts_where_the_first_request_behind_the_text_is_refused(rt: HostRuntime) -> Result<(), Fail> {
+    cut_long_text(&rt, 5)
+}
+
+#[test]
+fn a_byte_written_where_the_text_is_refused(rt: HostRuntime) -> Result<(), Fail> {
+    write_long_text(&rt, 4)
+}
+
+#[test]
+fn a_byte_written_where_the_first_request_behind_the_text_is_refused(
+    rt: HostRuntime,
+) -> Result<(), Fail> {
+    write_long_text(&rt, 5)
+}

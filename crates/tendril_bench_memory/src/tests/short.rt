@@ -1,0 +1,50 @@
+//! Texts of at most 8 bytes ask for no memory, whatever is done to them.
+
+use super::refuse_request;
+use std::process::Abort;
+use std::test::Fail;
+use tendril::{ByteTendril, StrTendril, Tendril};
+
+const DIGITS: &[u8] = b"01234567";
+
+/// Makes, clones, cuts, joins and writes texts of at most 8 bytes, where the first request is refused.
+pub fn change_short_texts(rt: &(impl Abort + AllocGlobal)) -> Result<(), Fail> {
+    refuse_request(rt.alloc(), 1)?;
+    for len in 0..=8u32 {
+        let (front, end) = DIGITS.split_at_checked(len as usize).ok_or("a length")?;
+        let mut text: ByteTendril = Tendril::try_from_byte_slice(rt.alloc(), front)?;
+        let mut clone = text.clone()?;
+        clone.try_push_bytes(end)?;
+        assert_eq!(rt; clone.as_byte_slice(), DIGITS);
+
+        text.push_tendril(&clone.try_subtendril(len, u32::try_from(end.len())?)?)?;
+        assert_eq!(rt; text.as_byte_slice(), DIGITS);
+
+        text.bytes_mut(|bytes| bytes.reverse())?;
+        text.reserve(0)?;
+        text.try_pop_front(len)?;
+        text.push_uninitialized(len)?;
+        assert_eq!(rt; text.len32(), 8);
+    }
+    push_characters(rt)
+}
+
+fn push_characters(rt: &(impl Abort + AllocGlobal)) -> Result<(), Fail> {
+    let mut text: StrTendril = StrTendril::from_slice(rt.alloc(), "ab ")?;
+    text.try_push_char('c')?;
+    let other: StrTendril = StrTendril::from_char(rt.alloc(), '\u{1f4a9}')?;
+    text.push_tendril(&other)?;
+    assert_eq!(rt; text.as_str(), "ab c\u{1f4a9}");
+
+    let run = text.pop_front_char_run(char::is_whitespace)?;
+    let (run, is_space) = run.ok_or("a run")?;
+    assert!(rt; !is_space);
+    assert_eq!(rt; run.as_str(), "ab");
+    assert_eq!(rt; text.as_str(), " c\u{1f4a9}");
+    Ok(())
+}
+
+#[test]
+fn short_texts_where_the_first_request_is_refused(rt: HostRuntime) -> Result<(), Fail> {
+    change_short_texts(&rt)
+}

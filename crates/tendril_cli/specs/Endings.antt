@@ -1,0 +1,48 @@
+use Rattle.std.specs.Prelude.{ℕ, ◌≡◌, ◌⊎◌, List, [], ◌∷◌, ◌++◌, take, codes, Option, IfSome}
+use Rattle.std.specs.Fmt.{decimal}
+use Rattle.std.specs.Io.KnownBytes.{Appends}
+use Rattle.tendril_block.specs.Refusals.{number_of, name_of}
+use Rattle.tendril_block.specs.declared.refusal.Refusal.{Refusal}
+use Rattle.tendril_block.specs.declared.refusal.Refusal.TheVariants.{Memory, Io}
+use Rattle.tendril_run.specs.Cells.{Cell}
+use Rattle.tendril_cli.specs.Sessions.{Session, WritesFromEmpty, lines}
+
+-- a writer that tells its bytes has taken a front of these: what a failed write leaves
+pub record TakesFront (before after : Option (List ℕ)) (bytes : List ℕ) : Type 0 where
+  pub taken : List ℕ
+  pub rest : List ℕ
+  pub splits : bytes ≡ taken ++ rest
+  pub appends : Appends before after taken
+
+-- a front of what is written for lines that begin with an empty table
+pub record WritesFront (lines : List (List ℕ)) (before after : Option (List ℕ)) : Type 0 where
+  pub bytes : List ℕ
+  pub new : List Cell
+  pub session : Session [] lines bytes new
+  pub front : TakesFront before after bytes
+
+-- what a refusal leaves of a run over lines. Want of memory: all that the lines before it print, each whole. A failed
+-- write: a front of what the lines before it print
+abbrev pub Stops : List (List ℕ) → Option (List ℕ) → Option (List ℕ) → Refusal → Type 0
+Stops lines before after Memory = (count : ℕ) × WritesFromEmpty (take count lines) before after
+Stops lines before after Io = (count : ℕ) × WritesFront (take count lines) before after
+Stops lines before after other = ⊥
+
+-- the refusals that end the program
+abbrev pub Ends : Refusal → Type 0
+Ends refusal = (refusal ≡ Memory) ⊎ (refusal ≡ Io)
+
+-- what standard error is told of a refusal that ends the program
+abbrev pub complaint : Refusal → List ℕ
+complaint refusal = codes "tendril: refused " ++ decimal (number_of refusal) ++ codes " " ++ name_of refusal ++ 10 ∷ []
+
+-- and of words that ask for nothing
+abbrev pub usage : List ℕ
+usage = codes "usage: tendril run | tendril decode" ++ 10 ∷ []
+
+-- a refusal ended the program: its line went to standard error, and what was printed before stands
+pub record Ended (remaining before after told told' : Option (List ℕ)) : Type 0 where
+  pub refusal : Refusal
+  pub ends : Ends refusal
+  pub stops : IfSome remaining (λ script. Stops (lines script) before after refusal)
+  pub tells : TakesFront told told' (complaint refusal)

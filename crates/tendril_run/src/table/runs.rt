@@ -1,0 +1,37 @@
+//! Commands in order.
+ghost use Rattle.std.specs.Prelude.{◌≡◌, IfOk, IfErr, OnErr, All};
+ghost use Rattle.tendril_run.specs.Cells.{IsCell};
+ghost use Rattle.tendril_run.specs.Runs.{Run};
+
+use crate::classifier::Classifier;
+use crate::command::{Command, Reply};
+use crate::table::Table;
+use tendril::Atomicity;
+use tendril::block::Refusal;
+
+/// Carries out commands in order and answers one reply a command.
+///
+/// Room for all replies and slots is made before the first command, so that memory is refused either then, and nothing
+/// is changed, or by a reply.
+pub fn run<A: Atomicity, C: Classifier>(
+    table: &mut Table<A>,
+    commands: &[Command],
+    classifier: &C,
+) -> Result<Vec<Reply>, Refusal>
+    ensures run { IfOk result (λ replies.
+        Run (C.class classifier.now) table.old.cells commands.now replies.items table.new.cells) }
+    ensures valid { All IsCell table.new.cells }
+    ensures refusal { IfErr result (λ r. r ≡ Refusal.Memory) }
+    ensures err { OnErr result (table.new.cells ≡ table.old.cells) }
+{
+    let mut replies = Vec::new(table.alloc);
+    replies.reserve(commands.len())?;
+    table.reserve_slots(commands.len())?;
+    for command in commands {
+        let reply = table.step(command, classifier);
+        replies.push_reserved(reply);
+    }
+    // The table keeps that each cell is valid.
+    let _ = &table.slots;
+    Ok(replies)
+}

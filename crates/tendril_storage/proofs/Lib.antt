@@ -1,0 +1,2 @@
+mod Overs
+pub mod Views

@@ -1,0 +1,3 @@
+pub mod Texts
+pub mod Partings
+pub mod Storages

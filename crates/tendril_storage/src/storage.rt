@@ -1,0 +1,128 @@
+//! Where a text's bytes stand: inline, or in a view of a block.
+ghost use Rattle.std.specs.Prelude.{◌≡◌, ◌≤◌, ◌+◌, ◌++◌, [], length, take};
+
+mod grow;
+mod make;
+mod over;
+mod part;
+mod zeros;
+
+use std::alloc::Global;
+use std::cell::Cell;
+use std::marker::Model;
+use tendril_block::{Atomicity, LocalBlock, MAX_LEN};
+
+/// The greatest number of bytes that stand inline.
+pub(crate) const INLINE: usize = 8;
+
+// Three words: the inline bytes begin on a border of 8, so that a copy moves whole words.
+#[derive(Drop)]
+enum Held<B> {
+    Inline {
+        len: u64,
+        buffer: [u8; 8],
+    },
+    View {
+        // Whether a clone or a slice of these bytes was made. No clause speaks of it.
+        shared: Cell<bool>,
+        block: B,
+        offset: u32,
+        len: u32,
+    },
+}
+
+const _: () = prove!(size_of::<Held<LocalBlock>>() == 24);
+
+const _: () = prove!(align_of::<Held<LocalBlock>>() == 8);
+
+/// The bytes of a text, of whatever format.
+#[derive(Drop)]
+pub struct Storage<A: Atomicity> {
+    held: Held<A::Block>,
+    alloc: Global,
+}
+
+impl<A: Atomicity> Model for Storage<A> {
+    ghost use Rattle.tendril_storage.specs.Texts.{Text};
+
+    ghost Value = { Text };
+
+    ghost use Rattle.tendril_storage.specs.Storages.{held_bytes, held_copied, IsHeld};
+
+    ghost view = { λ s. record { bytes = held_bytes A.bytes_of s.held; copied = held_copied A.copied s.held } };
+
+    ghost invariant = { λ s. IsHeld A.bytes_of s.held };
+}
+
+impl<A: Atomicity> Storage<A> {
+    /// No bytes.
+    pub fn new(alloc: Global) -> Self
+        ensures bytes { result.bytes ≡ [] }
+        ensures copied { result.copied ≡ 0 }
+    {
+        Storage {
+            held: Held::Inline {
+                len: 0,
+                buffer: [0; 8],
+            },
+            alloc,
+        }
+    }
+
+    /// The bytes.
+    pub fn as_slice(&self) -> &[u8]
+        ensures value { result.now ≡ self.now.bytes }
+        ensures short { length self.now.bytes ≤ MAX_LEN }
+    {
+        match &self.held {
+            Held::Inline { len, buffer } => &buffer[..*len as usize],
+            Held::View {
+                block,
+                offset,
+                len,
+                ..
+            } => {
+                let start = *offset as usize;
+                let end = start + *len as usize;
+                &A::bytes(block)[start..end]
+            }
+        }
+    }
+
+    /// The number of bytes.
+    pub fn len32(&self) -> u32
+        ensures { result ≡ length self.now.bytes }
+    {
+        self.as_slice().len() as u32
+    }
+
+    /// Whether a clone or a long slice of these bytes was made.
+    pub fn is_shared(&self) -> bool {
+        match &self.held {
+            Held::Inline { .. } => false,
+            Held::View { shared, .. } => shared.get(),
+        }
+    }
+
+    /// Where the bytes stand, in a word: `inline`, or in a block that is `shared` or `owned`.
+    pub fn kind(&self) -> &'static str {
+        match &self.held {
+            Held::Inline { .. } => "inline",
+            Held::View { shared, .. } if shared.get() => "shared",
+            Held::View { .. } => "owned",
+        }
+    }
+
+    /// What new blocks are made with.
+    pub fn allocator(&self) -> Global {
+        self.alloc
+    }
+}
+
+// Copies bytes to a place in a buffer.
+fn put(buffer: &mut [u8; 8], at: usize, bytes: &[u8])
+    requires { at + length bytes.now ≤ 8 }
+    ensures { take (at + length bytes.now) buffer.new ≡ take at buffer.old ++ bytes.now }
+{
+    buffer[at..at + bytes.len()].copy_from_slice(bytes);
+}

@@ -1,0 +1,185 @@
+//! Stored bytes that change: in their block where no other holds it, else in a new place.
+ghost use Rattle.std.specs.Prelude.{◌≡◌, ◌<◌, ◌≤◌, ◌+◌, ◌++◌, [], length, take, max, true, false, IfErr, OnOk, OnErr};
+ghost use Rattle.tendril_block.specs.Outcomes.{MemoryMay};
+
+use crate::storage::make::with_room;
+use crate::storage::{Held, INLINE, Storage, put};
+use tendril_block::{Atomicity, MAX_LEN, Refusal};
+
+impl<A: Atomicity> Storage<A> {
+    /// Puts two parts in the place of all bytes from `keep` on: where they stand, if the block has one holder, else in
+    /// a copy of the bytes that stay.
+    pub fn replace_end(&mut self, keep: usize, middle: &[u8], more: &[u8]) -> Result<(), Refusal>
+        requires within { keep ≤ length self.old.bytes }
+        requires fits { keep + length middle.now + length more.now ≤ MAX_LEN }
+        ensures bytes { OnOk result (self.new.bytes ≡ take keep self.old.bytes ++ middle.now ++ more.now) }
+        ensures copied { self.new.copied ≤ max self.old.copied keep + length middle.now + length more.now }
+        ensures refusal { IfErr result (MemoryMay (keep + length middle.now + length more.now)) }
+        ensures err { OnErr result (self.new ≡ self.old) }
+    {
+        if self.replaces_in_place(keep, middle, more) {
+            return Ok(());
+        }
+        let copy = Self::from_parts(self.alloc, &self.as_slice()[..keep], middle, more)?;
+        *self = copy;
+        Ok(())
+    }
+
+    // The same without memory for a new block; whether it could be done.
+    #[tactic(auto, using(crate::proofs::Views::replaces))]
+    fn replaces_in_place(&mut self, keep: usize, middle: &[u8], more: &[u8]) -> bool
+        requires within { keep ≤ length self.old.bytes }
+        requires fits { keep + length middle.now + length more.now ≤ MAX_LEN }
+        ensures bytes { result ≡ true → self.new.bytes ≡ take keep self.old.bytes ++ middle.now ++ more.now }
+        ensures copied { result ≡ true →
+            self.new.copied ≤ max self.old.copied keep + length middle.now + length more.now }
+        ensures unchanged { result ≡ false → self.new ≡ self.old }
+    {
+        let total = keep + middle.len() + more.len();
+        match &mut self.held {
+            Held::Inline { buffer, .. } => {
+                if total > INLINE {
+                    return false;
+                }
+                let mut buffer = *buffer;
+                put(&mut buffer, keep, middle);
+                put(&mut buffer, keep + middle.len(), more);
+                self.held = Held::Inline {
+                    len: total as u64,
+                    buffer,
+                };
+                true
+            }
+            Held::View {
+                shared,
+                block,
+                offset,
+                len,
+            } => {
+                let start = *offset as usize;
+                // Where more bytes were popped off the front than there are, a copy of these lets go of those.
+                if start > total || total > MAX_LEN as usize - start {
+                    return false;
+                }
+                if !replaces_alone::<A>(block, start + keep, middle, more) {
+                    return false;
+                }
+                *len = total as u32;
+                shared.set(false);
+                true
+            }
+        }
+    }
+
+    /// Makes room for so many more bytes, unless the bytes are shared.
+    pub fn reserve(&mut self, more: usize) -> Result<(), Refusal>
+        requires { length self.old.bytes + more ≤ MAX_LEN }
+        ensures bytes { self.new.bytes ≡ self.old.bytes }
+        ensures copied { self.new.copied ≤ max self.old.copied (length self.old.bytes) }
+        ensures refusal { IfErr result (MemoryMay (length self.old.bytes + more)) }
+        ensures err { OnErr result (self.new ≡ self.old) }
+    {
+        let total = self.as_slice().len() + more;
+        if total <= INLINE {
+            return Ok(());
+        }
+        match &mut self.held {
+            Held::Inline { .. } => self.spill(total),
+            Held::View {
+                shared,
+                block,
+                offset,
+                len,
+            } => {
+                if shared.get() {
+                    return Ok(());
+                }
+                if *offset > *len {
+                    return self.spill(total);
+                }
+                reserve_alone::<A>(block, *offset as usize + total)
+            }
+        }
+    }
+
+    // The bytes in a new block with room for so many.
+    fn spill(&mut self, capacity: usize) -> Result<(), Refusal>
+        ensures bytes { self.new.bytes ≡ self.old.bytes }
+        ensures copied { OnOk result (self.new.copied ≡ length self.old.bytes) }
+        ensures refusal { IfErr result (λ r. r ≡ Refusal.Memory) }
+        ensures err { OnErr result (self.new ≡ self.old) }
+    {
+        let Ok(bytes) = with_room(self.alloc, self.as_slice(), capacity) else {
+            return Err(Refusal::Memory);
+        };
+        let copy = Self::in_block(self.alloc, bytes)?;
+        *self = copy;
+        Ok(())
+    }
+
+    /// No bytes any more. A block that no other holds is kept for the next ones.
+    pub fn clear(&mut self)
+        ensures bytes { self.new.bytes ≡ [] }
+        ensures copied { self.new.copied ≤ self.old.copied }
+    {
+        if !self.clears_in_place() {
+            *self = Self::new(self.alloc);
+        }
+    }
+
+    fn clears_in_place(&mut self) -> bool
+        ensures bytes { result ≡ true → self.new.bytes ≡ [] }
+        ensures copied { self.new.copied ≡ self.old.copied }
+    {
+        match &mut self.held {
+            Held::Inline { .. } => false,
+            Held::View {
+                shared,
+                block,
+                offset,
+                len,
+            } => {
+                if !replaces_alone::<A>(block, 0, &[], &[]) {
+                    return false;
+                }
+                *offset = 0;
+                *len = 0;
+                shared.set(false);
+                true
+            }
+        }
+    }
+}
+
+// Puts two parts in the place of all bytes of a block from `keep` on, where no other holds it and there is memory.
+fn replaces_alone<A: Atomicity>(
+    block: &mut A::Block,
+    keep: usize,
+    middle: &[u8],
+    more: &[u8],
+) -> bool
+    ensures bytes { result ≡ true →
+        A.bytes_of block.new ≡ take keep (A.bytes_of block.old) ++ middle.now ++ more.now }
+    ensures copied { result ≡ true →
+        A.copied block.new ≡ A.copied block.old + length middle.now + length more.now }
+    ensures bytes_kept { result ≡ false → A.bytes_of block.new ≡ A.bytes_of block.old }
+    ensures copied_kept { result ≡ false → A.copied block.new ≡ A.copied block.old }
+{
+    match A::alone_mut(block) {
+        Some(body) => body.replace_end(keep, middle, more).is_ok(),
+        None => false,
+    }
+}
+
+// Makes room in a block for so many bytes in all, where no other holds it.
+fn reserve_alone<A: Atomicity>(block: &mut A::Block, capacity: usize) -> Result<(), Refusal>
+    ensures bytes { A.bytes_of block.new ≡ A.bytes_of block.old }
+    ensures copied { A.copied block.new ≡ A.copied block.old }
+    ensures refusal { IfErr result (λ r. r ≡ Refusal.Memory) }
+{
+    let missing = capacity.saturating_sub(A::bytes(block).len());
+    match A::alone_mut(block) {
+        Some(body) => body.reserve(missing),
+        None => Ok(()),
+    }
+}

@@ -1,0 +1,150 @@
+//! Parts of stored bytes: few are copied inline, many are seen in the same block.
+ghost use Rattle.std.specs.Prelude.{◌≡◌, ◌<◌, ◌≤◌, ◌+◌, length, take, drop, IfOk, IfErr, OnOk, OnErr};
+ghost use Rattle.tendril_block.specs.Outcomes.{CountMay};
+ghost use Rattle.tendril_storage.specs.Partings.{TakesFront};
+
+use crate::storage::{Held, INLINE, Storage, put};
+use std::cell::Cell;
+use std::mem;
+use tendril_block::{Atomicity, Refusal};
+
+impl<A: Atomicity> Storage<A> {
+    ghost use Rattle.tendril_storage.specs.Texts.{Parts, Shares};
+
+    /// All bytes once more: inline ones as they stand, the others as one more view of the same block.
+    pub fn whole(&self) -> Result<Self, Refusal>
+        ensures bytes { IfOk result (λ s. s.bytes ≡ self.now.bytes) }
+        ensures copied { IfOk result Shares }
+        ensures refusal { IfErr result (CountMay (length self.now.bytes)) }
+    {
+        match &self.held {
+            Held::Inline { len, buffer } => Ok(Storage {
+                held: Held::Inline {
+                    len: *len,
+                    buffer: *buffer,
+                },
+                alloc: self.alloc,
+            }),
+            Held::View { .. } => self.part(0, self.len32()),
+        }
+    }
+
+    /// The bytes from the offset on: copied where they are few, else a view of the same block.
+    pub fn part(&self, offset: u32, count: u32) -> Result<Self, Refusal>
+        requires { offset + count ≤ length self.now.bytes }
+        ensures bytes { IfOk result (λ s. s.bytes ≡ take count (drop offset self.now.bytes)) }
+        ensures copied { IfOk result Shares }
+        ensures refusal { IfErr result (CountMay count) }
+    {
+        if count as usize <= INLINE {
+            return Ok(self.inline_part(offset, count));
+        }
+        self.view_part(offset, count)
+    }
+
+    fn inline_part(&self, offset: u32, count: u32) -> Self
+        requires within { offset + count ≤ length self.now.bytes }
+        requires short { count ≤ 8 }
+        ensures bytes { result.bytes ≡ take count (drop offset self.now.bytes) }
+        ensures copied { result.copied ≡ count }
+    {
+        let start = offset as usize;
+        let end = start + count as usize;
+        let mut buffer = [0; 8];
+        put(&mut buffer, 0, &self.as_slice()[start..end]);
+        Storage {
+            held: Held::Inline {
+                len: count as u64,
+                buffer,
+            },
+            alloc: self.alloc,
+        }
+    }
+
+    #[tactic(auto, using(crate::proofs::Views::slices))]
+    fn view_part(&self, offset: u32, count: u32) -> Result<Self, Refusal>
+        requires within { offset + count ≤ length self.now.bytes }
+        requires long { 8 < count }
+        ensures bytes { IfOk result (λ s. s.bytes ≡ take count (drop offset self.now.bytes)) }
+        ensures copied { IfOk result (λ s. s.copied ≡ 0) }
+        ensures refusal { IfErr result (λ r. r ≡ Refusal.Count) }
+    {
+        match &self.held {
+            Held::Inline { .. } => unreachable!(),
+            Held::View {
+                shared,
+                block,
+                offset: first,
+                ..
+            } => {
+                let block = A::share(block)?;
+                shared.set(true);
+                Ok(Storage {
+                    held: Held::View {
+                        shared: Cell::new(true),
+                        block,
+                        offset: *first + offset,
+                        len: count,
+                    },
+                    alloc: self.alloc,
+                })
+            }
+        }
+    }
+
+    /// Keeps the bytes from the offset on alone: few inline, many in the same view.
+    pub fn keep_part(&mut self, offset: u32, count: u32)
+        requires { offset + count ≤ length self.old.bytes }
+        ensures bytes { self.new.bytes ≡ take count (drop offset self.old.bytes) }
+        ensures short { count ≤ 8 → self.new.copied ≤ 8 }
+        ensures long { 8 < count → self.new.copied ≡ self.old.copied }
+    {
+        if count as usize <= INLINE {
+            let part = self.inline_part(offset, count);
+            *self = part;
+            return;
+        }
+        self.keep_view(offset, count);
+    }
+
+    #[tactic(auto, using(crate::proofs::Views::slices))]
+    fn keep_view(&mut self, offset: u32, count: u32)
+        requires within { offset + count ≤ length self.old.bytes }
+        requires long { 8 < count }
+        ensures bytes { self.new.bytes ≡ take count (drop offset self.old.bytes) }
+        ensures copied { self.new.copied ≡ self.old.copied }
+    {
+        match &mut self.held {
+            Held::Inline { .. } => unreachable!(),
+            Held::View {
+                shared,
+                offset: first,
+                len,
+                ..
+            } => {
+                if count < *len {
+                    shared.set(true);
+                }
+                *first += offset;
+                *len = count;
+            }
+        }
+    }
+
+    /// Takes the first bytes out, and keeps the others. Only where both parts are many bytes do they share a block.
+    pub fn take_front(&mut self, count: u32) -> Result<Self, Refusal>
+        requires { count ≤ length self.old.bytes }
+        ensures { TakesFront count self.old result self.new }
+    {
+        let rest = self.len32() - count;
+        if count as usize <= INLINE {
+            let front = self.inline_part(0, count);
+            self.keep_part(count, rest);
+            return Ok(front);
+        }
+        let end = self.part(count, rest)?;
+        let mut front = mem::replace(self, end);
+        front.keep_part(0, count);
+        Ok(front)
+    }
+}

@@ -1,0 +1,18 @@
+//! The words of lines: numbers, characters and bytes, as programs over texts read and write them.
+//!
+//! Which words a program's lines have is the program's own. Each reader here answers a value exactly for the words
+//! that stand for it.
+#![tactic(auto)]
+
+mod byte_list;
+mod hexadecimal;
+mod line;
+mod numbers;
+
+pub use byte_list::ByteList;
+pub use hexadecimal::{byte, bytes, hex_of};
+pub use line::split_words;
+pub use numbers::{number, scalar};
+
+#[cfg(test)]
+mod tests;
