@@ -1,4 +1,4 @@
-use Rattle.std.specs.Prelude.{ℕ, ◌≡◌, ◌≤◌, ◌+◌, List, length, max, Option, Result}
+use Rattle.std.specs.Prelude.{ℕ, ◌≡◌, ◌≤◌, ◌+◌, ◌++◌, List, length, max, replicate, Option, Result}
 use Rattle.tendril_block.specs.declared.refusal.Refusal.{Refusal}
 use Rattle.tendril_block.specs.Outcomes.{LengthMust, BytesMust, CharMust, MemoryMay, Outcome}
 use Rattle.tendril_storage.specs.Texts.{Text}
@@ -20,6 +20,11 @@ JoinsValid valid join y old result new = Pushes (BytesMust valid y (length (join
 -- a character is joined to a text, where the format has it
 abbrev pub JoinsChar : (ℕ → Type 0) → (ℕ → List ℕ) → (List ℕ → List ℕ → List ℕ) → ℕ → Text → Result (Unit {0}) Refusal → Text → Type 0
 JoinsChar encodes encoding join c old result new = Pushes (CharMust encodes c (length (join old.bytes (encoding c)))) (encoding c) (join old.bytes (encoding c)) old result new
+
+-- So many zeros are put at the end of a text. Their number is said apart from their list, which may be long.
+pub record PushesZeros (count : ℕ) (old : Text) (result : Result (Unit {0}) Refusal) (new : Text) : Type 0 where
+  pub outcome : Outcome (LengthMust (length old.bytes + count)) (MemoryMay (length old.bytes + count)) (λ _ t. t.bytes ≡ old.bytes ++ replicate count 0) old result new
+  pub copied : new.copied ≤ max old.copied (length old.bytes) + count + 4
 
 -- room is made in a text for so many more bytes
 pub record Reserves (more : ℕ) (old : Text) (result : Result (Unit {0}) Refusal) (new : Text) : Type 0 where

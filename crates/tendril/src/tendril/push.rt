@@ -1,6 +1,6 @@
 //! Texts that grow, and texts that become empty.
-ghost use Rattle.std.specs.Prelude.{◌≡◌, ◌≤◌, ◌++◌, [], replicate};
-ghost use Rattle.tendril.specs.Pushes.{Joins, JoinsValid, Reserves};
+ghost use Rattle.std.specs.Prelude.{◌≡◌, ◌≤◌, ◌++◌, []};
+ghost use Rattle.tendril.specs.Pushes.{Joins, JoinsValid, PushesZeros, Reserves};
 
 use crate::tendril::Tendril;
 use tendril_block::{Atomicity, MAX_LEN, Refusal};
@@ -76,7 +76,7 @@ impl<A: Atomicity> Tendril<Bytes, A> {
 
     /// Puts so many zeros at the end, to be written over. They are made where they stand.
     pub fn push_uninitialized(&mut self, count: u32) -> Result<(), Refusal>
-        ensures { Joins ◌++◌ (replicate count 0) self.old result self.new }
+        ensures { PushesZeros count self.old result self.new }
     {
         if count > MAX_LEN - self.len32() {
             return Err(Refusal::TooLong);
