@@ -1,4 +1,4 @@
-//! What a kind of block offers, whatever its holders are counted by.
+//! What a block offers, whatever its holders are counted by.
 ghost use Rattle.std.specs.Prelude.{◌≡◌, ℕ, ◌+◌, ◌-◌, List, length, IfOk, IfErr, IfSome, ◌⊎◌};
 ghost use Rattle.std.specs.Borrow.{LendsSo, LendsSoOk, sem};
 ghost use Rattle.tendril_block.specs.contracts.body.Body.{the_row as body_row};
@@ -16,7 +16,7 @@ pub const MAX_LEN: u32 = 4294967295;
 /// The greatest number of holders of one block.
 pub const MAX_HOLDERS: u64 = 4294967295;
 
-/// A kind of block, by how its holders are counted.
+/// How the holders of a block are counted.
 ///
 /// Every call but `make`, `make_mut` and `from_sole` takes constant time.
 pub trait Atomicity {

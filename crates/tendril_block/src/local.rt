@@ -103,7 +103,8 @@ impl LocalBlock {
     fn settle(&mut self)
         ensures body { self.new.body ≡ self.old.body }
         ensures since { self.new.since.bytes ≡ self.old.body.value.took }
-        ensures before { self.new.before.bytes ≡ self.old.before.bytes + (self.old.body.value.took - self.old.since.bytes) }
+        ensures before { self.new.before.bytes
+            ≡ self.old.before.bytes + (self.old.body.value.took - self.old.since.bytes) }
     {
         let took = self.body.as_ref().took();
         let none = Copied::zero();

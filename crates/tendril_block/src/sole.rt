@@ -3,7 +3,7 @@ ghost use Rattle.std.specs.Prelude.{◌≡◌};
 
 use std::marker::Model;
 
-/// The bytes of a block that had one holder, which may become a block of another kind.
+/// The bytes of a block that had one holder, which may become a block of another atomicity.
 #[derive(Drop)]
 pub struct Sole {
     bytes: Vec<u8>,

@@ -51,7 +51,8 @@ pub struct Codepoint<'a> {
 fn start_before(buf: &[u8], idx: usize) -> Option<usize>
     requires { idx < length buf.now }
     ensures { MatchOption result (AreContinuations buf.now (idx - 3) (idx + 1))
-        (λ s. (s ≤ idx) × (idx ≤ s + 3) × ¬ (IsContinuation (slice_index buf.now s)) × AreContinuations buf.now (s + 1) (idx + 1)) }
+        (λ s. (s ≤ idx) × (idx ≤ s + 3) × ¬ (IsContinuation (slice_index buf.now s))
+        × AreContinuations buf.now (s + 1) (idx + 1)) }
 {
     for back in 0..4 {
         if idx < back {

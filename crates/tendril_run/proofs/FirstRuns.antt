@@ -1,16 +1,15 @@
-use Rattle.std.proofs.Common.{◌≡◌, ℕ, ◌==◌, ◌<◌, List, [], ◌∷◌, ◌++◌, length, take, drop, cond, Option, Some, None, Result, Ok, Err, arith, refl, sym, subst, ap, ◌∙◌}
+use Rattle.std.proofs.Common.{◌≡◌, ℕ, ◌==◌, ◌<◌, List, [], ◌∷◌, ◌++◌, length, take, drop, cond, Option, Some, None, Result, Ok, Err, arith, refl, sym, subst, ap, ◌∙◌, inr}
 use Rattle.std.proofs.Math.Seq.{drop-append_seam}
 use Rattle.std.proofs.lemmas.List.{length-drop, length-take-le}
 use Rattle.std.proofs.lemmas.List.Sums.{take_while-cons}
 use Rattle.std.specs.List.{FoldsTo, take_while}
 use Rattle.std.specs.Option.{MatchOption, IfSome, IfNone}
-use Rattle.std.specs.Result.{IfOk, IfErr}
+use Rattle.std.specs.Result.{IfOk, IfErr, OnErr}
 use Rattle.tendril.specs.Characters.{SaysClass, SaysOther, IsAsked, IsRun, HasLongParts}
 use Rattle.tendril_block.specs.declared.refusal.Refusal.{Refusal}
 use Rattle.tendril_block.specs.declared.refusal.Refusal.TheVariants.{Count}
 use Rattle.tendril_fmt.specs.Chars.{encodings}
-use Rattle.tendril_run.specs.Characters.{first_of, first_run, run_bytes, IsFirstRun}
-use Rattle.tendril_block.specs.Outcomes.{CountMay}
+use Rattle.tendril_run.specs.Characters.{first_of, first_run, run_bytes, IsFirstRun, FirstRunMay, TakesFirstRun}
 
 -- a classifier that stays as it is and answers each character by its class parts a text after the longest front of the
 -- first one's class
@@ -45,18 +44,25 @@ module _ {F : Type 0} (step : F → ℕ → ℕ → F → Type 0) (class : ℕ �
         let (c, first, of_class, front) = asked_run chars encoding h.after k text run rest h.characters (spell run h.run_valid) h.asked in
         (c, first, of_class, front, sym (drop-append_seam run rest) ∙ ap (drop (length run)) (sym h.bytes))
 
-    pub found_run : {T B E : Type 0} (bytes : B → List ℕ) (view : T → B) (old new : B) (result : Result (Option (T × ℕ)) E)
-        → IfOk result (λ found. IfSome found (λ run. IsRun step (λ x y. x == y) valid chars classify run.1 (bytes old) (bytes (view run.0)) (bytes new)))
-        → IfOk result (λ found. IfNone found ((bytes old ≡ []) × (new ≡ old)))
-        → IfOk result (λ found. MatchOption found ((chars (bytes old) ≡ []) × (bytes new ≡ bytes old)) (λ run. IsFirstRun chars encoding class (bytes old) run.1 (bytes (view run.0)) (bytes new)))
-    found_run bytes view old new (Ok None) some none = (ap chars none.0 ∙ empty, ap bytes none.1)
-    found_run bytes view old new (Ok (Some (run, k))) some none = first_parted k (bytes old) (bytes (view run)) (bytes new) some
-    found_run bytes view old new (Err e) some none = tt
+    found_run : {T B : Type 0} (bytes : B → List ℕ) (view : T → B) (old new : B) (found : Option (T × ℕ))
+        → IfSome found (λ run. IsRun step (λ x y. x == y) valid chars classify run.1 (bytes old) (bytes (view run.0)) (bytes new))
+        → IfNone found ((bytes old ≡ []) × (new ≡ old))
+        → MatchOption found ((chars (bytes old) ≡ []) × (bytes new ≡ bytes old)) (λ run. IsFirstRun chars encoding class (bytes old) run.1 (bytes (view run.0)) (bytes new))
+    found_run bytes view old new None some none = (ap chars none.0 ∙ empty, ap bytes none.1)
+    found_run bytes view old new (Some (run, k)) some none = first_parted k (bytes old) (bytes (view run)) (bytes new) some
 
-    pub long_run : {T : Type 0} (text : List ℕ) (result : Result T Refusal) → IfErr result (λ r. (r ≡ Count) × HasLongParts step (λ x y. x == y) valid chars classify text)
-        → IfErr result (λ r. CountMay (length (run_bytes encoding class (chars text))) r × CountMay (length (drop (length (run_bytes encoding class (chars text))) text)) r)
-    long_run text (Ok t) h = tt
-    long_run text (Err r) (full, h) =
+    long_run : (text : List ℕ) (r : Refusal) → (r ≡ Count) × HasLongParts step (λ x y. x == y) valid chars classify text → FirstRunMay encoding class (chars text) text r
+    long_run text r (full, h) =
         let (c, first, of_class, front) = asked_run chars encoding h.after h.class text (take h.end text) (drop h.end text) h.run.characters (spell (take h.end text) h.run.run_valid) h.run.asked in
         let count : length (run_bytes encoding class (chars text)) ≡ h.end = ap length (sym front) ∙ length-take-le h.end text h.run.within in
         ((full, subst (λ n. 8 < n) (sym count) h.long), (full, subst (λ n. 8 < length (drop n text)) (sym count) (omega (arith, h.long_rest, length-drop h.end text))))
+
+    -- a text is asked for its first run
+    pub taken_run : {T B : Type 0} (bytes : B → List ℕ) (view : T → B) (old new : B) (result : Result (Option (T × ℕ)) Refusal)
+        → IfOk result (λ found. IfSome found (λ run. IsRun step (λ x y. x == y) valid chars classify run.1 (bytes old) (bytes (view run.0)) (bytes new)))
+        → IfOk result (λ found. IfNone found ((bytes old ≡ []) × (new ≡ old)))
+        → IfErr result (λ r. (r ≡ Count) × HasLongParts step (λ x y. x == y) valid chars classify (bytes old))
+        → OnErr result (new ≡ old)
+        → TakesFirstRun (λ t. bytes (view t)) chars encoding class (bytes old) result (bytes new)
+    taken_run bytes view old new (Ok found) some none long same = (tt, found_run bytes view old new found some none)
+    taken_run bytes view old new (Err r) some none long same = (inr (tt, long_run (bytes old) r long), ap bytes same)

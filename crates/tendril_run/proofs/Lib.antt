@@ -1,4 +1,4 @@
-mod Chain
+mod Chained
 mod FirstRuns
 mod Joined
 mod OneChanged

@@ -1,10 +1,14 @@
-use Rattle.std.proofs.Common.{◌≡◌, ◌≢◌, ℕ, ◌<◌, ◌⊎◌, List, length, get_or, set, map, ap, sym, subst, ◌∙◌, Option, Some, None, Bool, true, false, if◌then◌else◌, [], ◌∷◌, ◌++◌, All}
-use Rattle.std.proofs.lemmas.List.{map-set, map-append, set-set, get_or-map, get_or-set_other, length-map}
+use Rattle.std.proofs.Common.{◌≡◌, ◌≢◌, ℕ, ◌<◌, ◌≤◌, ◌⊎◌, List, length, get_or, set, map, ap, refl, sym, subst, ◌∙◌, Option, Some, None, Bool, true, false, if◌then◌else◌, [], ◌∷◌, ◌++◌, All}
+use Rattle.std.proofs.lemmas.List.{map-set, map-append, set-set, get_or-map, get_or-set_other, get_or_past, length-map}
 use Rattle.std.proofs.lemmas.List.Elements.{All-set, All-push, All-get_or}
 use Rattle.std.proofs.Math.Seq.{map-set_same}
 use Rattle.tendril_block.specs.declared.refusal.Refusal.{Refusal}
 use Rattle.tendril_run.specs.Cells.{Cell, IsCell, gone, cell_at}
 use Rattle.tendril_run.specs.Rules.{Replied, Answered, Changed}
+use Rattle.tendril_block.specs.declared.refusal.Refusal.TheVariants.{NoSuchSlot}
+use Rattle.tendril_run.specs.OneCell.{ChangeMust}
+use Rattle.tendril_run.specs.declared.change.Change.{Change}
+use Rattle.tendril_run.specs.declared.change.Change.TheVariants.{PushChar, PopChar, Edit, EditBytes, Convert, Drop}
 use Rattle.tendril_run.specs.declared.command.Reply.{Reply}
 use Rattle.tendril_run.specs.declared.command.Reply.TheVariants.{Done, Made, Char, Run, Compared, Text, Refused}
 
@@ -78,3 +82,17 @@ added_cells f false items after s e h one = subst (λ xs. All IsCell (map f xs))
 -- a cell that is added, by another name
 pub added_as : (cells after : List Cell) (one other : Cell) → after ≡ cells ++ one ∷ [] → one ≡ other → after ≡ cells ++ other ∷ []
 added_as cells after one other h e = h ∙ ap (λ c. cells ++ c ∷ []) e
+
+gone_refused : (change : Change) → ChangeMust gone change (Some NoSuchSlot)
+gone_refused (PushChar c) = refl
+gone_refused PopChar = refl
+gone_refused (Edit edit) = refl
+gone_refused (EditBytes edit) = refl
+gone_refused (Convert conversion) = refl
+gone_refused Drop = refl
+
+-- a slot that isn't there isn't changed
+pub past_refused : {S : Type 0} (f : S → Cell) (items : List S) (cells : List Cell) (slot : ℕ) (change : Change) → map f items ≡ cells → length items ≤ slot → ChangeMust (cell_at cells slot) change (Some NoSuchSlot)
+past_refused f items cells slot change is past =
+    let beyond : length cells ≤ slot = subst (λ n. n ≤ slot) (sym (ap length (sym is) ∙ length-map items f)) past in
+    subst (λ cell. ChangeMust cell change (Some NoSuchSlot)) (sym (get_or_past cells slot gone beyond)) (gone_refused change)

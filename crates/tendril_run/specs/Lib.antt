@@ -6,7 +6,7 @@ pub mod Characters
 pub mod Comparisons
 pub mod OneCell
 pub mod Steps
-pub mod Runs
+pub mod Chains
 pub mod Names
 pub mod Lines
 pub mod Verbs

@@ -1,11 +1,13 @@
-use Rattle.std.specs.Prelude.{ℕ, ◌≡◌, ◌⊎◌, List, [], length, take, drop, Option, Some, None}
+use Rattle.std.specs.Prelude.{ℕ, ◌≡◌, ◌⊎◌, List, [], length, take, drop, Option, Some, None, Result, MatchResult, IfOk}
 use Rattle.tendril_block.specs.declared.refusal.Refusal.{Refusal}
 use Rattle.tendril_block.specs.declared.refusal.Refusal.TheVariants.{Memory, NoSuchSlot, WrongFormat}
-use Rattle.tendril_run.specs.Cells.{Cell, gone, text, valid_in, join_in, IsPartOf}
-use Rattle.tendril_run.specs.Characters.{HasChars, IsCharIn, chars_in, encoding_in, first_of, without_first, run_bytes}
+use Rattle.tendril_run.specs.Cells.{Cell, IsCell, gone, text, valid_in, join_in, IsPartOf}
+use Rattle.tendril_run.specs.Characters.{HasChars, IsCharIn, chars_in, encoding_in, first_of, without_first, run_bytes, FirstRunMay}
 use Rattle.tendril_run.specs.Edits.{EditMust, EditMay, edited, ByteEditMust, ByteEditMay, byte_edited}
 use Rattle.tendril_block.specs.Outcomes.{NoneMust, First, LengthMust, ValidMust, BytesMust, MemoryMay, SliceMust, CharMust, CountMay, NoneMay}
 use Rattle.tendril_run.specs.Rules.{Replied, Answered, Changed}
+use Rattle.tendril_run.specs.declared.change.Change.{Change}
+use Rattle.tendril_run.specs.declared.change.Change.TheVariants as change
 use Rattle.tendril_run.specs.declared.change.Conversion.{Conversion}
 use Rattle.tendril_run.specs.declared.change.Conversion.TheVariants.{Reinterpret, ToSuperset, ToSubset}
 use Rattle.tendril_run.specs.declared.change.ByteEdit.{ByteEdit}
@@ -13,7 +15,7 @@ use Rattle.tendril_run.specs.declared.change.Edit.{Edit}
 use Rattle.tendril_run.specs.declared.command.Kind.{Kind}
 use Rattle.tendril_run.specs.declared.command.Kind.TheVariants.{Bytes}
 use Rattle.tendril_run.specs.declared.command.Reply.{Reply}
-use Rattle.tendril_run.specs.declared.command.Reply.TheVariants.{Char, Text}
+use Rattle.tendril_run.specs.declared.command.Reply.TheVariants.{Char, Done, Text}
 
 -- the first refusal of a call that a cell only needs to be there for
 abbrev pub CellMust : Cell → Option Refusal → Type 0
@@ -85,10 +87,10 @@ abbrev pub run_popped : (ℕ → ℕ) → Cell → Cell
 run_popped class gone = gone
 run_popped class (text kind b) = text kind (drop (length (run_bytes (encoding_in kind) class (chars_in kind b))) b)
 
--- the refusals of a pop of that run that no state rules out: it is shared with the rest, where both are long
+-- the refusals of a pop of that run that no state rules out
 abbrev pub RunMay : (ℕ → ℕ) → Cell → Refusal → Type 0
 RunMay class gone r = ⊥
-RunMay class (text kind b) r = CountMay (length (run_bytes (encoding_in kind) class (chars_in kind b))) r × CountMay (length (drop (length (run_bytes (encoding_in kind) class (chars_in kind b))) b)) r
+RunMay class (text kind b) r = FirstRunMay (encoding_in kind) class (chars_in kind b) b r
 
 -- a cell is parted into the run at its front, whose class is k, and the rest
 abbrev pub IsRunOf : (ℕ → ℕ) → Cell → ℕ → Cell → Cell → Type 0
@@ -153,6 +155,13 @@ abbrev pub converted : Cell → Conversion → Cell
 converted gone conversion = gone
 converted (text kind b) conversion = text (target conversion) b
 
+-- a slot of this cell changes its format, or is handed back with what refuses that
+pub record Converts {S : Type 0} (cell_of : S → Cell) (cell : Cell) (conversion : Conversion) (result : Result S (Refusal × S)) : Type 0 where
+  pub outcome : MatchResult result
+      (λ s. ConversionMust cell conversion None × (cell_of s ≡ converted cell conversion))
+      (λ e. ConversionMust cell conversion (Some e.0) × (cell_of e.1 ≡ cell))
+  pub kept : IfOk result (λ s. IsCell cell → IsCell (cell_of s))
+
 -- the reply that tells the cell
 abbrev pub Tells : Cell → Reply → Type 0
 Tells gone reply = ⊥
@@ -162,33 +171,43 @@ Tells (text kind b) reply = reply ≡ Text kind b
 abbrev pub CellPushed : Cell → List ℕ → Reply → Cell → Type 0
 CellPushed cell y reply new = Changed (PushMust cell y) (PushMay cell y) (pushed cell y) cell reply new
 
--- a push of a character onto a cell
-abbrev pub CellCharPushed : Cell → ℕ → Reply → Cell → Type 0
-CellCharPushed cell c reply new = Changed (PushCharMust cell c) (PushMay cell (encoding_of cell c)) (pushed cell (encoding_of cell c)) cell reply new
-
--- a pop of a cell's first character
-abbrev pub CellCharPopped : Cell → Reply → Cell → Type 0
-CellCharPopped cell reply new = Answered (CharsMust cell) NoneMay (Char (char_of cell)) (char_popped cell) cell reply new
-
 -- a push of the cell of one slot onto that of another
 abbrev pub CellJoined : ℕ → ℕ → Cell → Cell → Reply → Cell → Type 0
 CellJoined to from cell other reply new = Changed (JoinMust cell other) (JoinMay to from cell other) (joined cell other) cell reply new
 
--- an edit of a cell
-abbrev pub CellEdited : Cell → Edit → Reply → Cell → Type 0
-CellEdited cell edit reply new = Changed (CellEditMust cell edit) (EditMay edit) (edited_cell cell edit) cell reply new
+-- the first refusal of a change of a cell
+abbrev pub ChangeMust : Cell → Change → Option Refusal → Type 0
+ChangeMust cell (change.PushChar c) must = PushCharMust cell c must
+ChangeMust cell change.PopChar must = CharsMust cell must
+ChangeMust cell (change.Edit edit) must = CellEditMust cell edit must
+ChangeMust cell (change.EditBytes edit) must = CellByteEditMust cell edit must
+ChangeMust cell (change.Convert conversion) must = ConversionMust cell conversion must
+ChangeMust cell change.Drop must = CellMust cell must
 
--- an edit of a cell's bytes
-abbrev pub CellByteEdited : Cell → ByteEdit → Reply → Cell → Type 0
-CellByteEdited cell edit reply new = Changed (CellByteEditMust cell edit) (CellByteEditMay cell edit) (byte_edited_cell cell edit) cell reply new
+-- the refusals of it that no state rules out
+abbrev pub ChangeMay : Cell → Change → Refusal → Type 0
+ChangeMay cell (change.PushChar c) r = PushMay cell (encoding_of cell c) r
+ChangeMay cell (change.Edit edit) r = EditMay edit r
+ChangeMay cell (change.EditBytes edit) r = CellByteEditMay cell edit r
+ChangeMay cell other r = ⊥
 
--- a conversion of a cell
-abbrev pub CellConverted : Cell → Conversion → Reply → Cell → Type 0
-CellConverted cell conversion reply new = Changed (ConversionMust cell conversion) NoneMay (converted cell conversion) cell reply new
+-- the cell after it
+abbrev pub changed : Cell → Change → Cell
+changed cell (change.PushChar c) = pushed cell (encoding_of cell c)
+changed cell change.PopChar = char_popped cell
+changed cell (change.Edit edit) = edited_cell cell edit
+changed cell (change.EditBytes edit) = byte_edited_cell cell edit
+changed cell (change.Convert conversion) = converted cell conversion
+changed cell change.Drop = gone
 
--- a cell that is dropped
-abbrev pub CellDropped : Cell → Reply → Cell → Type 0
-CellDropped cell reply new = Changed (CellMust cell) NoneMay gone cell reply new
+-- what is answered then
+abbrev pub change_reply : Cell → Change → Reply
+change_reply cell change.PopChar = Char (char_of cell)
+change_reply cell other = Done
+
+-- a change of a cell
+abbrev pub CellChanged : Cell → Change → Reply → Cell → Type 0
+CellChanged cell change reply new = Answered (ChangeMust cell change) (ChangeMay cell change) (change_reply cell change) (changed cell change) cell reply new
 
 -- what is answered to a question for the cell's text
 abbrev pub CellTold : Cell → Reply → Type 0

@@ -6,12 +6,10 @@ use Rattle.tendril_run.specs.Comparisons.{CompareMust, TellsComparison}
 use Rattle.tendril_run.specs.Edits.{EditMay}
 use Rattle.tendril_block.specs.Outcomes.{NoneMust, BytesMust, MemoryMay, CountMay, NoneMay}
 use Rattle.tendril_run.specs.Rules.{Replied}
-use Rattle.tendril_run.specs.OneCell.{CellMust, CellSliceMust, CellCloneMay, part, PushMust, PushMay, pushed, JoinMust, JoinMay, joined, PushCharMust, encoding_of, CharsMust, char_of, char_popped, run_of, run_popped, RunMay, CellEditMust, edited_cell, CellByteEditMust, CellByteEditMay, byte_edited_cell, ConversionMust, converted, Tells}
-use Rattle.tendril_run.specs.declared.change.ByteEdit.{ByteEdit}
+use Rattle.tendril_run.specs.OneCell.{CellMust, CellSliceMust, CellCloneMay, part, PushMust, PushMay, pushed, JoinMust, JoinMay, joined, PushCharMust, encoding_of, CharsMust, char_of, char_popped, run_of, run_popped, RunMay, CellEditMust, edited_cell, CellByteEditMust, CellByteEditMay, byte_edited_cell, ConversionMust, converted, ChangeMust, ChangeMay, changed, change_reply, Tells}
+use Rattle.tendril_run.specs.declared.change.Change.{Change}
 use Rattle.tendril_run.specs.declared.change.ByteEdit.TheVariants as byte_edit
-use Rattle.tendril_run.specs.declared.change.Conversion.{Conversion}
 use Rattle.tendril_run.specs.declared.change.Conversion.TheVariants as conversion
-use Rattle.tendril_run.specs.declared.change.Edit.{Edit}
 use Rattle.tendril_run.specs.declared.change.Edit.TheVariants as edit
 use Rattle.tendril_run.specs.declared.command.Command.{Command}
 use Rattle.tendril_run.specs.declared.command.Command.TheVariants.{New, FromBytes, PushBytes, PushTendril, PushChar, PushZeros, Slice, PopFront, PopBack, PopChar, PopRun, Clone, Clear, Reserve, Reinterpret, ToSuperset, ToSubset, WriteByte, Compare, Text, Drop}
@@ -76,17 +74,9 @@ TakesRun class old slot answer new =
     ((answer ≡ reply.Run None) × (new ≡ old))
     (λ c. (answer ≡ reply.Run (Some (length old, class c))) × (new ≡ slice_set old slot (run_popped class (cell_at old slot)) ++ run_of class (cell_at old slot) ∷ []))
 
--- an edit of one cell of a table
-abbrev pub TableEdited : List Cell → ℕ → Edit → Reply → List Cell → Type 0
-TableEdited old slot edit answer new = Replied (CellEditMust (cell_at old slot) edit) (EditMay edit) (Becomes old slot (edited_cell (cell_at old slot) edit)) old answer new
-
--- an edit of the bytes of one cell of a table
-abbrev pub TableByteEdited : List Cell → ℕ → ByteEdit → Reply → List Cell → Type 0
-TableByteEdited old slot edit answer new = Replied (CellByteEditMust (cell_at old slot) edit) (CellByteEditMay (cell_at old slot) edit) (Becomes old slot (byte_edited_cell (cell_at old slot) edit)) old answer new
-
--- a conversion of one cell of a table
-abbrev pub TableConverted : List Cell → ℕ → Conversion → Reply → List Cell → Type 0
-TableConverted old slot conversion answer new = Replied (ConversionMust (cell_at old slot) conversion) NoneMay (Becomes old slot (converted (cell_at old slot) conversion)) old answer new
+-- a change of one cell of a table
+abbrev pub TableChanged : List Cell → ℕ → Change → Reply → List Cell → Type 0
+TableChanged old slot change answer new = Replied (ChangeMust (cell_at old slot) change) (ChangeMay (cell_at old slot) change) (Leaves old slot (change_reply (cell_at old slot) change) (changed (cell_at old slot) change)) old answer new
 
 -- what a command does and answers, where it isn't refused; `class` sorts characters
 abbrev pub Effect : (ℕ → ℕ) → List Cell → Command → Reply → List Cell → Type 0

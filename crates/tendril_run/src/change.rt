@@ -2,8 +2,19 @@
 
 use crate::command::Kind;
 
+/// A change of one slot.
+#[derive(Clone, Copy)]
+pub(crate) enum Change {
+    PushChar(char),
+    PopChar,
+    Edit(Edit),
+    EditBytes(ByteEdit),
+    Convert(Conversion),
+    Drop,
+}
+
 /// A change of a text's bytes, which keeps its format.
-#[derive(Clone, Copy, Debug, PartialEq, Eq)]
+#[derive(Clone, Copy)]
 pub(crate) enum Edit {
     PopFront(u32),
     PopBack(u32),
@@ -12,14 +23,14 @@ pub(crate) enum Edit {
 }
 
 /// A change of what only a text of bytes may become, any byte.
-#[derive(Clone, Copy, Debug, PartialEq, Eq)]
+#[derive(Clone, Copy)]
 pub(crate) enum ByteEdit {
     PushZeros(u32),
     WriteByte(u32, u8),
 }
 
 /// A change of a text's format, which keeps its bytes.
-#[derive(Clone, Copy, Debug, PartialEq, Eq)]
+#[derive(Clone, Copy)]
 pub(crate) enum Conversion {
     Reinterpret(Kind),
     ToSuperset(Kind),

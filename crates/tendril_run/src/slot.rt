@@ -3,12 +3,12 @@ ghost use Rattle.std.specs.Prelude.{◌≡◌, ◌⊎◌, ℕ, [], length, IfOk,
 ghost use Rattle.tendril_run.specs.CellOf.{cell_of};
 ghost use Rattle.tendril_run.specs.Cells.{IsCell, text as text_cell, valid_in};
 ghost use Rattle.tendril_run.specs.Comparisons.{CellsCompared};
-ghost use Rattle.tendril_run.specs.OneCell.{CellPushed, CellCharPushed, CellCharPopped, CellJoined, CellEdited, CellByteEdited, CellDropped, CellTold, CellMust, CharsMust, char_of, RunMay, IsRunOf, CellSliceMust, CellCloneMay, part};
+ghost use Rattle.tendril_run.specs.OneCell.{CellPushed, CellChanged, CellJoined, CellTold, CellMust, CharsMust, char_of, RunMay, IsRunOf, CellSliceMust, CellCloneMay, part};
 ghost use Rattle.tendril_block.specs.Outcomes.{BytesMust, MemoryMay, CountMay, Gives, Outcome};
 
 mod convert;
 
-use crate::change::{ByteEdit, Edit};
+use crate::change::{ByteEdit, Change, Edit};
 use crate::classifier::Classifier;
 use crate::command::{Kind, Reply};
 use crate::text;
@@ -137,17 +137,32 @@ impl<A: Atomicity> Slot<A> {
         on_text!(self, _kind, text => text::push(text, bytes), gone())
     }
 
-    /// Puts a character at the end of the text.
-    pub(crate) fn push_char(&mut self, character: char) -> Reply
-        ensures pushed { CellCharPushed (cell_of self.old) character result (cell_of self.new) }
+    /// Changes the slot.
+    pub(crate) fn change(&mut self, change: Change) -> Reply
+        ensures changed { CellChanged (cell_of self.old) change result (cell_of self.new) }
+        ensures kept { IsCell (cell_of self.old) → IsCell (cell_of self.new) }
+    {
+        match change {
+            Change::PushChar(character) => self.push_char(character),
+            Change::PopChar => self.pop_char(),
+            Change::Edit(edit) => self.edit(edit),
+            Change::EditBytes(edit) => self.edit_bytes(edit),
+            Change::Convert(conversion) => self.convert(conversion),
+            Change::Drop => self.drop_text(),
+        }
+    }
+
+    // Puts a character at the end of the text.
+    fn push_char(&mut self, character: char) -> Reply
+        ensures changed { CellChanged (cell_of self.old) (Change.PushChar character) result (cell_of self.new) }
         ensures kept { IsCell (cell_of self.old) → IsCell (cell_of self.new) }
     {
         on_characters!(self, text => text::push_char(text, character))
     }
 
-    /// Takes the first character out of the text.
-    pub(crate) fn pop_char(&mut self) -> Reply
-        ensures popped { CellCharPopped (cell_of self.old) result (cell_of self.new) }
+    // Takes the first character out of the text.
+    fn pop_char(&mut self) -> Reply
+        ensures changed { CellChanged (cell_of self.old) Change.PopChar result (cell_of self.new) }
         ensures kept { IsCell (cell_of self.old) → IsCell (cell_of self.new) }
     {
         on_characters!(self, text => text::pop_char(text))
@@ -208,17 +223,17 @@ impl<A: Atomicity> Slot<A> {
         on_text!(self, _kind, text => text::join_self(text), gone())
     }
 
-    /// Changes the text's bytes.
-    pub(crate) fn edit(&mut self, edit: Edit) -> Reply
-        ensures edited { CellEdited (cell_of self.old) edit result (cell_of self.new) }
+    // Changes the text's bytes.
+    fn edit(&mut self, edit: Edit) -> Reply
+        ensures changed { CellChanged (cell_of self.old) (Change.Edit edit) result (cell_of self.new) }
         ensures kept { IsCell (cell_of self.old) → IsCell (cell_of self.new) }
     {
         on_text!(self, _kind, text => text::edit(text, edit), gone())
     }
 
-    /// Changes the bytes of a text of bytes.
-    pub(crate) fn edit_bytes(&mut self, edit: ByteEdit) -> Reply
-        ensures edited { CellByteEdited (cell_of self.old) edit result (cell_of self.new) }
+    // Changes the bytes of a text of bytes.
+    fn edit_bytes(&mut self, edit: ByteEdit) -> Reply
+        ensures changed { CellChanged (cell_of self.old) (Change.EditBytes edit) result (cell_of self.new) }
         ensures kept { IsCell (cell_of self.old) → IsCell (cell_of self.new) }
     {
         match self {
@@ -266,9 +281,9 @@ impl<A: Atomicity> Slot<A> {
         on_text!(self, kind, text => text::told(alloc, kind, text.as_byte_slice()), gone())
     }
 
-    /// The slot is gone.
-    pub(crate) fn drop_text(&mut self) -> Reply
-        ensures dropped { CellDropped (cell_of self.old) result (cell_of self.new) }
+    // The slot is gone.
+    fn drop_text(&mut self) -> Reply
+        ensures changed { CellChanged (cell_of self.old) Change.Drop result (cell_of self.new) }
         ensures kept { IsCell (cell_of self.old) → IsCell (cell_of self.new) }
     {
         if let Slot::Gone = self {

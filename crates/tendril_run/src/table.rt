@@ -4,15 +4,18 @@ ghost use Rattle.tendril_run.specs.CellOf.{cell_of};
 ghost use Rattle.tendril_run.specs.Cells.{Cell, IsCell, gone, cell_at};
 ghost use Rattle.tendril_run.specs.OneCell.{CellMust, CellSliceMust, CellCloneMay, part};
 ghost use Rattle.tendril_block.specs.Outcomes.{CountMay, Gives};
-ghost use Rattle.tendril_run.specs.Steps.{Step, TableEdited, TableByteEdited, TableConverted};
+ghost use Rattle.tendril_run.specs.Steps.{Step, TableChanged};
 
-mod runs;
+mod chain;
 
-use crate::change::{ByteEdit, Conversion, Edit};
+use crate::change::ByteEdit::{PushZeros, WriteByte};
+use crate::change::Change::{self, Convert, EditBytes};
+use crate::change::Conversion::{Reinterpret, ToSubset, ToSuperset};
+use crate::change::Edit::{Clear, PopBack, PopFront, Reserve};
 use crate::classifier::Classifier;
 use crate::command::{Command, Kind, Reply};
 use crate::slot::{Slot, gone};
-pub use runs::run;
+pub use chain::run;
 use std::alloc::Global;
 use std::marker::Model;
 use std::mem;
@@ -108,26 +111,26 @@ impl<A: Atomicity> Table<A> {
             Command::FromBytes(kind, bytes) => self.from_bytes(*kind, bytes),
             Command::PushBytes(slot, bytes) => self.push_bytes(*slot, bytes),
             Command::PushTendril(to, from) => self.join(*to, *from),
-            Command::PushChar(slot, character) => self.push_char(*slot, *character),
-            Command::PushZeros(slot, count) => self.edit_bytes(*slot, ByteEdit::PushZeros(*count)),
+            Command::PushChar(slot, character) => self.change(*slot, Change::PushChar(*character)),
+            Command::PushZeros(slot, count) => self.change(*slot, EditBytes(PushZeros(*count))),
             Command::Slice(slot, offset, count) => self.slice(*slot, *offset, *count),
-            Command::PopFront(slot, count) => self.edit(*slot, Edit::PopFront(*count)),
-            Command::PopBack(slot, count) => self.edit(*slot, Edit::PopBack(*count)),
-            Command::PopChar(slot) => self.pop_char(*slot),
+            Command::PopFront(slot, count) => self.change(*slot, Change::Edit(PopFront(*count))),
+            Command::PopBack(slot, count) => self.change(*slot, Change::Edit(PopBack(*count))),
+            Command::PopChar(slot) => self.change(*slot, Change::PopChar),
             Command::PopRun(slot) => self.pop_run(*slot, classifier),
             Command::Clone(slot) => self.clone_slot(*slot),
-            Command::Clear(slot) => self.edit(*slot, Edit::Clear),
-            Command::Reserve(slot, more) => self.edit(*slot, Edit::Reserve(*more)),
-            Command::Reinterpret(slot, kind) => self.convert(*slot, Conversion::Reinterpret(*kind)),
-            Command::ToSuperset(slot, kind) => self.convert(*slot, Conversion::ToSuperset(*kind)),
-            Command::ToSubset(slot, kind) => self.convert(*slot, Conversion::ToSubset(*kind)),
-            Command::WriteByte(slot, index, byte) => self.edit_bytes(
+            Command::Clear(slot) => self.change(*slot, Change::Edit(Clear)),
+            Command::Reserve(slot, more) => self.change(*slot, Change::Edit(Reserve(*more))),
+            Command::Reinterpret(slot, kind) => self.change(*slot, Convert(Reinterpret(*kind))),
+            Command::ToSuperset(slot, kind) => self.change(*slot, Convert(ToSuperset(*kind))),
+            Command::ToSubset(slot, kind) => self.change(*slot, Convert(ToSubset(*kind))),
+            Command::WriteByte(slot, index, byte) => self.change(
                 *slot,
-                ByteEdit::WriteByte(*index, *byte),
+                EditBytes(WriteByte(*index, *byte)),
             ),
             Command::Compare(first, second) => self.compare(*first, *second),
             Command::Text(slot) => self.text(*slot),
-            Command::Drop(slot) => self.drop_slot(*slot),
+            Command::Drop(slot) => self.change(*slot, Change::Drop),
         }
     }
 
@@ -175,26 +178,6 @@ impl<A: Atomicity> Table<A> {
             return gone();
         }
         self.slots[slot].push_bytes(bytes)
-    }
-
-    fn push_char(&mut self, slot: usize, character: char) -> Reply
-        ensures step { (class : _) → Step class self.old.cells (Command.PushChar slot character) result self.new.cells }
-        ensures room { self.old.room ≤ self.new.room }
-    {
-        if slot >= self.slots.len() {
-            return gone();
-        }
-        self.slots[slot].push_char(character)
-    }
-
-    fn pop_char(&mut self, slot: usize) -> Reply
-        ensures step { (class : _) → Step class self.old.cells (Command.PopChar slot) result self.new.cells }
-        ensures room { self.old.room ≤ self.new.room }
-    {
-        if slot >= self.slots.len() {
-            return gone();
-        }
-        self.slots[slot].pop_char()
     }
 
     fn pop_run<C: Classifier>(&mut self, slot: usize, classifier: &C) -> Reply
@@ -252,34 +235,15 @@ impl<A: Atomicity> Table<A> {
         reply
     }
 
-    fn edit(&mut self, slot: usize, edit: Edit) -> Reply
-        ensures edited { TableEdited self.old.cells slot edit result self.new.cells }
+    // One slot changes, where it is there.
+    fn change(&mut self, slot: usize, change: Change) -> Reply
+        ensures changed { TableChanged self.old.cells slot change result self.new.cells }
         ensures room { self.old.room ≤ self.new.room }
     {
         if slot >= self.slots.len() {
             return gone();
         }
-        self.slots[slot].edit(edit)
-    }
-
-    fn edit_bytes(&mut self, slot: usize, edit: ByteEdit) -> Reply
-        ensures edited { TableByteEdited self.old.cells slot edit result self.new.cells }
-        ensures room { self.old.room ≤ self.new.room }
-    {
-        if slot >= self.slots.len() {
-            return gone();
-        }
-        self.slots[slot].edit_bytes(edit)
-    }
-
-    fn convert(&mut self, slot: usize, conversion: Conversion) -> Reply
-        ensures converted { TableConverted self.old.cells slot conversion result self.new.cells }
-        ensures room { self.old.room ≤ self.new.room }
-    {
-        if slot >= self.slots.len() {
-            return gone();
-        }
-        self.slots[slot].convert(conversion)
+        self.slots[slot].change(change)
     }
 
     fn slice(&mut self, slot: usize, offset: u32, count: u32) -> Reply
@@ -340,15 +304,5 @@ impl<A: Atomicity> Table<A> {
             Some(slot) => slot.text(self.alloc),
             None => gone(),
         }
-    }
-
-    fn drop_slot(&mut self, slot: usize) -> Reply
-        ensures step { (class : _) → Step class self.old.cells (Command.Drop slot) result self.new.cells }
-        ensures room { self.old.room ≤ self.new.room }
-    {
-        if slot >= self.slots.len() {
-            return gone();
-        }
-        self.slots[slot].drop_text()
     }
 }

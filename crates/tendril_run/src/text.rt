@@ -3,7 +3,7 @@ ghost use Rattle.std.specs.Prelude.{◌≡◌, ◌<◌, ◌≤◌, ◌⊎◌, �
 ghost use Rattle.tendril.specs.Errors.{refusal_of};
 ghost use Rattle.tendril_run.specs.CellOf.{cell_of};
 ghost use Rattle.tendril_run.specs.Cells.{text as text_cell, valid_in, IsText};
-ghost use Rattle.tendril_run.specs.Characters.{first_of, without_first, run_bytes, IsFirstRun};
+ghost use Rattle.tendril_run.specs.Characters.{first_of, without_first, TakesFirstRun};
 ghost use Rattle.std.specs.Cmp.Lexicographic.{pointwise};
 ghost use Rattle.tendril_run.specs.Comparisons.{in_order};
 ghost use Rattle.tendril_run.specs.Edits.{TextEdited, BytesEdited};
@@ -68,16 +68,8 @@ pub(crate) fn pop_run<F: CharFormat, A: Atomicity, C: Classifier>(
     text: &mut Tendril<F, A>,
     classifier: &C,
 ) -> Result<Option<(Tendril<F, A>, u32)>, Refusal>
-    ensures ok { IfOk result (λ found. MatchOption found
-        ((F.chars text.old.bytes ≡ []) × (text.new.bytes ≡ text.old.bytes))
-        (λ run. IsFirstRun F.chars F.encoding (C.class classifier.now)
-        text.old.bytes run.1 run.0.bytes text.new.bytes)) }
-    ensures refusal { IfErr result (λ r.
-        CountMay (length (run_bytes F.encoding (C.class classifier.now) (F.chars text.old.bytes))) r
-        × CountMay (length (drop
-        (length (run_bytes F.encoding (C.class classifier.now) (F.chars text.old.bytes)))
-        text.old.bytes)) r) }
-    ensures err { OnErr result (text.new.bytes ≡ text.old.bytes) }
+    ensures taken { TakesFirstRun (λ t. t.bytes) F.chars F.encoding (C.class classifier.now)
+        text.old.bytes result text.new.bytes }
     ensures kept { IsText F.valid text.old.bytes → IsText F.valid text.new.bytes }
 {
     text.pop_front_char_run(|character| classifier.class_of(character))

@@ -16,7 +16,6 @@ use tendril_block::{Atomicity, LocalBlock, MAX_LEN};
 pub(crate) const INLINE: usize = 8;
 
 // Three words: the inline bytes begin on a border of 8, so that a copy moves whole words.
-#[derive(Drop)]
 enum Held<B> {
     Inline {
         len: u64,
@@ -29,6 +28,22 @@ enum Held<B> {
         offset: u32,
         len: u32,
     },
+}
+
+// By hand, so that each place that lets go of a text has one call, and not a way for each variant.
+impl<B: Drop> Drop for Held<B> {
+    #[inline]
+    fn drop(self) {
+        match self {
+            Held::Inline { len: _, buffer: _ } => {}
+            Held::View {
+                shared: _,
+                block,
+                offset: _,
+                len: _,
+            } => drop(block),
+        }
+    }
 }
 
 const _: () = prove!(size_of::<Held<LocalBlock>>() == 24);
@@ -105,7 +120,7 @@ impl<A: Atomicity> Storage<A> {
     }
 
     /// Where the bytes stand, in a word: `inline`, or in a block that is `shared` or `owned`.
-    pub fn kind(&self) -> &'static str {
+    pub fn standing(&self) -> &'static str {
         match &self.held {
             Held::Inline { .. } => "inline",
             Held::View { shared, .. } if shared.get() => "shared",

@@ -113,14 +113,14 @@ impl<A: Atomicity> Tendril<UTF8, A> {
     }
 }
 
-/// A text of a string, in the kind of block that is asked for.
+/// A text of a string, in the atomicity that is asked for.
 pub fn str_to_tendril<A: Atomicity>(alloc: Global, text: &str) -> Result<Tendril<UTF8, A>, Refusal>
     ensures { MakesText text.now result }
 {
     Tendril::<UTF8, A>::from_slice(alloc, text)
 }
 
-/// A text of bytes, in the kind of block that is asked for.
+/// A text of bytes, in the atomicity that is asked for.
 pub fn slice_to_tendril<A: Atomicity>(
     alloc: Global,
     bytes: &[u8],

@@ -35,8 +35,8 @@ impl<F: Format + Copy + Default + Debug, A: Atomicity> Tendril<F, A> {
     // Prints the format, where the text stands, and what it is seen as, as `Tendril<UTF8>(inline: "foobar")`.
     fn debug<T: Debug, W: Write>(&self, text: &T, f: &mut Formatter<W>) -> fmt::Result {
         let format = F::default();
-        let kind = self.storage.kind();
-        write!(f, "Tendril<{format:?}>({kind}: ")?;
+        let standing = self.storage.standing();
+        write!(f, "Tendril<{format:?}>({standing}: ")?;
         text.fmt(f)?;
         f.write_str(")")
     }

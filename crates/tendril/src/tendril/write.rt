@@ -47,7 +47,7 @@ impl<A: Atomicity> fmt::Write for Tendril<UTF8, A> {
 
 /// Bytes are put at the end whole, as by `push_slice`, or not at all.
 ///
-/// An error is of the kind `FileTooLarge` where the text would be longer than a text can be, else `OutOfMemory`.
+/// An error is `FileTooLarge` where the text would be longer than a text can be, else `OutOfMemory`.
 impl<A: Atomicity> io::Write for Tendril<Bytes, A> {
     ghost contents = { λ t. Some t.bytes };
 

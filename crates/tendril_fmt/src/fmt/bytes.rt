@@ -1,4 +1,4 @@
-//! Bytes of any kind.
+//! Any bytes.
 
 use crate::fmt::fixup::Fixup;
 use crate::fmt::format::Format;

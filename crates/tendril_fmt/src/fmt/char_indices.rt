@@ -70,7 +70,8 @@ impl<'a> Model for Utf8CharIndices<'a> {
 
     ghost Value = { List (ℕ × ℕ) };
 
-    ghost view = { λ it. places_from encode_utf8 (char_indices_offset it.characters) (chars (char_indices_rest it.characters)) };
+    ghost view = { λ it. places_from encode_utf8 (char_indices_offset it.characters)
+        (chars (char_indices_rest it.characters)) };
 
     ghost invariant = { λ it. IsAtUtf8 (char_indices_offset it.characters) (char_indices_rest it.characters) };
 }

@@ -28,7 +28,8 @@ impl Model for Encoded {
     // The list gives the fields back, which `Copy` asks for. So the bytes after it are fixed.
     ghost inverse = { λ list. record { bytes = padded list; len = length list } };
 
-    ghost inverse_ok = { λ e h. ap₂ (λ b n. record { bytes = b; len = n }) (padded-meant e.bytes e.len h) (length-meant e.bytes e.len h) };
+    ghost inverse_ok = { λ e h. ap₂ (λ b n. record { bytes = b; len = n })
+        (padded-meant e.bytes e.len h) (length-meant e.bytes e.len h) };
 }
 
 impl Encoded {
@@ -80,7 +81,8 @@ pub trait CharFormat: Format {
     /// however long the text is, and a character of ASCII costs a load and a test.
     fn first_char(bytes: &[u8]) -> Option<(char, usize)>
         requires { Self.valid bytes.now }
-        ensures first { IfSome result (λ found. IsFirstChar Self.valid chars encodes encoding bytes.now found.0 found.1) }
+        ensures first { IfSome result (λ found.
+            IsFirstChar Self.valid chars encodes encoding bytes.now found.0 found.1) }
         ensures none { IfNone result (bytes.now ≡ []) };
 
     /// The encoding of a character, or None where the format can't represent it. Takes no memory.
@@ -98,7 +100,8 @@ pub trait CharFormat: Format {
     ghost chars_encode: { (bytes : List ℕ) → Self.valid bytes → All encodes (chars bytes) };
 
     /// A text may be cut between any two of its characters, and each part keeps its own.
-    ghost cut: { (bytes cs ds : List ℕ) → Self.valid bytes → chars bytes ≡ cs ++ ds → AreTextsOf Self.valid chars encoding cs ds };
+    ghost cut: { (bytes cs ds : List ℕ) → Self.valid bytes → chars bytes ≡ cs ++ ds
+        → AreTextsOf Self.valid chars encoding cs ds };
 
     /// An encoding is a text.
     ghost encoding_valid: { (c : ℕ) → encodes c → Self.valid (encoding c) };

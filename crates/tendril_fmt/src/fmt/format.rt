@@ -24,7 +24,8 @@ pub trait Format {
 
     /// Whether a front of valid bytes is valid.
     fn validate_prefix(front: &[u8]) -> bool
-        ensures { (whole : List ℕ) → valid whole → IsFrontOf front.now whole → (IsTrue result ↔ valid front.now) }
+        ensures { (whole : List ℕ) → valid whole → IsFrontOf front.now whole
+            → (IsTrue result ↔ valid front.now) }
     {
         Self::validate(front)
     }
@@ -38,7 +39,8 @@ pub trait Format {
 
     /// Whether a slice of valid bytes is valid.
     fn validate_subseq(slice: &[u8]) -> bool
-        ensures { (whole : List ℕ) → valid whole → IsSliceOf slice.now whole → (IsTrue result ↔ valid slice.now) }
+        ensures { (whole : List ℕ) → valid whole → IsSliceOf slice.now whole
+            → (IsTrue result ↔ valid slice.now) }
     {
         Self::validate(slice)
     }

@@ -103,7 +103,8 @@ pub fn utf8_ends(first: &[u8], last: &[u8]) -> bool
 pub fn wtf8_ends(first: &[u8], last: &[u8]) -> bool
     requires first_short { length first.now ≤ 4 }
     requires last_short { length last.now ≤ 4 }
-    ensures ends { IsTrue result ↔ (PassesAsEnd IsWholeOrSurrogate first.now × PassesAsFront IsWholeOrSurrogate last.now) }
+    ensures ends { IsTrue result
+        ↔ (PassesAsEnd IsWholeOrSurrogate first.now × PassesAsFront IsWholeOrSurrogate last.now) }
     ensures slice { (part whole : List ℕ) → IsWtf8 whole → IsSliceOf part whole
         → first.now ≡ first_four_of part → last.now ≡ last_four_of part → (IsTrue result ↔ IsWtf8 part) }
 {

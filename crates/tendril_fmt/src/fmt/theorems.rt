@@ -27,9 +27,12 @@ pub fn laws()
     ensures join_appends_units { JoinAppendsUnits }
 
     // characters and their encodings
-    ensures ascii_chars { SpellText ⟦<ASCII as Format>⟧.valid ⟦<ASCII as CharFormat>⟧.chars ⟦<ASCII as CharFormat>⟧.encodes ⟦<ASCII as CharFormat>⟧.encoding }
-    ensures latin1_chars { SpellText ⟦<Latin1 as Format>⟧.valid ⟦<Latin1 as CharFormat>⟧.chars ⟦<Latin1 as CharFormat>⟧.encodes ⟦<Latin1 as CharFormat>⟧.encoding }
-    ensures utf8_chars { SpellText ⟦<UTF8 as Format>⟧.valid ⟦<UTF8 as CharFormat>⟧.chars ⟦<UTF8 as CharFormat>⟧.encodes ⟦<UTF8 as CharFormat>⟧.encoding }
+    ensures ascii_chars { SpellText ⟦<ASCII as Format>⟧.valid ⟦<ASCII as CharFormat>⟧.chars
+        ⟦<ASCII as CharFormat>⟧.encodes ⟦<ASCII as CharFormat>⟧.encoding }
+    ensures latin1_chars { SpellText ⟦<Latin1 as Format>⟧.valid ⟦<Latin1 as CharFormat>⟧.chars
+        ⟦<Latin1 as CharFormat>⟧.encodes ⟦<Latin1 as CharFormat>⟧.encoding }
+    ensures utf8_chars { SpellText ⟦<UTF8 as Format>⟧.valid ⟦<UTF8 as CharFormat>⟧.chars
+        ⟦<UTF8 as CharFormat>⟧.encodes ⟦<UTF8 as CharFormat>⟧.encoding }
     ensures place_is_length_before { PlaceIsLengthBefore }
 
     // the sequence round a byte is one

@@ -1,10 +1,9 @@
 //! Slots whose text changes its format.
-ghost use Rattle.std.specs.Prelude.{◌≡◌, IfOk, IfErr, None, Some};
 ghost use Rattle.tendril_run.specs.CellOf.{cell_of};
 ghost use Rattle.tendril_run.specs.Cells.{IsCell};
-ghost use Rattle.tendril_run.specs.OneCell.{CellConverted, ConversionMust, converted};
+ghost use Rattle.tendril_run.specs.OneCell.{CellChanged, Converts};
 
-use crate::change::Conversion;
+use crate::change::{Change, Conversion};
 use crate::command::{Kind, Reply};
 use crate::slot::Slot;
 use crate::text;
@@ -13,9 +12,9 @@ use tendril::Atomicity;
 use tendril::block::Refusal;
 
 impl<A: Atomicity> Slot<A> {
-    /// Changes the text's format.
-    pub(crate) fn convert(&mut self, conversion: Conversion) -> Reply
-        ensures converted { CellConverted (cell_of self.old) conversion result (cell_of self.new) }
+    // Changes the text's format.
+    pub(super) fn convert(&mut self, conversion: Conversion) -> Reply
+        ensures changed { CellChanged (cell_of self.old) (Change.Convert conversion) result (cell_of self.new) }
         ensures kept { IsCell (cell_of self.old) → IsCell (cell_of self.new) }
     {
         let old = mem::replace(self, Slot::Gone);
@@ -33,11 +32,7 @@ impl<A: Atomicity> Slot<A> {
 
     // The text in another format, or back with the refusal.
     fn converted(self, conversion: Conversion) -> Result<Self, (Refusal, Self)>
-        ensures ok { IfOk result (λ s.
-            ConversionMust (cell_of self) conversion None × (cell_of s ≡ converted (cell_of self) conversion)) }
-        ensures refusal { IfErr result (λ e. ConversionMust (cell_of self) conversion (Some e.0)
-            × (cell_of e.1 ≡ cell_of self)) }
-        ensures kept { IfOk result (λ s. IsCell (cell_of self) → IsCell (cell_of s)) }
+        ensures { Converts cell_of (cell_of self) conversion result }
     {
         match conversion {
             Conversion::Reinterpret(kind) => self.reinterpreted(kind),
@@ -47,11 +42,7 @@ impl<A: Atomicity> Slot<A> {
     }
 
     fn reinterpreted(self, kind: Kind) -> Result<Self, (Refusal, Self)>
-        ensures ok { IfOk result (λ s. ConversionMust (cell_of self) (Conversion.Reinterpret kind) None
-            × (cell_of s ≡ converted (cell_of self) (Conversion.Reinterpret kind))) }
-        ensures refusal { IfErr result (λ e. ConversionMust (cell_of self) (Conversion.Reinterpret kind) (Some e.0)
-            × (cell_of e.1 ≡ cell_of self)) }
-        ensures kept { IfOk result (λ s. IsCell (cell_of self) → IsCell (cell_of s)) }
+        ensures { Converts cell_of (cell_of self) (Conversion.Reinterpret kind) result }
     {
         match self {
             Slot::Bytes(text) => text::reinterpreted(text, kind).map_err(|back| (
@@ -79,11 +70,7 @@ impl<A: Atomicity> Slot<A> {
     }
 
     fn into_superset(self, kind: Kind) -> Result<Self, (Refusal, Self)>
-        ensures ok { IfOk result (λ s. ConversionMust (cell_of self) (Conversion.ToSuperset kind) None
-            × (cell_of s ≡ converted (cell_of self) (Conversion.ToSuperset kind))) }
-        ensures refusal { IfErr result (λ e. ConversionMust (cell_of self) (Conversion.ToSuperset kind) (Some e.0)
-            × (cell_of e.1 ≡ cell_of self)) }
-        ensures kept { IfOk result (λ s. IsCell (cell_of self) → IsCell (cell_of s)) }
+        ensures { Converts cell_of (cell_of self) (Conversion.ToSuperset kind) result }
     {
         match (self, kind) {
             (Slot::Ascii(text), Kind::Utf8) => Ok(Slot::Utf8(text.into_superset())),
@@ -95,11 +82,7 @@ impl<A: Atomicity> Slot<A> {
     }
 
     fn into_subset(self, kind: Kind) -> Result<Self, (Refusal, Self)>
-        ensures ok { IfOk result (λ s. ConversionMust (cell_of self) (Conversion.ToSubset kind) None
-            × (cell_of s ≡ converted (cell_of self) (Conversion.ToSubset kind))) }
-        ensures refusal { IfErr result (λ e. ConversionMust (cell_of self) (Conversion.ToSubset kind) (Some e.0)
-            × (cell_of e.1 ≡ cell_of self)) }
-        ensures kept { IfOk result (λ s. IsCell (cell_of self) → IsCell (cell_of s)) }
+        ensures { Converts cell_of (cell_of self) (Conversion.ToSubset kind) result }
     {
         match (self, kind) {
             (Slot::Utf8(text), Kind::Ascii) => match text.try_into_subset() {

@@ -19,46 +19,46 @@ pub returns-in-Text-clause-step : goal.returns-in-Text-clause-step
 returns-in-Text-clause-step g c = rw c.in-Text.is (c.text.ensures (g.C.Classifier.class c.args.classifier.now))
 
 pub returns-in-Drop-clause-step : goal.returns-in-Drop-clause-step
-returns-in-Drop-clause-step g c = rw c.in-Drop.is (c.drop_slot.ensures.step (g.C.Classifier.class c.args.classifier.now))
+returns-in-Drop-clause-step g c = rw c.in-Drop.is (c.change-in-Drop.ensures.changed)
 
 pub returns-in-PushTendril-clause-step : goal.returns-in-PushTendril-clause-step
 returns-in-PushTendril-clause-step g c = rw c.in-PushTendril.is (c.join.ensures.step (g.C.Classifier.class c.args.classifier.now))
 
 pub returns-in-PopFront-clause-step : goal.returns-in-PopFront-clause-step
-returns-in-PopFront-clause-step g c = rw c.in-PopFront.is (c.edit.ensures.edited)
+returns-in-PopFront-clause-step g c = rw c.in-PopFront.is (c.change-in-PopFront.ensures.changed)
 
 pub returns-in-PopBack-clause-step : goal.returns-in-PopBack-clause-step
-returns-in-PopBack-clause-step g c = rw c.in-PopBack.is (c.edit-in-PopBack.ensures.edited)
+returns-in-PopBack-clause-step g c = rw c.in-PopBack.is (c.change-in-PopBack.ensures.changed)
 
 pub returns-in-Clear-clause-step : goal.returns-in-Clear-clause-step
-returns-in-Clear-clause-step g c = rw c.in-Clear.is (c.edit-in-Clear.ensures.edited)
+returns-in-Clear-clause-step g c = rw c.in-Clear.is (c.change-in-Clear.ensures.changed)
 
 pub returns-in-Reserve-clause-step : goal.returns-in-Reserve-clause-step
-returns-in-Reserve-clause-step g c = rw c.in-Reserve.is (c.edit-in-Reserve.ensures.edited)
+returns-in-Reserve-clause-step g c = rw c.in-Reserve.is (c.change-in-Reserve.ensures.changed)
 
 pub returns-in-Reinterpret-clause-step : goal.returns-in-Reinterpret-clause-step
-returns-in-Reinterpret-clause-step g c = rw c.in-Reinterpret.is (c.convert.ensures.converted)
+returns-in-Reinterpret-clause-step g c = rw c.in-Reinterpret.is (c.change-in-Reinterpret.ensures.changed)
 
 pub returns-in-ToSuperset-clause-step : goal.returns-in-ToSuperset-clause-step
-returns-in-ToSuperset-clause-step g c = rw c.in-ToSuperset.is (c.convert-in-ToSuperset.ensures.converted)
+returns-in-ToSuperset-clause-step g c = rw c.in-ToSuperset.is (c.change-in-ToSuperset.ensures.changed)
 
 pub returns-in-ToSubset-clause-step : goal.returns-in-ToSubset-clause-step
-returns-in-ToSubset-clause-step g c = rw c.in-ToSubset.is (c.convert-in-ToSubset.ensures.converted)
+returns-in-ToSubset-clause-step g c = rw c.in-ToSubset.is (c.change-in-ToSubset.ensures.changed)
 
 pub returns-in-PushChar-clause-step : goal.returns-in-PushChar-clause-step
-returns-in-PushChar-clause-step g c = rw c.in-PushChar.is (c.push_char.ensures.step (g.C.Classifier.class c.args.classifier.now))
+returns-in-PushChar-clause-step g c = rw c.in-PushChar.is (c.change.ensures.changed)
 
 pub returns-in-PopChar-clause-step : goal.returns-in-PopChar-clause-step
-returns-in-PopChar-clause-step g c = rw c.in-PopChar.is (c.pop_char.ensures.step (g.C.Classifier.class c.args.classifier.now))
+returns-in-PopChar-clause-step g c = rw c.in-PopChar.is (c.change-in-PopChar.ensures.changed)
 
 pub returns-in-PopRun-clause-step : goal.returns-in-PopRun-clause-step
 returns-in-PopRun-clause-step g c = rw c.in-PopRun.is (c.pop_run.ensures.step)
 
 pub returns-in-PushZeros-clause-step : goal.returns-in-PushZeros-clause-step
-returns-in-PushZeros-clause-step g c = rw c.in-PushZeros.is (c.edit_bytes.ensures.edited)
+returns-in-PushZeros-clause-step g c = rw c.in-PushZeros.is (c.change-in-PushZeros.ensures.changed)
 
 pub returns-in-WriteByte-clause-step : goal.returns-in-WriteByte-clause-step
-returns-in-WriteByte-clause-step g c = rw c.in-WriteByte.is (c.edit_bytes-in-WriteByte.ensures.edited)
+returns-in-WriteByte-clause-step g c = rw c.in-WriteByte.is (c.change-in-WriteByte.ensures.changed)
 
 pub returns-in-Compare-clause-step : goal.returns-in-Compare-clause-step
 returns-in-Compare-clause-step g c = rw c.in-Compare.is (c.compare.ensures (g.C.Classifier.class c.args.classifier.now))

@@ -1,7 +1,7 @@
 //! Commands in order.
 ghost use Rattle.std.specs.Prelude.{◌≡◌, IfOk, IfErr, OnErr, All};
 ghost use Rattle.tendril_run.specs.Cells.{IsCell};
-ghost use Rattle.tendril_run.specs.Runs.{Run};
+ghost use Rattle.tendril_run.specs.Chains.{Chain};
 
 use crate::classifier::Classifier;
 use crate::command::{Command, Reply};
@@ -19,7 +19,7 @@ pub fn run<A: Atomicity, C: Classifier>(
     classifier: &C,
 ) -> Result<Vec<Reply>, Refusal>
     ensures run { IfOk result (λ replies.
-        Run (C.class classifier.now) table.old.cells commands.now replies.items table.new.cells) }
+        Chain (C.class classifier.now) table.old.cells commands.now replies.items table.new.cells) }
     ensures valid { All IsCell table.new.cells }
     ensures refusal { IfErr result (λ r. r ≡ Refusal.Memory) }
     ensures err { OnErr result (table.new.cells ≡ table.old.cells) }
