@@ -1,5 +1,5 @@
 //! Characters of texts, and runs of them.
-ghost use Rattle.std.specs.Prelude.{◌≡◌, ◌<◌, ◌≤◌, ◌+◌, ◌-◌, ◌++◌, ◌∷◌, [], length, take, drop, max, encode_utf8, IfSome, IfNone, IfOk, IfErr, OnOk, OnErr, OnSome, IsOk, MatchOption};
+ghost use Rattle.std.specs.Prelude.{◌≡◌, ◌<◌, ◌≤◌, ◌+◌, ◌-◌, ◌++◌, ◌∷◌, [], length, drop, encode_utf8, IfSome, IfNone, IfOk, IfErr, OnErr, OnSome, IsOk, MatchOption};
 ghost use Rattle.tendril.specs.Characters.{EndsRun, HasLongParts, IsRun};
 ghost use Rattle.tendril.specs.Pushes.{Joins, JoinsChar};
 ghost use Rattle.tendril_storage.specs.Texts.{Keeps, Parts};

@@ -1,5 +1,5 @@
 //! Texts seen in another format.
-ghost use Rattle.std.specs.Prelude.{◌≡◌, ◌<◌, ◌≤◌, ◌+◌, length, take, drop, IfOk, IfErr, OnOk};
+ghost use Rattle.std.specs.Prelude.{◌≡◌, ◌<◌, ◌≤◌, ◌+◌, length};
 ghost use Rattle.tendril.specs.Parts.{Clones, SlicesValid};
 
 use crate::error::SubtendrilError;

@@ -2,6 +2,7 @@
 //! test first makes as many requests as bring that refusal where it wants it. With no refusal all of them pass.
 
 mod behind;
+mod dropped;
 mod long;
 mod short;
 mod strings;

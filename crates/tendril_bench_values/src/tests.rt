@@ -3,6 +3,4 @@
 
 mod compared;
 mod items;
-mod printed;
 mod strings;
-mod writing;

@@ -4,7 +4,7 @@ use Rattle.tendril_block.specs.declared.refusal.Refusal.TheVariants.{Memory, NoS
 use Rattle.tendril_run.specs.Cells.{Cell, IsCell, gone, text, valid_in, join_in, IsPartOf}
 use Rattle.tendril_run.specs.Characters.{HasChars, IsCharIn, chars_in, encoding_in, first_of, without_first, run_bytes, FirstRunMay}
 use Rattle.tendril_run.specs.Edits.{EditMust, EditMay, edited, ByteEditMust, ByteEditMay, byte_edited}
-use Rattle.tendril_block.specs.Outcomes.{NoneMust, First, LengthMust, ValidMust, BytesMust, MemoryMay, SliceMust, CharMust, CountMay, NoneMay}
+use Rattle.tendril_block.specs.Outcomes.{NoneMust, First, LengthMust, ValidMust, BytesMust, MemoryMay, SliceMust, CharMust, CountMay}
 use Rattle.tendril_run.specs.Rules.{Replied, Answered, Changed}
 use Rattle.tendril_run.specs.declared.change.Change.{Change}
 use Rattle.tendril_run.specs.declared.change.Change.TheVariants as change

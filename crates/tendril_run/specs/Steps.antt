@@ -3,8 +3,7 @@ use Rattle.tendril_block.specs.declared.refusal.Refusal.{Refusal}
 use Rattle.tendril_block.specs.declared.refusal.Refusal.TheVariants.{Memory}
 use Rattle.tendril_run.specs.Cells.{Cell, gone, text, valid_in, cell_at}
 use Rattle.tendril_run.specs.Comparisons.{CompareMust, TellsComparison}
-use Rattle.tendril_run.specs.Edits.{EditMay}
-use Rattle.tendril_block.specs.Outcomes.{NoneMust, BytesMust, MemoryMay, CountMay, NoneMay}
+use Rattle.tendril_block.specs.Outcomes.{NoneMust, BytesMust, MemoryMay, CountMay}
 use Rattle.tendril_run.specs.Rules.{Replied}
 use Rattle.tendril_run.specs.OneCell.{CellMust, CellSliceMust, CellCloneMay, part, PushMust, PushMay, pushed, JoinMust, JoinMay, joined, PushCharMust, encoding_of, CharsMust, char_of, char_popped, run_of, run_popped, RunMay, CellEditMust, edited_cell, CellByteEditMust, CellByteEditMay, byte_edited_cell, ConversionMust, converted, ChangeMust, ChangeMay, changed, change_reply, Tells}
 use Rattle.tendril_run.specs.declared.change.Change.{Change}

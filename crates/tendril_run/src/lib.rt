@@ -21,6 +21,3 @@ pub use reply::print_reply;
 pub use slot::Slot;
 pub use table::{Table, run};
 pub use tendril_words::ByteList;
-
-#[cfg(test)]
-mod tests;

@@ -1,5 +1,5 @@
 //! The lines of commands.
-ghost use Rattle.std.specs.Prelude.{◌≡◌, ◌↔◌, ℕ, List, map, Some, IfOk, IfErr};
+ghost use Rattle.std.specs.Prelude.{◌≡◌, ◌↔◌, ℕ, map, Some, IfOk, IfErr};
 ghost use Rattle.tendril_run.specs.Lines.{AreWords, IsLine, words_of};
 ghost use Rattle.tendril_run.specs.Verbs.{Reads};
 

@@ -1,5 +1,5 @@
 //! One slot of a table. The format is picked here, once for each call; `text` is generic in it.
-ghost use Rattle.std.specs.Prelude.{◌≡◌, ◌⊎◌, ℕ, [], length, IfOk, IfErr, OnErr, MatchOption, None, Some};
+ghost use Rattle.std.specs.Prelude.{◌≡◌, ◌⊎◌, ℕ, [], length, MatchOption, None, Some};
 ghost use Rattle.tendril_run.specs.CellOf.{cell_of};
 ghost use Rattle.tendril_run.specs.Cells.{IsCell, text as text_cell, valid_in};
 ghost use Rattle.tendril_run.specs.Comparisons.{CellsCompared};

@@ -1,7 +1,7 @@
 //! Texts in numbered slots.
-ghost use Rattle.std.specs.Prelude.{◌≡◌, ◌≤◌, ◌<◌, ◌+◌, ◌⊎◌, ◌++◌, ◌∷◌, ◌≢◌, [], length, IfOk, IfErr, OnOk, OnErr, IsOk, Some, None, MatchOption, All};
+ghost use Rattle.std.specs.Prelude.{◌≡◌, ◌≤◌, ◌<◌, ◌+◌, ◌⊎◌, ◌++◌, ◌∷◌, ◌≢◌, [], length, IfErr, OnOk, OnErr, IsOk, Some, None, MatchOption, All};
 ghost use Rattle.tendril_run.specs.CellOf.{cell_of};
-ghost use Rattle.tendril_run.specs.Cells.{Cell, IsCell, gone, cell_at};
+ghost use Rattle.tendril_run.specs.Cells.{IsCell, gone, cell_at};
 ghost use Rattle.tendril_run.specs.OneCell.{CellMust, CellSliceMust, CellCloneMay, part};
 ghost use Rattle.tendril_block.specs.Outcomes.{CountMay, Gives};
 ghost use Rattle.tendril_run.specs.Steps.{Step, TableChanged};

@@ -1,5 +1,5 @@
 //! What commands do to a text, in any format.
-ghost use Rattle.std.specs.Prelude.{◌≡◌, ◌<◌, ◌≤◌, ◌⊎◌, ◌↔◌, length, take, drop, IsTrue, IfOk, IfErr, OnOk, OnErr, MatchOption, [], None, Some, nat_eq, if◌then◌else◌};
+ghost use Rattle.std.specs.Prelude.{◌≡◌, ◌<◌, ◌≤◌, ◌⊎◌, ◌↔◌, length, take, drop, IsTrue, IfOk, IfErr, OnOk, [], nat_eq, if◌then◌else◌};
 ghost use Rattle.tendril.specs.Errors.{refusal_of};
 ghost use Rattle.tendril_run.specs.CellOf.{cell_of};
 ghost use Rattle.tendril_run.specs.Cells.{text as text_cell, valid_in, IsText};

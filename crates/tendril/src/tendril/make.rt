@@ -1,5 +1,5 @@
 //! Texts that are made: empty ones, and copies of bytes, strings and other texts.
-ghost use Rattle.std.specs.Prelude.{◌≡◌, ◌<◌, [], length, string_bytes, IfOk, IfErr};
+ghost use Rattle.std.specs.Prelude.{◌≡◌, ◌<◌, [], string_bytes};
 ghost use Rattle.tendril.specs.Making.{IsTextOf, MakesText, MakesValidText};
 ghost use Rattle.tendril.specs.Parts.{Clones};
 ghost use Rattle.tendril_block.specs.Outcomes.{NoneMust, MemoryMay, Gives};

@@ -1,5 +1,5 @@
 //! Parts of texts: slices that are given, and pops that leave the rest.
-ghost use Rattle.std.specs.Prelude.{◌≡◌, ◌<◌, ◌≤◌, ◌+◌, ◌-◌, ◌↔◌, length, take, drop, IsTrue, IfOk, IfErr, OnOk, OnErr};
+ghost use Rattle.std.specs.Prelude.{◌≡◌, ◌<◌, ◌≤◌, ◌+◌, ◌-◌, ◌↔◌, length, take, drop, IsTrue};
 ghost use Rattle.tendril.specs.Parts.{Slices, SlicesValid, PopsValid};
 
 use crate::error::SubtendrilError;

@@ -1,5 +1,6 @@
 //! Texts: that calls succeed where there is memory, how large a text is, and when it is shared.
 
+use std::fs::{self, Files};
 use std::test::Fail;
 use tendril::block::Refusal;
 use tendril::fmt::Bytes;
@@ -197,6 +198,27 @@ fn a_queue_of_pieces(rt: HostRuntime) -> Result<(), Fail> {
     // The last three rounds are 99997 to 99999, which leave 99, 100 and 101.
     let left = [[99u8; 24], [100; 24], [101; 24]];
     assert_eq!(rt; queue.as_byte_slice(), left.as_flattened());
+    Ok(())
+}
+
+// How much memory the process holds, in pages, as Linux tells it.
+fn resident_pages(rt: &(impl Files + AllocGlobal)) -> Result<u64, Fail> {
+    let told = fs::read_to_string(rt, "/proc/self/statm")?;
+    let pages = told.split(' ').nth(1).ok_or("no second number")?;
+    Ok(pages.parse::<u64>()?)
+}
+
+#[test]
+fn a_queue_holds_no_more_memory_the_longer_it_runs(rt: HostRuntime) -> Result<(), Fail> {
+    let mut queue: ByteTendril = slice_to_tendril(rt.alloc(), &[b'x'; 128])?;
+    let before = resident_pages(&rt)?;
+    for _ in 0..10_000_000u32 {
+        queue.push_slice(b"01234567")?;
+        queue.try_pop_front(8)?;
+    }
+    assert_eq!(rt; queue.len32(), 128);
+    // All that went through would be some 20000 pages.
+    assert!(rt; resident_pages(&rt)?.saturating_sub(before) < 200);
     Ok(())
 }
 

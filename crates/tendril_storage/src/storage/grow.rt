@@ -17,12 +17,26 @@ impl<A: Atomicity> Storage<A> {
         ensures refusal { IfErr result (MemoryMay (keep + length middle.now + length more.now)) }
         ensures err { OnErr result (self.new ≡ self.old) }
     {
-        if self.replaces_in_place(keep, middle, more) {
+        if !self.is_mostly_dropped() && self.replaces_in_place(keep, middle, more) {
             return Ok(());
         }
-        let copy = Self::from_parts(self.alloc, &self.as_slice()[..keep], middle, more)?;
-        *self = copy;
-        Ok(())
+        match Self::from_parts(self.alloc, &self.as_slice()[..keep], middle, more) {
+            Ok(copy) => {
+                *self = copy;
+                Ok(())
+            }
+            Err(_) if self.replaces_in_place(keep, middle, more) => Ok(()),
+            Err(refusal) => Err(refusal),
+        }
+    }
+
+    // Whether far more bytes were popped off the front of the block than there are. Whoever changes such bytes tries a
+    // new block first, so that those are let go of; each of these was popped, so a copy is paid for.
+    pub(super) fn is_mostly_dropped(&self) -> bool {
+        match &self.held {
+            Held::Inline { .. } => false,
+            Held::View { offset, len, .. } => *offset as u64 > 2 * *len as u64 + 64,
+        }
     }
 
     // The same without memory for a new block; whether it could be done.
@@ -57,8 +71,7 @@ impl<A: Atomicity> Storage<A> {
                 len,
             } => {
                 let start = *offset as usize;
-                // Where more bytes were popped off the front than there are, a copy of these lets go of those.
-                if start > total || total > MAX_LEN as usize - start {
+                if total > MAX_LEN as usize - start {
                     return false;
                 }
                 if !replaces_alone::<A>(block, start + keep, middle, more) {
@@ -83,19 +96,19 @@ impl<A: Atomicity> Storage<A> {
         if total <= INLINE {
             return Ok(());
         }
+        if self.is_mostly_dropped() && self.spill(total).is_ok() {
+            return Ok(());
+        }
         match &mut self.held {
             Held::Inline { .. } => self.spill(total),
             Held::View {
                 shared,
                 block,
                 offset,
-                len,
+                ..
             } => {
                 if shared.get() {
                     return Ok(());
-                }
-                if *offset > *len {
-                    return self.spill(total);
                 }
                 reserve_alone::<A>(block, *offset as usize + total)
             }

@@ -17,17 +17,44 @@ impl<A: Atomicity> Storage<A> {
         ensures refusal { IfErr result (MemoryMay (length self.old.bytes)) }
         ensures err { OnErr result (self.new ≡ self.old) }
     {
-        let edit = match self.writes_in_block(edit) {
+        let moves = self.is_mostly_dropped();
+        let written = if moves {
+            self.writes_in_copy(edit)
+        } else {
+            self.writes_in_block(edit)
+        };
+        let edit = match written {
             Ok(answer) => return Ok(answer),
             Err(edit) => edit,
         };
         if self.as_slice().len() <= INLINE {
             return Ok(self.write_inline(edit));
         }
-        let mut copy = Self::from_slice(self.alloc, self.as_slice())?;
-        let Ok(answer) = copy.writes_in_block(edit) else {
-            return Err(Refusal::Memory); // the block was made for this copy, so it is alone
+        let written = if moves {
+            self.writes_in_block(edit)
+        } else {
+            self.writes_in_copy(edit)
         };
+        match written {
+            Ok(answer) => Ok(answer),
+            Err(_) => Err(Refusal::Memory),
+        }
+    }
+
+    // The same in a new block, where there is memory for one and it is needed; else hands `edit` back.
+    fn writes_in_copy<R, E: FnOnce(&mut [u8]) -> R>(&mut self, edit: E) -> Result<R, E>
+        requires { FnOnceTakesAtMut E.FnOnce edit self.old.bytes }
+        ensures bytes { IfOk result (λ r. FnOnceReturnsAtMut E.FnOnce edit self.old.bytes r self.new.bytes) }
+        ensures are_bytes { OnOk result ((i : ℕ) → slice_index self.new.bytes i < 256) }
+        ensures len { length self.new.bytes ≡ length self.old.bytes }
+        ensures copied { OnOk result (self.new.copied ≡ length self.old.bytes) }
+        ensures back { IfErr result (λ e. e ≡ edit) }
+        ensures err { OnErr result (self.new ≡ self.old) }
+    {
+        let Ok(mut copy) = Self::from_slice(self.alloc, self.as_slice()) else {
+            return Err(edit);
+        };
+        let answer = copy.writes_in_block(edit)?;
         *self = copy;
         Ok(answer)
     }

@@ -20,15 +20,30 @@ impl<A: Atomicity> Storage<A> {
         if len + count <= INLINE {
             return self.replace_end(len, &[], &[0; INLINE][..count]);
         }
-        if self.pushes_zeros_in_place(count) {
+        if !self.is_mostly_dropped() && self.pushes_zeros_in_place(count) {
             return Ok(());
         }
-        let Ok(bytes) = padded(self.alloc, self.as_slice(), count) else {
+        match Self::padded(self.alloc, self.as_slice(), count) {
+            Ok(copy) => {
+                *self = copy;
+                Ok(())
+            }
+            Err(_) if self.pushes_zeros_in_place(count) => Ok(()),
+            Err(refusal) => Err(refusal),
+        }
+    }
+
+    // A copy of bytes with so many zeros behind it, in a block.
+    fn padded(alloc: Global, bytes: &[u8], count: usize) -> Result<Self, Refusal>
+        requires { length bytes.now + count ≤ MAX_LEN }
+        ensures bytes { IfOk result (λ s. s.bytes ≡ bytes.now ++ replicate count 0) }
+        ensures copied { IfOk result (λ s. s.copied ≡ length bytes.now + count) }
+        ensures refusal { IfErr result (λ r. r ≡ Refusal.Memory) }
+    {
+        let Ok(copy) = with_zeros(alloc, bytes, count) else {
             return Err(Refusal::Memory);
         };
-        let copy = Self::in_block(self.alloc, bytes)?;
-        *self = copy;
-        Ok(())
+        Self::in_block(alloc, copy)
     }
 
     // The same in the block alone; whether it could be done.
@@ -48,7 +63,7 @@ impl<A: Atomicity> Storage<A> {
                 len,
             } => {
                 let end = *offset as usize + *len as usize;
-                if *offset as usize > *len as usize + count || count > MAX_LEN as usize - end {
+                if count > MAX_LEN as usize - end {
                     return false;
                 }
                 if !appends_zeros_alone::<A>(block, end, count) {
@@ -81,7 +96,7 @@ fn appends_zeros_alone<A: Atomicity>(block: &mut A::Block, keep: usize, count: u
 }
 
 // Bytes and then so many zeros, in a vector.
-fn padded(alloc: Global, bytes: &[u8], count: usize) -> Result<Vec<u8>, AllocError>
+fn with_zeros(alloc: Global, bytes: &[u8], count: usize) -> Result<Vec<u8>, AllocError>
     requires { length bytes.now + count ≤ MAX_LEN }
     ensures { IfOk result (λ v. v.items ≡ bytes.now ++ replicate count 0) }
 {

@@ -1,12 +1,12 @@
 //! What no contract says: that these calls succeed where there is memory.
 
-use crate::{
-    ByteList, Classifier, Command, Kind, Reply, Slot, Table, parse_line, print_reply, run,
-};
 use std::alloc::Global;
 use std::test::Fail;
 use tendril::block::Refusal;
 use tendril::{NonAtomic, slice_to_tendril};
+use tendril_run::{
+    ByteList, Classifier, Command, Kind, Reply, Slot, Table, parse_line, print_reply, run,
+};
 
 struct OneClass;
 
