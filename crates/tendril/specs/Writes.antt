@@ -1,7 +1,8 @@
-use Rattle.std.specs.Prelude.{ℕ, ◌≡◌, ◌≤◌, ◌<◌, ◌⊎◌, List, ◌++◌, length, Option, Some, None, MatchOption}
+use Rattle.std.specs.Prelude.{ℕ, ◌≡◌, ◌≤◌, ◌<◌, ◌⊎◌, List, ◌++◌, length, Option, Some, None, MatchOption, Result, MatchResult}
 use Rattle.std.specs.declared.io.ErrorKind.{ErrorKind}
 use Rattle.std.specs.declared.io.ErrorKind.TheVariants.{FileTooLarge, OutOfMemory}
 use Rattle.tendril.specs.Items.{LengthRefused}
+use Rattle.tendril_storage.specs.Texts.{Text}
 use Rattle.tendril_block.specs.declared.atomicity.TheConstants.{MAX_LEN}
 use Rattle.tendril_block.specs.declared.refusal.Refusal.{Refusal}
 use Rattle.tendril_block.specs.declared.refusal.Refusal.TheVariants.{TooLong, Memory}
@@ -17,6 +18,10 @@ IsFrontRefused bytes r = (n : ℕ) × (n ≤ length bytes) × LengthRefused n r
 -- what a printer has after these bytes: them, or why a push of them was refused
 abbrev pub IsPrinted : List ℕ → List ℕ → Option Refusal → Type 0
 IsPrinted bytes c q = MatchOption q (c ≡ bytes) (IsFrontRefused bytes)
+
+-- a value that prints these bytes gives them as a text, or why a push of them is refused
+abbrev pub Prints : List ℕ → Result Text Refusal → Type 0
+Prints bytes result = MatchResult result (λ t. t.bytes ≡ bytes) (IsFrontRefused bytes)
 
 -- What a printer does with a piece: the text b, and why a push was refused, become c and q. It pushes the piece, or keeps
 -- why that is refused. Once a push was refused, nothing changes.

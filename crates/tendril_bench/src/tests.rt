@@ -1,8 +1,6 @@
 //! Each file tests one subject. What is expected comes from Unicode's table of well-formed UTF-8, from std, or from
 //! rows written by hand, and never from what the calls answered.
 
-mod characters;
-mod classified;
 mod formats;
 mod joined;
 mod parts;

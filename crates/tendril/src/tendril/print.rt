@@ -1,7 +1,7 @@
 //! How texts are printed, and texts that values are printed into.
-ghost use Rattle.std.specs.Prelude.{◌≡◌, ◌++◌, Some, IfOk, IfErr, IfSome, OnOk};
+ghost use Rattle.std.specs.Prelude.{◌++◌, Some, IfErr, IfSome, OnOk};
 ghost use Rattle.std.specs.Fmt.{styled_text};
-ghost use Rattle.tendril.specs.Writes.{IsGrowthRefusal, IsPrinted, TakesPiece};
+ghost use Rattle.tendril.specs.Writes.{IsGrowthRefusal, IsPrinted, Prints, TakesPiece};
 
 use crate::tendril::Tendril;
 use std::alloc::Global;
@@ -45,29 +45,28 @@ impl<F: Format + Copy + Default + Debug, A: Atomicity> Tendril<F, A> {
 impl<A: Atomicity> Tendril<UTF8, A> {
     /// The text that a value prints. Where the value's own `Display` fails, it is what was printed before.
     ///
-    /// `print` says which of the two it is. Where a push was refused, so are both, whatever `Display` answered.
+    /// `print` answers what `Display` did too, and so says exactly when a push is refused.
     pub fn format<T: Display>(alloc: Global, value: &T) -> Result<Self, Refusal>
         ensures refusal { IfErr result IsGrowthRefusal }
     {
-        let (text, _) = Self::print(alloc, value)?;
-        Ok(text)
+        Self::print(alloc, value).0
     }
 
-    /// The text that a value prints, and what its `Display` answered.
+    /// The text that a value prints, or why a push of it was refused, and beside it what its `Display` answered.
     ///
-    /// A value's `Display` sees no refused push: what it prints after one is dropped, and the call is refused once it is
-    /// done. Where `Display` fails of itself, the text is what was printed before.
-    pub fn print<T: Display>(alloc: Global, value: &T) -> Result<(Self, fmt::Result), Refusal>
-        ensures whole { IfOk result (λ printed.
-            OnOk printed.1 (IfSome (T.output value.now) (λ bytes. printed.0.bytes ≡ bytes))) }
-        ensures refusal { IfErr result IsGrowthRefusal }
+    /// A value's `Display` sees no refused push: what it prints after one is dropped. Where it fails of itself, the text
+    /// is what was printed before.
+    pub fn print<T: Display>(alloc: Global, value: &T) -> (Result<Self, Refusal>, fmt::Result)
+        ensures whole { OnOk result.1 (IfSome (T.output value.now) (λ bytes. Prints bytes result.0)) }
+        ensures refusal { IfErr result.0 IsGrowthRefusal }
     {
-        let (Printer { text, refused }, printed) = Printer::print_value(alloc, value);
-        match refused {
+        let (Printer { text, refused }, answered) = Printer::print_value(alloc, value);
+        let text = match refused {
+            None => Ok(text),
             Some(Refusal::TooLong) => Err(Refusal::TooLong),
             Some(_) => Err(Refusal::Memory), // a push is refused for no other reason
-            None => Ok((text, printed)),
-        }
+        };
+        (text, answered)
     }
 }
 

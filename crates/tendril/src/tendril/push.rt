@@ -46,8 +46,8 @@ impl<F: Format, A: Atomicity> Tendril<F, A> {
         self.push_bytes_without_validating(other.as_byte_slice())
     }
 
-    /// Makes room for so many more bytes, so that pushing them takes no memory. A text that is marked shared is left as
-    /// it is: its next push may copy it.
+    /// Asks for room for so many more bytes at once. Room is what contracts don't see. A text that is marked shared is
+    /// left as it is: its next push may copy it.
     pub fn reserve(&mut self, more: u32) -> Result<(), Refusal>
         ensures { Reserves more self.old result self.new }
     {

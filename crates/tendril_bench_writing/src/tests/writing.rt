@@ -197,11 +197,11 @@ impl Display for Breaks {
 fn a_value_whose_display_fails(rt: HostRuntime) -> Result<(), Fail> {
     let text = StrTendril::<NonAtomic>::format(rt.alloc(), &Breaks)?;
     assert_eq!(rt; text.as_byte_slice(), b"so far, so good".as_slice());
-    let (text, printed) = StrTendril::<NonAtomic>::print(rt.alloc(), &Breaks)?;
-    assert_eq!(rt; text.as_byte_slice(), b"so far, so good".as_slice());
-    assert!(rt; printed.is_err());
-    let (text, printed) = StrTendril::<NonAtomic>::print(rt.alloc(), &"all of it")?;
-    assert_eq!(rt; text.as_byte_slice(), b"all of it".as_slice());
-    assert!(rt; printed.is_ok());
+    let (text, answered) = StrTendril::<NonAtomic>::print(rt.alloc(), &Breaks);
+    assert_eq!(rt; text?.as_byte_slice(), b"so far, so good".as_slice());
+    assert!(rt; answered.is_err());
+    let (text, answered) = StrTendril::<NonAtomic>::print(rt.alloc(), &"all of it");
+    assert_eq!(rt; text?.as_byte_slice(), b"all of it".as_slice());
+    assert!(rt; answered.is_ok());
     Ok(())
 }

@@ -1,8 +1,8 @@
 //! Characters: their encodings in each format, and the places of a text's own.
 
-use crate::callers::leading_digits;
-use crate::doubled::Doubled;
 use std::test::Fail;
+use tendril_bench::callers::leading_digits;
+use tendril_bench::doubled::Doubled;
 use tendril_fmt::fmt::{
     ASCII, CharFormat, Encoded, Latin1, SingleByteCharIndices, UTF8, Utf8CharIndices,
 };
