@@ -31,6 +31,12 @@ impl From<SubtendrilError> for Refusal {
 }
 
 impl fmt::Display for SubtendrilError {
+    ghost use Rattle.std.specs.Prelude.{Some};
+    ghost use Rattle.tendril.specs.Errors.{refusal_of};
+    ghost use Rattle.tendril_block.specs.Refusals.{name_of};
+
+    ghost output = { λ e. Some (name_of (refusal_of e)) };
+
     fn fmt<W: fmt::Write>(&self, f: &mut fmt::Formatter<W>) -> fmt::Result {
         f.write_str(Refusal::from(*self).name())
     }

@@ -3,6 +3,7 @@
 
 mod behind;
 mod dropped;
+mod few;
 mod long;
 mod short;
 mod strings;

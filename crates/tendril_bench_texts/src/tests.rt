@@ -2,5 +2,6 @@
 //! rows written by hand, and never from what the calls answered.
 
 mod runs;
+mod sizes;
 mod slices;
 mod texts;

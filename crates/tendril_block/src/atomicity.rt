@@ -6,6 +6,7 @@ ghost use Rattle.tendril_block.specs.contracts.body.Body.{the_row as body_row};
 use crate::body::Body;
 use crate::refusal::Refusal;
 use crate::sole::Sole;
+use std::alloc::Global;
 
 /// The capacity that a new block has at least, in bytes.
 pub const MIN_CAP: u32 = 16;
@@ -18,7 +19,7 @@ pub const MAX_HOLDERS: u64 = 4294967295;
 
 /// How the holders of a block are counted.
 ///
-/// Every call but `make`, `make_mut` and `from_sole` takes constant time.
+/// Every call but `make`, `copy`, `make_mut` and `from_sole` takes constant time.
 pub trait Atomicity {
     /// One holder of a block, as large as a pointer.
     type Block: Drop;
@@ -35,6 +36,13 @@ pub trait Atomicity {
         ensures copied { IfOk result (λ b. copied b ≡ length bytes.items) }
         ensures refusal { IfErr result (λ e. e.0 ≡ Refusal.Memory) }
         ensures back { IfErr result (λ e. e.1.items ≡ bytes.items) };
+
+    /// A block with a copy of these bytes and room for so many, with one holder. Of few bytes it is one request for
+    /// memory, of more it is two.
+    fn copy(alloc: Global, bytes: &[u8], capacity: usize) -> Result<Self::Block, Refusal>
+        ensures bytes { IfOk result (λ b. bytes_of b ≡ bytes.now) }
+        ensures copied { IfOk result (λ b. copied b ≡ length bytes.now) }
+        ensures refusal { IfErr result (λ r. r ≡ Refusal.Memory) };
 
     /// One more holder of the block.
     fn share(block: &Self::Block) -> Result<Self::Block, Refusal>

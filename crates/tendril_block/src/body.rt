@@ -1,24 +1,26 @@
 //! The bytes of a block, as the one holder that may change them sees them.
-ghost use Rattle.std.specs.Prelude.{◌≡◌, ℕ, ◌+◌, ◌<◌, ◌≤◌, ◌++◌, length, take, replicate, slice_set, vec_len, vec_capacity, IfErr, OnOk, OnErr};
+ghost use Rattle.std.specs.Prelude.{◌≡◌, ◌+◌, ◌<◌, ◌++◌, [], length, take, replicate, slice_set, IfOk, IfErr, OnOk, OnErr};
 
 use crate::copied::Copied;
 use crate::refusal::Refusal;
+use crate::stored::Stored;
 use std::alloc::Global;
 use std::marker::Model;
 
 /// The bytes of a block and how many of them it took: lent to a holder that is alone.
 #[derive(Drop)]
 pub struct Body {
-    bytes: Vec<u8>,
+    stored: Stored,
     took: Copied,
 }
 
 impl Model for Body {
     ghost use Rattle.tendril_block.specs.Filled.{Filled};
+    ghost use Rattle.tendril_block.specs.Stored.{stored_bytes};
 
     ghost Value = { Filled };
 
-    ghost view = { λ b. record { bytes = b.bytes.items; took = b.took.bytes } };
+    ghost view = { λ b. record { bytes = stored_bytes b.stored; took = b.took.bytes } };
 }
 
 impl Body {
@@ -26,30 +28,58 @@ impl Body {
     ghost use Rattle.tendril_block.specs.contracts.body.Body.{the_row};
     ghost use Rattle.std.specs.Borrow.{Lends, Array, u8, sem};
 
-    pub(crate) fn new(bytes: Vec<u8>) -> Self
-        ensures bytes { result.bytes ≡ bytes.items }
-        ensures took { result.took ≡ length bytes.items }
+    /// A body of no bytes. Takes no memory.
+    pub(crate) fn empty(alloc: Global) -> Self
+        ensures bytes { result.bytes ≡ [] }
+        ensures took { result.took ≡ 0 }
     {
-        let none = Copied::zero();
-        let took = none.plus(&none, &none, bytes.len());
-        Body { bytes, took }
+        Body {
+            stored: Stored::small(alloc, &[]),
+            took: Copied::zero(),
+        }
     }
 
-    pub(crate) fn into_bytes(self) -> Vec<u8>
-        ensures { result.items ≡ self.bytes }
+    /// A copy of these bytes with room for so many.
+    pub(crate) fn copy(alloc: Global, bytes: &[u8], capacity: usize) -> Result<Self, Refusal>
+        ensures bytes { IfOk result (λ b. b.bytes ≡ bytes.now) }
+        ensures took { IfOk result (λ b. b.took ≡ length bytes.now) }
+        ensures refusal { IfErr result (λ r. r ≡ Refusal.Memory) }
     {
-        let Body { bytes, took: _ } = self;
-        bytes
+        let none = Copied::zero();
+        Ok(Body {
+            stored: Stored::copy(alloc, bytes, capacity)?,
+            took: none.plus(&none, &none, bytes.len()),
+        })
+    }
+
+    /// The same, whose bytes count as copied once.
+    pub(crate) fn recounted(self) -> Self
+        ensures bytes { result.bytes ≡ self.bytes }
+        ensures took { result.took ≡ length self.bytes }
+    {
+        let Body { stored, took: _ } = self;
+        let none = Copied::zero();
+        let took = none.plus(&none, &none, stored.as_slice().len());
+        Body { stored, took }
+    }
+
+    /// These bytes take the place of all.
+    pub(crate) fn adopt(&mut self, bytes: Vec<u8>)
+        ensures bytes { self.new.bytes ≡ bytes.items }
+        ensures took { self.new.took ≡ self.old.took + length bytes.items }
+    {
+        self.took = self.took.plus(&self.took, &self.took, bytes.len());
+        self.stored = Stored::Large(bytes);
     }
 
     pub(crate) fn as_slice(&self) -> &[u8]
         ensures { result.now ≡ self.now.bytes }
     {
-        self.bytes.as_slice()
+        self.stored.as_slice()
     }
 
     pub(crate) fn allocator(&self) -> Global {
-        *self.bytes.allocator()
+        self.stored.allocator()
     }
 
     pub(crate) fn took(&self) -> &Copied
@@ -63,8 +93,12 @@ impl Body {
         ensures same { self.new ≡ self.old }
         ensures refusal { IfErr result (λ r. r ≡ Refusal.Memory) }
     {
-        self.bytes.reserve(more)?;
-        Ok(())
+        let count = self
+            .as_slice()
+            .len()
+            .checked_add(more)
+            .ok_or(Refusal::Memory)?;
+        self.stored.make_room(count)
     }
 
     /// Puts bytes at the end, in amortized time of their number.
@@ -74,7 +108,7 @@ impl Body {
         ensures refusal { IfErr result (λ r. r ≡ Refusal.Memory) }
         ensures err { OnErr result (self.new ≡ self.old) }
     {
-        self.bytes.extend_from_slice(more)?;
+        self.stored.append(more)?;
         self.took = self.took.plus(&self.took, &self.took, more.len());
         Ok(())
     }
@@ -86,8 +120,7 @@ impl Body {
         ensures refusal { IfErr result (λ r. r ≡ Refusal.Memory) }
         ensures err { OnErr result (self.new ≡ self.old) }
     {
-        let len = self.bytes.len().checked_add(count).ok_or(Refusal::Memory)?;
-        self.bytes.resize(len, 0)?;
+        self.stored.append_zeros(count)?;
         self.took = self.took.plus(&self.took, &self.took, count);
         Ok(())
     }
@@ -100,16 +133,14 @@ impl Body {
         ensures refusal { IfErr result (λ r. r ≡ Refusal.Memory) }
         ensures err { OnErr result (self.new ≡ self.old) }
     {
-        if middle.is_empty() && self.bytes.len() <= keep {
+        let len = self.as_slice().len();
+        if middle.is_empty() && len <= keep {
             return self.append(more);
         }
         let extra = middle.len().checked_add(more.len()).ok_or(Refusal::Memory)?;
-        let wanted = keep.checked_add(extra).ok_or(Refusal::Memory)?;
-        let missing = wanted.saturating_sub(self.bytes.len());
-        self.bytes.reserve(missing)?;
-        self.bytes.truncate(keep);
-        append_reserved(&mut self.bytes, middle);
-        append_reserved(&mut self.bytes, more);
+        let count = len.min(keep).checked_add(extra).ok_or(Refusal::Memory)?;
+        self.stored.make_room(count)?;
+        self.stored.replace_end(keep, middle, more);
         self.took = self.took.plus(&self.took, &self.took, extra);
         Ok(())
     }
@@ -119,7 +150,7 @@ impl Body {
         ensures bytes { self.new.bytes ≡ take len self.old.bytes }
         ensures took { self.new.took ≡ self.old.took }
     {
-        self.bytes.truncate(len);
+        self.stored.truncate(len);
     }
 
     /// Writes one byte.
@@ -128,7 +159,7 @@ impl Body {
         ensures bytes { self.new.bytes ≡ slice_set self.old.bytes index byte }
         ensures took { self.new.took ≡ self.old.took }
     {
-        self.bytes[index] = byte;
+        self.bytes_mut()[index] = byte;
     }
 
     /// The bytes, to be written over in place.
@@ -136,17 +167,9 @@ impl Body {
         ensures* lends { sem 𝓛 (Lends the_row (Array u8 0) self.entry result (overwritten self.old)) }
         ensures bytes { result.now ≡ self.old.bytes }
     {
-        self.bytes.as_mut_slice()
+        match &mut self.stored {
+            Stored::Small(few) => few.as_mut_slice(),
+            Stored::Large(bytes) => bytes.as_mut_slice(),
+        }
     }
-}
-
-// Puts bytes where there is room for them.
-fn append_reserved(bytes: &mut Vec<u8>, more: &[u8])
-    requires { vec_len bytes.old + length more.now ≤ vec_capacity bytes.old }
-    ensures items { bytes.new.items ≡ bytes.old.items ++ more.now }
-    ensures len { vec_len bytes.new ≡ vec_len bytes.old + length more.now }
-    ensures capacity { vec_capacity bytes.old ≤ vec_capacity bytes.new }
-{
-    let appended = bytes.extend_from_slice(more);
-    prove!(appended.is_ok());
 }

@@ -10,12 +10,15 @@ mod copied;
 mod local;
 mod refusal;
 mod sole;
+mod stored;
 
 pub use atomicity::{Atomicity, MAX_HOLDERS, MAX_LEN, MIN_CAP};
 pub use body::Body;
 pub use local::{LocalBlock, NonAtomic};
 pub use refusal::Refusal;
 pub use sole::Sole;
+pub use stored::FEW;
+pub use tendril_count::interleavings;
 
 #[cfg(test)]
 mod tests;

@@ -6,6 +6,7 @@ use crate::body::Body;
 use crate::copied::Copied;
 use crate::refusal::Refusal;
 use crate::sole::Sole;
+use std::alloc::Global;
 use std::rc::Rc;
 
 /// One holder of a block of one thread.
@@ -32,14 +33,22 @@ impl Atomicity for NonAtomic {
 
     fn make(bytes: Vec<u8>) -> Result<LocalBlock, (Refusal, Vec<u8>)> {
         let alloc = *bytes.allocator();
-        match Rc::new(alloc, Body::new(bytes)) {
-            Ok(body) => Ok(LocalBlock {
-                body,
-                since: Copied::zero(),
-                before: Copied::zero(),
-            }),
-            Err(failed) => Err((Refusal::Memory, failed.value.into_bytes())),
+        let Ok(mut body) = Rc::new(alloc, Body::empty(alloc)) else {
+            return Err((Refusal::Memory, bytes));
+        };
+        // The vector goes in once the node is there, so that it can be handed back where it isn't.
+        match Rc::get_mut(&mut body) {
+            Some(inside) => inside.adopt(bytes),
+            None => return Err((Refusal::Memory, bytes)),
         }
+        Ok(LocalBlock::new(body))
+    }
+
+    fn copy(alloc: Global, bytes: &[u8], capacity: usize) -> Result<LocalBlock, Refusal> {
+        let Ok(body) = Rc::new(alloc, Body::copy(alloc, bytes, capacity)?) else {
+            return Err(Refusal::Memory);
+        };
+        Ok(LocalBlock::new(body))
     }
 
     fn share(block: &LocalBlock) -> Result<LocalBlock, Refusal> {
@@ -81,7 +90,7 @@ impl Atomicity for NonAtomic {
             before,
         } = block;
         match Rc::try_unwrap(body) {
-            Ok(body) => Ok(Sole::new(body.into_bytes())),
+            Ok(body) => Ok(Sole::new(body)),
             Err(body) => Err(LocalBlock {
                 body,
                 since,
@@ -91,14 +100,28 @@ impl Atomicity for NonAtomic {
     }
 
     fn from_sole(sole: Sole) -> Result<LocalBlock, (Refusal, Sole)> {
-        match NonAtomic::make(sole.into_bytes()) {
-            Ok(block) => Ok(block),
-            Err((refusal, bytes)) => Err((refusal, Sole::new(bytes))),
+        let body = sole.into_body();
+        match Rc::new(body.allocator(), body.recounted()) {
+            Ok(body) => Ok(LocalBlock::new(body)),
+            Err(failed) => Err((Refusal::Memory, Sole::new(failed.value))),
         }
     }
 }
 
 impl LocalBlock {
+    // A block of a body that has one holder.
+    fn new(body: Rc<Body>) -> Self
+        ensures body { result.body ≡ body }
+        ensures since { result.since.bytes ≡ 0 }
+        ensures before { result.before.bytes ≡ 0 }
+    {
+        LocalBlock {
+            body,
+            since: Copied::zero(),
+            before: Copied::zero(),
+        }
+    }
+
     // Counts from here on what the body takes, and keeps what it took before.
     fn settle(&mut self)
         ensures body { self.new.body ≡ self.old.body }
@@ -126,10 +149,7 @@ impl LocalBlock {
             return Ok(());
         }
         let alloc = self.body.as_ref().allocator();
-        let bytes = Vec::from_slice(alloc, self.body.as_slice())?;
-        let Ok(own) = NonAtomic::make(bytes) else {
-            return Err(Refusal::Memory);
-        };
+        let own = NonAtomic::copy(alloc, self.body.as_slice(), 0)?;
         *self = own;
         Ok(())
     }

@@ -1,5 +1,5 @@
 //! Why a call is refused: one list of reasons for the whole repository.
-ghost use Rattle.std.specs.Prelude.{◌≡◌};
+ghost use Rattle.std.specs.Prelude.{◌≡◌, ◌++◌, Some, codes, decimal};
 ghost use Rattle.tendril_block.specs.Refusals.{number_of, name_of};
 
 use std::alloc::AllocError;
@@ -74,6 +74,8 @@ impl Refusal {
 
 /// Prints the number and the name, as `1 TooLong`.
 impl fmt::Display for Refusal {
+    ghost output = { λ r. Some (decimal (number_of r) ++ codes " " ++ name_of r) };
+
     fn fmt<W: fmt::Write>(&self, f: &mut fmt::Formatter<W>) -> fmt::Result {
         write!(f, "{} {}", self.number(), self.name())
     }

@@ -1,12 +1,13 @@
 //! Bytes that have left their block.
 ghost use Rattle.std.specs.Prelude.{◌≡◌};
 
+use crate::body::Body;
 use std::marker::Model;
 
 /// The bytes of a block that had one holder, which may become a block of another atomicity.
 #[derive(Drop)]
 pub struct Sole {
-    bytes: Vec<u8>,
+    body: Body,
 }
 
 impl Model for Sole {
@@ -14,20 +15,20 @@ impl Model for Sole {
 
     ghost Value = { List ℕ };
 
-    ghost view = { λ s. s.bytes.items };
+    ghost view = { λ s. s.body.bytes };
 }
 
 impl Sole {
-    pub(crate) fn new(bytes: Vec<u8>) -> Self
-        ensures { result ≡ bytes.items }
+    pub(crate) fn new(body: Body) -> Self
+        ensures { result ≡ body.bytes }
     {
-        Sole { bytes }
+        Sole { body }
     }
 
-    pub(crate) fn into_bytes(self) -> Vec<u8>
-        ensures { result.items ≡ self }
+    pub(crate) fn into_body(self) -> Body
+        ensures { result.bytes ≡ self }
     {
-        let Sole { bytes } = self;
-        bytes
+        let Sole { body } = self;
+        body
     }
 }

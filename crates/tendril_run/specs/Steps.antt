@@ -36,29 +36,44 @@ TakesRun class old slot answer new =
 
 -- a change of one cell of a table
 abbrev pub TableChanged : List Cell → ℕ → Change → Reply → List Cell → Type 0
-TableChanged old slot change answer new = Replied (ChangeMust (cell_at old slot) change) (ChangeMay (cell_at old slot) change) (Leaves old slot (change_reply (cell_at old slot) change) (changed (cell_at old slot) change)) old answer new
+TableChanged old slot change answer new =
+    Replied (ChangeMust (cell_at old slot) change) (ChangeMay (cell_at old slot) change)
+    (Leaves old slot (change_reply (cell_at old slot) change) (changed (cell_at old slot) change)) old answer new
 
 -- One command: which refusal must come, which may, and what it does and answers where none does, from the cells before it
 -- to its reply and the cells after it. `class` sorts characters.
 abbrev pub Step : (ℕ → ℕ) → List Cell → Command → Reply → List Cell → Type 0
 Step class old (New kind) answer new = Replied NoneMust NoneMay (Adds old (text kind [])) old answer new
-Step class old (FromBytes kind y) answer new = Replied (BytesMust (valid_in kind) y (length y)) (MemoryMay (length y)) (Adds old (text kind y)) old answer new
-Step class old (PushBytes slot y) answer new = Replied (PushMust (cell_at old slot) y) (PushMay (cell_at old slot) y) (Becomes old slot (pushed (cell_at old slot) y)) old answer new
-Step class old (PushTendril to from) answer new = Replied (JoinMust (cell_at old to) (cell_at old from)) (JoinMay to from (cell_at old to) (cell_at old from)) (Becomes old to (joined (cell_at old to) (cell_at old from))) old answer new
+Step class old (FromBytes kind y) answer new =
+    Replied (BytesMust (valid_in kind) y (length y)) (MemoryMay (length y)) (Adds old (text kind y)) old answer new
+Step class old (PushBytes slot y) answer new =
+    Replied (PushMust (cell_at old slot) y) (PushMay (cell_at old slot) y)
+    (Becomes old slot (pushed (cell_at old slot) y)) old answer new
+Step class old (PushTendril to from) answer new =
+    Replied (JoinMust (cell_at old to) (cell_at old from)) (JoinMay to from (cell_at old to) (cell_at old from))
+    (Becomes old to (joined (cell_at old to) (cell_at old from))) old answer new
 Step class old (PushChar slot c) answer new = TableChanged old slot (change.PushChar c) answer new
 Step class old (PushZeros slot count) answer new = TableChanged old slot (change.EditBytes (byte_edit.PushZeros count)) answer new
-Step class old (Slice slot offset count) answer new = Replied (CellSliceMust (cell_at old slot) offset count) (CountMay count) (Adds old (part (cell_at old slot) offset count)) old answer new
+Step class old (Slice slot offset count) answer new =
+    Replied (CellSliceMust (cell_at old slot) offset count) (CountMay count)
+    (Adds old (part (cell_at old slot) offset count)) old answer new
 Step class old (PopFront slot count) answer new = TableChanged old slot (change.Edit (edit.PopFront count)) answer new
 Step class old (PopBack slot count) answer new = TableChanged old slot (change.Edit (edit.PopBack count)) answer new
 Step class old (PopChar slot) answer new = TableChanged old slot change.PopChar answer new
-Step class old (PopRun slot) answer new = Replied (CharsMust (cell_at old slot)) (RunMay class (cell_at old slot)) (TakesRun class old slot) old answer new
-Step class old (Clone slot) answer new = Replied (CellMust (cell_at old slot)) (CellCloneMay (cell_at old slot)) (Adds old (cell_at old slot)) old answer new
+Step class old (PopRun slot) answer new =
+    Replied (CharsMust (cell_at old slot)) (RunMay class (cell_at old slot)) (TakesRun class old slot) old answer new
+Step class old (Clone slot) answer new =
+    Replied (CellMust (cell_at old slot)) (CellCloneMay (cell_at old slot)) (Adds old (cell_at old slot)) old answer new
 Step class old (Clear slot) answer new = TableChanged old slot (change.Edit edit.Clear) answer new
 Step class old (Reserve slot more) answer new = TableChanged old slot (change.Edit (edit.Reserve more)) answer new
 Step class old (Reinterpret slot kind) answer new = TableChanged old slot (change.Convert (conversion.Reinterpret kind)) answer new
 Step class old (ToSuperset slot kind) answer new = TableChanged old slot (change.Convert (conversion.ToSuperset kind)) answer new
 Step class old (ToSubset slot kind) answer new = TableChanged old slot (change.Convert (conversion.ToSubset kind)) answer new
 Step class old (WriteByte slot index byte) answer new = TableChanged old slot (change.EditBytes (byte_edit.WriteByte index byte)) answer new
-Step class old (Compare first second) answer new = Replied (CompareMust (cell_at old first) (cell_at old second)) NoneMay (λ answer new. TellsComparison (cell_at old first) (cell_at old second) answer × (new ≡ old)) old answer new
-Step class old (Text slot) answer new = Replied (CellMust (cell_at old slot)) (λ r. r ≡ Memory) (λ answer new. Tells (cell_at old slot) answer × (new ≡ old)) old answer new
+Step class old (Compare first second) answer new =
+    Replied (CompareMust (cell_at old first) (cell_at old second)) NoneMay
+    (λ answer new. TellsComparison (cell_at old first) (cell_at old second) answer × (new ≡ old)) old answer new
+Step class old (Text slot) answer new =
+    Replied (CellMust (cell_at old slot)) (λ r. r ≡ Memory)
+    (λ answer new. Tells (cell_at old slot) answer × (new ≡ old)) old answer new
 Step class old (Drop slot) answer new = TableChanged old slot change.Drop answer new

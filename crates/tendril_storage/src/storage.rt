@@ -1,5 +1,6 @@
 //! Where a text's bytes stand: inline, or in a view of a block.
 ghost use Rattle.std.specs.Prelude.{◌≡◌, ◌≤◌, ◌+◌, ◌++◌, [], length, take};
+ghost use Rattle.std.specs.Int.{w64, to_le_bytes};
 
 mod grow;
 mod make;
@@ -132,6 +133,35 @@ impl<A: Atomicity> Storage<A> {
     pub fn allocator(&self) -> Global {
         self.alloc
     }
+}
+
+// Few bytes as the lowest ones of a word. Each number of bytes has loads of its own, so that nothing reads as a word what
+// was just written in pieces: the processor would wait for that.
+#[inline(always)]
+fn word_of(bytes: &[u8]) -> u64
+    requires { length bytes.now ≤ 8 }
+    ensures { take (length bytes.now) (to_le_bytes w64 result) ≡ bytes.now }
+{
+    match bytes {
+        [] => 0,
+        [a] => u64::from(*a),
+        [a, b] => u64::from_le_bytes([*a, *b, 0, 0, 0, 0, 0, 0]),
+        [a, b, c] => u64::from_le_bytes([*a, *b, *c, 0, 0, 0, 0, 0]),
+        [a, b, c, d] => u64::from_le_bytes([*a, *b, *c, *d, 0, 0, 0, 0]),
+        [a, b, c, d, e] => u64::from_le_bytes([*a, *b, *c, *d, *e, 0, 0, 0]),
+        [a, b, c, d, e, f] => u64::from_le_bytes([*a, *b, *c, *d, *e, *f, 0, 0]),
+        [a, b, c, d, e, f, g] => u64::from_le_bytes([*a, *b, *c, *d, *e, *f, *g, 0]),
+        [a, b, c, d, e, f, g, h, ..] => u64::from_le_bytes([*a, *b, *c, *d, *e, *f, *g, *h]),
+    }
+}
+
+// The same as a call: in line it would keep the making of long texts from being inlined.
+#[inline(never)]
+fn call_word_of(bytes: &[u8]) -> u64
+    requires { length bytes.now ≤ 8 }
+    ensures { take (length bytes.now) (to_le_bytes w64 result) ≡ bytes.now }
+{
+    word_of(bytes)
 }
 
 // Copies bytes to a place in a buffer.

@@ -15,6 +15,7 @@ impl<F: Format, A: Atomicity> Tendril<F, A> {
 
     /// The part of so many bytes from the offset on, where it is there and valid in the format. A long part shares the
     /// text's bytes.
+    #[inline(always)]
     pub fn try_subtendril(&self, offset: u32, count: u32) -> Result<Self, SubtendrilError>
         ensures { SlicesValid F.valid self.now.bytes offset count result }
     {
@@ -126,6 +127,7 @@ impl<F: Format, A: Atomicity> Tendril<F, A> {
 }
 
 /// A text of a part of stored bytes, where it is there and valid in the format.
+#[inline(always)]
 pub(crate) fn try_part<F: Format, A: Atomicity>(
     storage: &Storage<A>,
     offset: u32,
@@ -145,6 +147,7 @@ pub(crate) fn try_part<F: Format, A: Atomicity>(
 }
 
 // A text of a part that is there and valid in the format.
+#[inline(always)]
 fn valid_part<F: Format, A: Atomicity>(
     storage: &Storage<A>,
     offset: u32,
@@ -164,6 +167,7 @@ fn valid_part<F: Format, A: Atomicity>(
 }
 
 // Whether a slice of valid bytes is valid.
+#[inline(always)]
 fn is_slice_valid<F: Format>(bytes: &[u8], offset: usize, count: usize) -> bool
     requires valid { F.valid bytes.now }
     requires within { offset + count ≤ length bytes.now }
@@ -173,6 +177,7 @@ fn is_slice_valid<F: Format>(bytes: &[u8], offset: usize, count: usize) -> bool
 }
 
 // Whether the end of valid bytes is valid.
+#[inline(always)]
 fn is_end_valid<F: Format>(bytes: &[u8], offset: usize) -> bool
     requires valid { F.valid bytes.now }
     requires within { offset ≤ length bytes.now }
@@ -182,6 +187,7 @@ fn is_end_valid<F: Format>(bytes: &[u8], offset: usize) -> bool
 }
 
 // Whether the front of valid bytes is valid.
+#[inline(always)]
 fn is_front_valid<F: Format>(bytes: &[u8], count: usize) -> bool
     requires valid { F.valid bytes.now }
     requires within { count ≤ length bytes.now }

@@ -1,6 +1,7 @@
 //! Where request `REFUSED` is refused, these tests fail, and `.ci/memory` wants that: each does what another test does,
 //! and meets the refusal only in the requests that it makes behind that. So the other test's calls made fewer.
 
+use super::few::change_few;
 use super::long::{cut_long_text, write_long_text};
 use super::make_requests;
 use super::short::change_short_texts;
@@ -32,5 +33,12 @@ fn strings(rt: HostRuntime) -> Result<(), Fail> {
 fn short_texts(rt: HostRuntime) -> Result<(), Fail> {
     change_short_texts(&rt)?;
     make_requests(rt.alloc(), 1)?;
+    Ok(())
+}
+
+#[test]
+fn few_bytes(rt: HostRuntime) -> Result<(), Fail> {
+    change_few(&rt)?;
+    make_requests(rt.alloc(), 2)?;
     Ok(())
 }

@@ -18,32 +18,45 @@ fn long_text(alloc: Global) -> Option<StrTendril> {
 
 /// Cuts a long text in each way, where the request of this number is refused. Unless the text itself was refused, each
 /// call answers as it does with ample memory.
-pub fn cut_long_text(rt: &(impl Abort + AllocGlobal), number: usize) -> Result<(), Fail> {
+pub(super) fn cut_long_text(rt: &(impl Abort + AllocGlobal), number: usize) -> Result<(), Fail> {
     refuse_request(rt.alloc(), number)?;
     let Some(text) = long_text(rt.alloc()) else {
         return Ok(());
     };
-    let bytes = text.as_byte_slice();
+    slice_long_text(rt, &text)?;
     let mut clone = text.clone()?;
     assert!(rt; clone == text);
+    pop_long_text(rt, &text, &mut clone)?;
+    part_long_text(rt, &text, &mut clone)
+}
 
+fn slice_long_text(rt: &impl Abort, text: &StrTendril) -> Result<(), Fail> {
     let slice = text.try_subtendril(1, 999998)?;
-    assert!(rt; slice.as_byte_slice() == bytes.get(1..999999).ok_or("a slice")?);
+    let bytes = text.as_byte_slice().get(1..999999);
+    assert!(rt; bytes == Some(slice.as_byte_slice()));
+    Ok(())
+}
 
+fn pop_long_text(rt: &impl Abort, text: &StrTendril, clone: &mut StrTendril) -> Result<(), Fail> {
     clone.try_pop_front(5)?;
     clone.try_pop_back(5)?;
-    assert!(rt; clone.as_byte_slice() == bytes.get(5..999995).ok_or("a slice")?);
+    let bytes = text.as_byte_slice().get(5..999995);
+    assert!(rt; bytes == Some(clone.as_byte_slice()));
+    Ok(())
+}
 
+fn part_long_text(rt: &impl Abort, text: &StrTendril, clone: &mut StrTendril) -> Result<(), Fail> {
     let run = clone.pop_front_char_run(char::is_whitespace)?;
     let (run, is_space) = run.ok_or("a run")?;
     assert!(rt; !is_space);
-    assert!(rt; run.as_byte_slice() == bytes.get(5..500000).ok_or("a slice")?);
-    assert!(rt; clone.as_byte_slice() == bytes.get(500000..999995).ok_or("a slice")?);
+    let bytes = text.as_byte_slice();
+    assert!(rt; bytes.get(5..500000) == Some(run.as_byte_slice()));
+    assert!(rt; bytes.get(500000..999995) == Some(clone.as_byte_slice()));
     Ok(())
 }
 
 /// Writes a byte into a long text that has its block alone, where the request of this number is refused.
-pub fn write_long_text(rt: &(impl Abort + AllocGlobal), number: usize) -> Result<(), Fail> {
+pub(super) fn write_long_text(rt: &(impl Abort + AllocGlobal), number: usize) -> Result<(), Fail> {
     refuse_request(rt.alloc(), number)?;
     let Some(text) = long_text(rt.alloc()) else {
         return Ok(());

@@ -8,25 +8,34 @@ use tendril::{ByteTendril, StrTendril, Tendril};
 const DIGITS: &[u8] = b"01234567";
 
 /// Makes, clones, cuts, joins and writes texts of at most 8 bytes, where the first request is refused.
-pub fn change_short_texts(rt: &(impl Abort + AllocGlobal)) -> Result<(), Fail> {
+pub(super) fn change_short_texts(rt: &(impl Abort + AllocGlobal)) -> Result<(), Fail> {
     refuse_request(rt.alloc(), 1)?;
     for len in 0..=8u32 {
-        let (front, end) = DIGITS.split_at_checked(len as usize).ok_or("a length")?;
-        let mut text: ByteTendril = Tendril::try_from_byte_slice(rt.alloc(), front)?;
-        let mut clone = text.clone()?;
-        clone.try_push_bytes(end)?;
-        assert_eq!(rt; clone.as_byte_slice(), DIGITS);
-
-        text.push_tendril(&clone.try_subtendril(len, u32::try_from(end.len())?)?)?;
-        assert_eq!(rt; text.as_byte_slice(), DIGITS);
-
-        text.bytes_mut(|bytes| bytes.reverse())?;
-        text.reserve(0)?;
-        text.try_pop_front(len)?;
-        text.push_uninitialized(len)?;
-        assert_eq!(rt; text.len32(), 8);
+        let mut text = join_short_texts(rt, len)?;
+        change_short_text(rt, &mut text, len)?;
     }
     push_characters(rt)
+}
+
+// A text of so many digits and then the others.
+fn join_short_texts(rt: &(impl Abort + AllocGlobal), len: u32) -> Result<ByteTendril, Fail> {
+    let (front, end) = DIGITS.split_at_checked(len as usize).ok_or("a length")?;
+    let mut text: ByteTendril = Tendril::try_from_byte_slice(rt.alloc(), front)?;
+    let mut clone = text.clone()?;
+    clone.try_push_bytes(end)?;
+    assert_eq!(rt; clone.as_byte_slice(), DIGITS);
+    text.push_tendril(&clone.try_subtendril(len, 8u32.saturating_sub(len))?)?;
+    assert_eq!(rt; text.as_byte_slice(), DIGITS);
+    Ok(text)
+}
+
+fn change_short_text(rt: &impl Abort, text: &mut ByteTendril, len: u32) -> Result<(), Fail> {
+    text.bytes_mut(|bytes| bytes.reverse())?;
+    text.reserve(0)?;
+    text.try_pop_front(len)?;
+    text.push_uninitialized(len)?;
+    assert_eq!(rt; text.len32(), 8);
+    Ok(())
 }
 
 fn push_characters(rt: &(impl Abort + AllocGlobal)) -> Result<(), Fail> {

@@ -9,7 +9,7 @@ use tendril::block::Refusal;
 const DIGITS: &str = "0123456789012345678901234567890123456789012345678901234567890123456789";
 
 /// Makes a string, which takes one request, and a text of it, where the request of this number is refused.
-pub fn take_strings(rt: &(impl Abort + AllocGlobal), number: usize) -> Result<(), Fail> {
+pub(super) fn take_strings(rt: &(impl Abort + AllocGlobal), number: usize) -> Result<(), Fail> {
     refuse_request(rt.alloc(), number)?;
     let Ok(string) = String::from_str(rt.alloc(), DIGITS) else {
         return Ok(());

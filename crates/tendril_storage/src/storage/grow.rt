@@ -2,7 +2,6 @@
 ghost use Rattle.std.specs.Prelude.{◌≡◌, ◌<◌, ◌≤◌, ◌+◌, ◌++◌, [], length, take, max, true, false, IfErr, OnOk, OnErr};
 ghost use Rattle.tendril_block.specs.Outcomes.{MemoryMay};
 
-use crate::storage::make::with_room;
 use crate::storage::{Held, INLINE, Storage, put};
 use tendril_block::{Atomicity, MAX_LEN, Refusal};
 
@@ -122,10 +121,7 @@ impl<A: Atomicity> Storage<A> {
         ensures refusal { IfErr result (λ r. r ≡ Refusal.Memory) }
         ensures err { OnErr result (self.new ≡ self.old) }
     {
-        let Ok(bytes) = with_room(self.alloc, self.as_slice(), capacity) else {
-            return Err(Refusal::Memory);
-        };
-        let copy = Self::in_block(self.alloc, bytes)?;
+        let copy = Self::copied(self.alloc, self.as_slice(), capacity)?;
         *self = copy;
         Ok(())
     }
@@ -164,8 +160,8 @@ impl<A: Atomicity> Storage<A> {
     }
 }
 
-// Puts two parts in the place of all bytes of a block from `keep` on, where no other holds it and there is memory.
-fn replaces_alone<A: Atomicity>(
+/// Puts two parts in the place of all bytes of a block from `keep` on, where no other holds it and there is memory.
+pub(super) fn replaces_alone<A: Atomicity>(
     block: &mut A::Block,
     keep: usize,
     middle: &[u8],

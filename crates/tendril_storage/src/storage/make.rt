@@ -2,10 +2,11 @@
 ghost use Rattle.std.specs.Prelude.{◌≡◌, ◌<◌, ◌≤◌, ◌+◌, ◌++◌, [], length, IfOk, IfErr};
 ghost use Rattle.tendril_block.specs.Outcomes.{MemoryMay};
 
-use crate::storage::{Held, INLINE, Storage, put};
-use std::alloc::{AllocError, Global};
+use crate::storage::grow::replaces_alone;
+use crate::storage::{Held, INLINE, Storage, call_word_of, put};
+use std::alloc::Global;
 use std::cell::Cell;
-use tendril_block::{Atomicity, MAX_LEN, MIN_CAP, Refusal};
+use tendril_block::{Atomicity, FEW, MAX_LEN, Refusal};
 
 impl<A: Atomicity> Storage<A> {
     /// No bytes, and room for so many.
@@ -17,10 +18,7 @@ impl<A: Atomicity> Storage<A> {
         if capacity as usize <= INLINE {
             return Ok(Self::new(alloc));
         }
-        let Ok(bytes) = Vec::with_capacity(alloc, capacity.max(MIN_CAP) as usize) else {
-            return Err(Refusal::Memory);
-        };
-        Self::in_block(alloc, bytes)
+        Self::copied(alloc, &[], capacity as usize)
     }
 
     /// The bytes of a vector. Many stay where they are, with the room behind them; few are copied inline.
@@ -46,24 +44,19 @@ impl<A: Atomicity> Storage<A> {
         if bytes.len() <= INLINE {
             return Ok(Self::inline(alloc, bytes));
         }
-        let Ok(copy) = with_room(alloc, bytes, bytes.len()) else {
-            return Err(Refusal::Memory);
-        };
-        Self::in_block(alloc, copy)
+        Self::copied(alloc, bytes, bytes.len())
     }
 
     // A copy of few bytes.
-    pub(super) fn inline(alloc: Global, bytes: &[u8]) -> Self
+    fn inline(alloc: Global, bytes: &[u8]) -> Self
         requires fits { length bytes.now ≤ 8 }
         ensures bytes { result.bytes ≡ bytes.now }
         ensures copied { result.copied ≡ length bytes.now }
     {
-        let mut buffer = [0; 8];
-        put(&mut buffer, 0, bytes);
         Storage {
             held: Held::Inline {
                 len: bytes.len() as u64,
-                buffer,
+                buffer: call_word_of(bytes).to_le_bytes(),
             },
             alloc,
         }
@@ -83,10 +76,8 @@ impl<A: Atomicity> Storage<A> {
     {
         let len = left.len() + middle.len() + right.len();
         if len > INLINE {
-            let Ok(bytes) = joined(alloc, left, middle, right) else {
-                return Err(Refusal::Memory);
-            };
-            return Self::in_block(alloc, bytes);
+            let block = joined::<A>(alloc, left, middle, right)?;
+            return Ok(Self::viewed(alloc, block));
         }
         let mut buffer = [0; 8];
         put(&mut buffer, 0, left);
@@ -101,18 +92,38 @@ impl<A: Atomicity> Storage<A> {
         })
     }
 
-    /// A new block of the bytes of a vector.
-    pub(super) fn in_block(alloc: Global, bytes: Vec<u8>) -> Result<Self, Refusal>
+    // The bytes of a vector, in a new block.
+    fn in_block(alloc: Global, bytes: Vec<u8>) -> Result<Self, Refusal>
         requires fits { length bytes.items ≤ MAX_LEN }
         ensures bytes { IfOk result (λ s. s.bytes ≡ bytes.items) }
         ensures copied { IfOk result (λ s. s.copied ≡ length bytes.items) }
         ensures refusal { IfErr result (λ r. r ≡ Refusal.Memory) }
     {
-        let len = bytes.len() as u32;
-        let Ok(block) = A::make(bytes) else {
-            return Err(Refusal::Memory);
-        };
-        Ok(Storage {
+        match A::make(bytes) {
+            Ok(block) => Ok(Self::viewed(alloc, block)),
+            Err(_) => Err(Refusal::Memory),
+        }
+    }
+
+    /// A copy of bytes in a new block with room for so many.
+    pub(super) fn copied(alloc: Global, bytes: &[u8], capacity: usize) -> Result<Self, Refusal>
+        requires fits { length bytes.now ≤ MAX_LEN }
+        ensures bytes { IfOk result (λ s. s.bytes ≡ bytes.now) }
+        ensures copied { IfOk result (λ s. s.copied ≡ length bytes.now) }
+        ensures refusal { IfErr result (λ r. r ≡ Refusal.Memory) }
+    {
+        let block = A::copy(alloc, bytes, capacity)?;
+        Ok(Self::viewed(alloc, block))
+    }
+
+    /// The bytes of a block that no other holds.
+    pub(super) fn viewed(alloc: Global, block: A::Block) -> Self
+        requires { length (A.bytes_of block) ≤ MAX_LEN }
+        ensures bytes { result.bytes ≡ A.bytes_of block }
+        ensures copied { result.copied ≡ A.copied block }
+    {
+        let len = A::bytes(&block).len() as u32;
+        Storage {
             held: Held::View {
                 shared: Cell::new(false),
                 block,
@@ -120,27 +131,27 @@ impl<A: Atomicity> Storage<A> {
                 len,
             },
             alloc,
-        })
+        }
     }
 }
 
-/// A copy of bytes in a vector with room for so many.
-pub(super) fn with_room(alloc: Global, bytes: &[u8], capacity: usize) -> Result<Vec<u8>, AllocError>
-    ensures { IfOk result (λ v. v.items ≡ bytes.now) }
-{
-    let mut copy = Vec::with_capacity(alloc, capacity.max(MIN_CAP as usize))?;
-    copy.extend_from_slice(bytes)?;
-    Ok(copy)
-}
-
-// Three parts in a vector.
-fn joined(alloc: Global, left: &[u8], middle: &[u8], right: &[u8]) -> Result<Vec<u8>, AllocError>
+// Three parts in a new block. Where they are many, it has room for as many again.
+fn joined<A: Atomicity>(
+    alloc: Global,
+    left: &[u8],
+    middle: &[u8],
+    right: &[u8],
+) -> Result<A::Block, Refusal>
     requires fits { length left.now + length middle.now + length right.now ≤ MAX_LEN }
-    ensures { IfOk result (λ v. v.items ≡ left.now ++ middle.now ++ right.now) }
+    ensures bytes { IfOk result (λ b. A.bytes_of b ≡ left.now ++ middle.now ++ right.now) }
+    ensures copied { IfOk result (λ b. A.copied b ≡ length left.now + length middle.now + length right.now) }
+    ensures refusal { IfErr result (λ r. r ≡ Refusal.Memory) }
 {
     let len = left.len() + middle.len() + right.len();
-    let mut bytes = with_room(alloc, left, len + len)?;
-    bytes.extend_from_slice(middle)?;
-    bytes.extend_from_slice(right)?;
-    Ok(bytes)
+    let room = if len <= FEW { len } else { len + len };
+    let mut block = A::copy(alloc, left, room)?;
+    if !replaces_alone::<A>(&mut block, left.len(), middle, right) {
+        return Err(Refusal::Memory);
+    }
+    Ok(block)
 }

@@ -3,7 +3,7 @@ ghost use Rattle.std.specs.Prelude.{◌≡◌, ◌<◌, ◌≤◌, ◌+◌, leng
 ghost use Rattle.tendril_block.specs.Outcomes.{CountMay};
 ghost use Rattle.tendril_storage.specs.Partings.{TakesFront};
 
-use crate::storage::{Held, INLINE, Storage, put};
+use crate::storage::{Held, INLINE, Storage, word_of};
 use std::cell::Cell;
 use std::mem;
 use tendril_block::{Atomicity, Refusal};
@@ -12,6 +12,7 @@ impl<A: Atomicity> Storage<A> {
     ghost use Rattle.tendril_storage.specs.Texts.{Parts, Shares};
 
     /// All bytes once more: inline ones as they stand, the others as one more view of the same block.
+    #[inline(always)]
     pub fn whole(&self) -> Result<Self, Refusal>
         ensures bytes { IfOk result (λ s. s.bytes ≡ self.now.bytes) }
         ensures copied { IfOk result Shares }
@@ -30,6 +31,7 @@ impl<A: Atomicity> Storage<A> {
     }
 
     /// The bytes from the offset on: copied where they are few, else a view of the same block.
+    #[inline(always)]
     pub fn part(&self, offset: u32, count: u32) -> Result<Self, Refusal>
         requires { offset + count ≤ length self.now.bytes }
         ensures bytes { IfOk result (λ s. s.bytes ≡ take count (drop offset self.now.bytes)) }
@@ -42,6 +44,7 @@ impl<A: Atomicity> Storage<A> {
         self.view_part(offset, count)
     }
 
+    #[inline(always)]
     fn inline_part(&self, offset: u32, count: u32) -> Self
         requires within { offset + count ≤ length self.now.bytes }
         requires short { count ≤ 8 }
@@ -50,18 +53,17 @@ impl<A: Atomicity> Storage<A> {
     {
         let start = offset as usize;
         let end = start + count as usize;
-        let mut buffer = [0; 8];
-        put(&mut buffer, 0, &self.as_slice()[start..end]);
         Storage {
             held: Held::Inline {
                 len: count as u64,
-                buffer,
+                buffer: word_of(&self.as_slice()[start..end]).to_le_bytes(),
             },
             alloc: self.alloc,
         }
     }
 
     #[tactic(auto, using(crate::proofs::Views::slices))]
+    #[inline(always)]
     fn view_part(&self, offset: u32, count: u32) -> Result<Self, Refusal>
         requires within { offset + count ≤ length self.now.bytes }
         requires long { 8 < count }
@@ -93,6 +95,7 @@ impl<A: Atomicity> Storage<A> {
     }
 
     /// Keeps the bytes from the offset on alone: few inline, many in the same view.
+    #[inline(always)]
     pub fn keep_part(&mut self, offset: u32, count: u32)
         requires { offset + count ≤ length self.old.bytes }
         ensures bytes { self.new.bytes ≡ take count (drop offset self.old.bytes) }
@@ -108,6 +111,7 @@ impl<A: Atomicity> Storage<A> {
     }
 
     #[tactic(auto, using(crate::proofs::Views::slices))]
+    #[inline(always)]
     fn keep_view(&mut self, offset: u32, count: u32)
         requires within { offset + count ≤ length self.old.bytes }
         requires long { 8 < count }

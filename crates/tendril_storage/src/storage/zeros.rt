@@ -2,9 +2,8 @@
 ghost use Rattle.std.specs.Prelude.{◌≡◌, ◌<◌, ◌≤◌, ◌+◌, ◌++◌, length, take, replicate, max, true, false, IfOk, IfErr, OnOk, OnErr};
 ghost use Rattle.tendril_block.specs.Outcomes.{MemoryMay};
 
-use crate::storage::make::with_room;
 use crate::storage::{Held, INLINE, Storage};
-use std::alloc::{AllocError, Global};
+use std::alloc::Global;
 use tendril_block::{Atomicity, MAX_LEN, Refusal};
 
 impl<A: Atomicity> Storage<A> {
@@ -40,10 +39,11 @@ impl<A: Atomicity> Storage<A> {
         ensures copied { IfOk result (λ s. s.copied ≡ length bytes.now + count) }
         ensures refusal { IfErr result (λ r. r ≡ Refusal.Memory) }
     {
-        let Ok(copy) = with_zeros(alloc, bytes, count) else {
+        let mut block = A::copy(alloc, bytes, bytes.len() + count)?;
+        if !appends_zeros_alone::<A>(&mut block, bytes.len(), count) {
             return Err(Refusal::Memory);
-        };
-        Self::in_block(alloc, copy)
+        }
+        Ok(Self::viewed(alloc, block))
     }
 
     // The same in the block alone; whether it could be done.
@@ -93,15 +93,4 @@ fn appends_zeros_alone<A: Atomicity>(block: &mut A::Block, keep: usize, count: u
         }
         None => false,
     }
-}
-
-// Bytes and then so many zeros, in a vector.
-fn with_zeros(alloc: Global, bytes: &[u8], count: usize) -> Result<Vec<u8>, AllocError>
-    requires { length bytes.now + count ≤ MAX_LEN }
-    ensures { IfOk result (λ v. v.items ≡ bytes.now ++ replicate count 0) }
-{
-    let len = bytes.len() + count;
-    let mut padded = with_room(alloc, bytes, len)?;
-    padded.resize(len, 0)?;
-    Ok(padded)
 }

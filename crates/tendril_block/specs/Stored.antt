@@ -1,0 +1,13 @@
+use Rattle.std.specs.Prelude.{ℕ, List, ◌≤◌, vec_capacity}
+use Rattle.tendril_block.specs.declared.stored.Stored.{Stored}
+use Rattle.tendril_block.specs.declared.stored.Stored.TheVariants.{Small, Large}
+
+-- the bytes that are stored
+abbrev pub stored_bytes : Stored → List ℕ
+stored_bytes (Small few) = few.items
+stored_bytes (Large bytes) = bytes.items
+
+-- so many bytes in all take no memory
+abbrev pub HasRoom : Stored → ℕ → Type 0
+HasRoom (Small few) count = count ≤ 40
+HasRoom (Large bytes) count = count ≤ vec_capacity bytes

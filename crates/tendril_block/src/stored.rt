@@ -1,0 +1,171 @@
+//! Where the bytes of a block stand: few in the counted node itself, more in a vector.
+ghost use Rattle.std.specs.Prelude.{◌≡◌, ◌+◌, ◌≤◌, ◌++◌, length, take, replicate, min, IfOk, IfErr, OnOk, OnErr, vec_len, vec_capacity};
+ghost use Rattle.tendril_block.specs.Stored.{stored_bytes, HasRoom};
+
+use crate::refusal::Refusal;
+use arrayvec::ArrayVec;
+use std::alloc::Global;
+
+/// The most bytes that stand in the counted node itself, so that it and they are one request for memory.
+pub const FEW: usize = 40;
+
+#[derive(Drop)]
+pub(crate) enum Stored {
+    Small(ArrayVec<u8, 40, Global>),
+    Large(Vec<u8>),
+}
+
+impl Stored {
+    /// A copy of few bytes.
+    pub(crate) fn small(alloc: Global, bytes: &[u8]) -> Self
+        requires { length bytes.now ≤ 40 }
+        ensures { stored_bytes result ≡ bytes.now }
+    {
+        let mut few = ArrayVec::new_in(alloc);
+        put(&mut few, bytes);
+        Stored::Small(few)
+    }
+
+    /// A copy of these bytes with room for so many.
+    pub(crate) fn copy(alloc: Global, bytes: &[u8], capacity: usize) -> Result<Self, Refusal>
+        ensures bytes { IfOk result (λ s. stored_bytes s ≡ bytes.now) }
+        ensures refusal { IfErr result (λ r. r ≡ Refusal.Memory) }
+    {
+        let capacity = capacity.max(bytes.len());
+        if capacity <= FEW {
+            return Ok(Stored::small(alloc, bytes));
+        }
+        let mut copy = Vec::with_capacity(alloc, capacity)?;
+        append_reserved(&mut copy, bytes);
+        Ok(Stored::Large(copy))
+    }
+
+    pub(crate) fn as_slice(&self) -> &[u8]
+        ensures { result.now ≡ stored_bytes self.now }
+    {
+        match self {
+            Stored::Small(few) => few.as_slice(),
+            Stored::Large(bytes) => bytes.as_slice(),
+        }
+    }
+
+    pub(crate) fn allocator(&self) -> Global {
+        match self {
+            Stored::Small(few) => *few.allocator(),
+            Stored::Large(bytes) => *bytes.allocator(),
+        }
+    }
+
+    /// Makes room for so many bytes in all.
+    pub(crate) fn make_room(&mut self, count: usize) -> Result<(), Refusal>
+        ensures bytes { stored_bytes self.new ≡ stored_bytes self.old }
+        ensures ok { OnOk result (HasRoom self.new count) }
+        ensures refusal { IfErr result (λ r. r ≡ Refusal.Memory) }
+    {
+        match self {
+            Stored::Small(_) if count <= FEW => {}
+            Stored::Small(few) => {
+                let bytes = spilled(few, count)?;
+                *self = Stored::Large(bytes);
+            }
+            Stored::Large(bytes) => bytes.reserve(count.saturating_sub(bytes.len()))?,
+        }
+        Ok(())
+    }
+
+    /// Puts bytes at the end.
+    pub(crate) fn append(&mut self, more: &[u8]) -> Result<(), Refusal>
+        ensures bytes { OnOk result (stored_bytes self.new ≡ stored_bytes self.old ++ more.now) }
+        ensures refusal { IfErr result (λ r. r ≡ Refusal.Memory) }
+        ensures err { OnErr result (stored_bytes self.new ≡ stored_bytes self.old) }
+    {
+        match self {
+            Stored::Small(few) if more.len() <= FEW - few.len() => put(few, more),
+            Stored::Small(few) => {
+                let count = few.len().checked_add(more.len()).ok_or(Refusal::Memory)?;
+                let mut bytes = spilled(few, count)?;
+                append_reserved(&mut bytes, more);
+                *self = Stored::Large(bytes);
+            }
+            Stored::Large(bytes) => bytes.extend_from_slice(more)?,
+        }
+        Ok(())
+    }
+
+    /// Puts so many zeros at the end.
+    pub(crate) fn append_zeros(&mut self, count: usize) -> Result<(), Refusal>
+        ensures bytes { OnOk result (stored_bytes self.new ≡ stored_bytes self.old ++ replicate count 0) }
+        ensures refusal { IfErr result (λ r. r ≡ Refusal.Memory) }
+        ensures err { OnErr result (stored_bytes self.new ≡ stored_bytes self.old) }
+    {
+        let len = self
+            .as_slice()
+            .len()
+            .checked_add(count)
+            .ok_or(Refusal::Memory)?;
+        self.make_room(len)?;
+        match self {
+            Stored::Small(few) => put(few, &[0; FEW][..count]),
+            Stored::Large(bytes) => bytes.resize(len, 0)?,
+        }
+        Ok(())
+    }
+
+    /// Puts bytes in the place of all from `keep` on, where there is room for them.
+    pub(crate) fn replace_end(&mut self, keep: usize, middle: &[u8], more: &[u8])
+        requires { HasRoom self.old (min keep (length (stored_bytes self.old)) + length middle.now + length more.now) }
+        ensures { stored_bytes self.new ≡ take keep (stored_bytes self.old) ++ middle.now ++ more.now }
+    {
+        match self {
+            Stored::Small(few) => {
+                few.truncate(keep);
+                put(few, middle);
+                put(few, more);
+            }
+            Stored::Large(bytes) => {
+                bytes.truncate(keep);
+                append_reserved(bytes, middle);
+                append_reserved(bytes, more);
+            }
+        }
+    }
+
+    pub(crate) fn truncate(&mut self, len: usize)
+        ensures { stored_bytes self.new ≡ take len (stored_bytes self.old) }
+    {
+        match self {
+            Stored::Small(few) => few.truncate(len),
+            Stored::Large(bytes) => bytes.truncate(len),
+        }
+    }
+}
+
+// A vector of few bytes with room for so many.
+fn spilled(few: &ArrayVec<u8, 40, Global>, count: usize) -> Result<Vec<u8>, Refusal>
+    ensures bytes { IfOk result (λ v. (v.items ≡ few.now.items) × (count ≤ vec_capacity v)) }
+    ensures refusal { IfErr result (λ r. r ≡ Refusal.Memory) }
+{
+    let mut bytes = Vec::with_capacity(*few.allocator(), count.max(2 * FEW))?;
+    append_reserved(&mut bytes, few.as_slice());
+    Ok(bytes)
+}
+
+// Puts bytes behind few, where they stay few.
+fn put(few: &mut ArrayVec<u8, 40, Global>, more: &[u8])
+    requires { length few.old.items + length more.now ≤ 40 }
+    ensures { few.new.items ≡ few.old.items ++ more.now }
+{
+    let appended = few.try_extend_from_slice(more);
+    prove!(appended.is_ok());
+}
+
+// Puts bytes where there is room for them.
+fn append_reserved(bytes: &mut Vec<u8>, more: &[u8])
+    requires { vec_len bytes.old + length more.now ≤ vec_capacity bytes.old }
+    ensures items { bytes.new.items ≡ bytes.old.items ++ more.now }
+    ensures len { vec_len bytes.new ≡ vec_len bytes.old + length more.now }
+    ensures capacity { vec_capacity bytes.old ≤ vec_capacity bytes.new }
+{
+    let appended = bytes.extend_from_slice(more);
+    prove!(appended.is_ok());
+}
