@@ -5,7 +5,9 @@ mod behind;
 mod dropped;
 mod few;
 mod long;
+mod printed;
 mod short;
+mod sizes;
 mod strings;
 
 use std::alloc::{AllocError, Global};

@@ -2,6 +2,5 @@
 //! rows written by hand, and never from what the calls answered.
 
 mod runs;
-mod sizes;
 mod slices;
 mod texts;

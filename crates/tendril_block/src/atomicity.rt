@@ -8,7 +8,7 @@ use crate::refusal::Refusal;
 use crate::sole::Sole;
 use std::alloc::Global;
 
-/// The capacity that a new block has at least, in bytes.
+/// A block that `copy` makes has room for so many bytes at least.
 pub const MIN_CAP: u32 = 16;
 
 /// The greatest length of a text, in bytes.

@@ -43,7 +43,8 @@ impl<F: Format + Copy + Default + Debug, A: Atomicity> Tendril<F, A> {
 }
 
 impl<A: Atomicity> Tendril<UTF8, A> {
-    /// The text that a value prints. Where the value's own `Display` fails, it is what was printed before.
+    /// The text that a value prints, or why a push of it was refused. Where the value's own `Display` fails without a
+    /// refused push, it is what was printed before.
     ///
     /// `print` answers what `Display` did too, and so says exactly when a push is refused.
     pub fn format<T: Display>(alloc: Global, value: &T) -> Result<Self, Refusal>
