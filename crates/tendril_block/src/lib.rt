@@ -7,15 +7,20 @@
 mod atomicity;
 mod body;
 mod copied;
+mod holder;
 mod local;
+mod node;
 mod refusal;
+mod shared;
 mod sole;
 mod stored;
 
 pub use atomicity::{Atomicity, MAX_HOLDERS, MAX_LEN, MIN_CAP};
 pub use body::Body;
-pub use local::{LocalBlock, NonAtomic};
+pub use holder::{Counted, CountedBy, Holder};
+pub use local::{LocalBlock, LocalPointer, NonAtomic};
 pub use refusal::Refusal;
+pub use shared::{Atomic, AtomicUpTo, SharedBlock, SharedPointer};
 pub use sole::Sole;
 pub use stored::FEW;
 pub use tendril_count::interleavings;

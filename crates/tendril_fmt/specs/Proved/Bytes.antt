@@ -1,7 +1,7 @@
 -- What is made of bytes below 256 is below 256, and so are parts of it.
-use Rattle.std.proofs.Common.{◌≡◌, ℕ, zero, suc, ◌+◌, ◌-◌, ◌<◌, ◌≤◌, List, [], ◌∷◌, ◌++◌, length, take, drop, slice_index, IsAscii, refl, sym, ap, subst, ◌∙◌, arith, ⊎_elim, length-take, get_or-take, get_or-drop, take_at, drop_at}
+use Rattle.std.proofs.Common.{ℕ, zero, suc, ◌+◌, ◌<◌, List, [], ◌∷◌, ◌++◌, length, take, drop, IsAscii, refl, sym, ap, subst, ◌∙◌, arith, ⊎_elim, length-take, get_or-take, get_or-drop, take_at, drop_at}
 use Rattle.std.specs.List.{All, AllByRecursion}
-use Rattle.std.specs.Str.{IsUtf8, encode_utf8_all}
+use Rattle.std.specs.Str.{encode_utf8_all}
 use Rattle.std.specs.Char.{encode_utf8}
 use Rattle.std.proofs.lemmas.Bool.{cases_lt}
 use Rattle.std.proofs.lemmas.List.{get_or_past}

@@ -1,0 +1,133 @@
+-- The machine values of a `SharedHandle`. Assumes `Logic`.
+use Rattle.std.proofs.Common.{◌≡◌, ℕ, ◌+◌, ◌≢◌, Bool, true, false, List, [], ◌∷◌, ◌++◌, refl, sym, subst}
+use seplogic.Ra.Ura.{Ura}
+use mir.Syntax.{impl, tnil, dnil}
+use mir.Val.{Val, vptr, vstruct, of_list}
+use base.Fraction.{full_share}
+use base.Logic.{ent, sep, upd, id⊢}
+use base.Fml.{Fml, ftrue, fsep, fex}
+use types.Logic.{Logic, sem}
+use types.Kit.{Item, Goal, Seq, Step, step, ‵, raw, ◌⊛◌, given, later, ◌$◌, ◌∵◌, !, qed, by, move, drop, split, learn, await, use1, use2, rewrite, fsplit, fsplit3, fjoin, fpick, fpack, feq_i, feq_l, updating, now, done}
+use types.Owned.{basic}
+use types.Tokens.{lent_back}
+use types.RcWeak.{part}
+use denote.Memory.{mem, cell_at, part_at, part_of}
+use denote.RattleType.{RattleType, Valss}
+use denote.Builtin.{RawPtr}
+use denote.RawPtr.{Ptr, block_ptr, ptr_val, in_a_block}
+use denote.Steps.{nothing}
+use denote.Param.{layout}
+use denote.Struct.Struct.{within}
+use denote.Struct.Owning.{shape}
+use Rattle.core.proofs.alloc.Calls.{Al, handle_tells}
+use Rattle.core.proofs.cell.Inside.{Good}
+use Rattle.std.specs.declared.alloc.Global.{Global}
+use Rattle.std.specs.contracts.alloc.Global as heap
+use Rattle.std.proofs.alloc.Global.TheLaws as heap_laws
+use Rattle.std.specs.contracts.impls.GlobalAllocator.TheImpl.{ghosts}
+use Rattle.atomic_table.specs.Seated.{word, fact, roster}
+use Rattle.tendril_count.specs.Machine.{Ended, Reads, Writes, Block as Counted, holder_at, subtracted}
+use Rattle.tendril_count.specs.Rule.{holder_coded, mark, subtract_gives, join_gives, alone_gives}
+use Rattle.tendril_count.proofs.Reached as reached
+use Rattle.tendril_count.proofs.Reached.{IsGivenUp, IsFreed, given_up, is_freed}
+use Rattle.tendril_count.proofs.Steps.{marked}
+use Rattle.std_alloc.specs.Owners.{sole_or_counted}
+use Rattle.tendril_block.proofs.Carved.{low}
+use Rattle.tendril_block.proofs.Values.{both}
+use Rattle.tendril_block.specs.declared.node.shared.SharedHandle.{SharedHandle}
+use Rattle.tendril_block.specs.contracts.node.shared.SharedHandle as block
+use Rattle.tendril_block.specs.Written.{with_body}
+use Rattle.tendril_block.specs.Held.{limit, BodyRow, BodyIn, body_at, content, Id, all_but_body, owed, freed, stands, reader, writer, held_at, block_owns, Step as Stepped, leaves_with, sees}
+
+abbrev pub Z : RattleType
+Z = heap.the_row
+
+abbrev pub al : Al
+al = record { row = Z; laws = heap_laws.the_row_laws; g = ghosts; d = impl [] tnil dnil; drops = impl [] tnil dnil }
+
+module _ {M : Type 1} {𝓤 : Ura M} {𝓛 : Logic 𝓤} {K : Type 0} {Γ : List (Item 𝓤)} {G : Goal 𝓤 𝓛.H} where
+  pub block_out : K → (d : SharedHandle) (vs : List Val)
+      → ((b o : ℕ) (h : Val) → d.node ≡ block_ptr b o → vs ≡ both (vptr b o) h ∷ [] → Good (layout Z) h → Seq K 𝓛 (‵ (held_at true d.limit d.alloc d.inner b o) ∷ ‵ (Z.own_val d.alloc (h ∷ [])) ∷ Γ) G)
+      → Seq K 𝓛 (‵ (block.the_row.own_val d vs) ∷ Γ) G
+  block_out t d vs k =
+      fsplit t $ fpick t (λ vss. fsplit t $ feq_l t (λ ev. fsplit t $ feq_l t (λ ep. fsplit t $ handle_tells al t d.alloc vss.1.0 (λ h ea fits. move t (1 ∷ []) $ drop t $ move t (1 ∷ []) $
+      in_a_block t d.node (λ p. block_owns true d.limit p d.alloc d.inner) (id⊢ 𝓤 _) (λ b o e. k b o h e
+      (subst (λ (p : Ptr). vs ≡ vstruct (of_list (ptr_val p ∷ h ∷ [])) ∷ []) e
+      (subst (λ (ws : List Val). vs ≡ vstruct (of_list (ptr_val d.node ∷ (ws ++ []))) ∷ []) ea (subst (λ (ps : List Val). vs ≡ vstruct (of_list (ps ++ (vss.1.0 ++ []))) ∷ []) ep ev))) fits)))))
+
+  pub block_in : K → (l b o : ℕ) (h : Val) (a : Global) (x : BodyIn)
+      → Step K 𝓛 (‵ (block.the_row.own_val (record { node = block_ptr b o; alloc = a; limit = l; inner = x }) (both (vptr b o) h ∷ [])) ∷ Γ) G (‵ (held_at true l a x b o) ∷ ‵ (Z.own_val a (h ∷ [])) ∷ Γ) G
+  block_in t l b o h a x = step (λ s. let v : Val = both (vptr b o) h in
+      nothing t $ move t (2 ∷ 0 ∷ []) $ fjoin t $ feq_i t (List Val) (vptr b o ∷ []) (vptr b o ∷ []) refl $ fjoin t $ feq_i t (List Val) (v ∷ []) (v ∷ []) refl $ fjoin t $
+      fpack t (Valss (RawPtr ∷ (heap.the_field).row ∷ [])) (within (shape block.the_type) (block_ptr b o, ((heap.the_field).into a, tt)) (v ∷ [])) (vptr b o ∷ [], (h ∷ [], tt)) $ fjoin t $ s)
+
+module _ {M : Type 1} {𝓤 : Ura M} (𝓛 : Logic 𝓤) where
+  open 𝓛 use {H}
+
+  -- who finds 1 has the word, the content and the duty
+  pub taken : (g : Stepped) (b w n : ℕ) → n ≡ 1 → ent 𝓤 (sem 𝓛 (leaves_with g b w n)) (H.⇛ (sep 𝓤 (sem 𝓛 (word b w 0)) (sep 𝓤 (sem 𝓛 (content g.1 g.2 b g.3)) (sem 𝓛 (owed g.0 g.4)))))
+  taken g b w n one = qed 𝓛 (‵ (leaves_with g b w n) ∷ []) ∵ fpick ! (λ y. by ! (at y))
+    where
+      gives : Bool → Fml
+      gives = subtract_gives holder_coded.code (limit g.0) (content g.1 g.2 b g.3) b w g.4.0 g.4.1 g.4.3 n
+
+      at : (y : Bool) → ent 𝓤 (sem 𝓛 (subtract_gives holder_coded.code (limit g.0) (content g.1 g.2 b g.3) b w g.4.0 g.4.1 g.4.3 n y)) (H.⇛ (sep 𝓤 (sem 𝓛 (word b w 0)) (sep 𝓤 (sem 𝓛 (content g.1 g.2 b g.3)) (sem 𝓛 (owed g.0 g.4)))))
+      at true = qed 𝓛 (‵ (subtract_gives holder_coded.code (limit g.0) (content g.1 g.2 b g.3) b w g.4.0 g.4.1 g.4.3 n true) ∷ []) ∵ updating ! $ fsplit ! $ drop ! $ fsplit ! $ move ! (1 ∷ []) $ fsplit3 ! $
+          -- [the end; what was shared; the machine; the word]
+          lent_back ! tt $ now ! $ move ! (2 ∷ 0 ∷ 1 ∷ []) $ done !
+      at false = qed 𝓛 (‵ (fact (n ≢ 1)) ∷ []) ∵ fpick ! (λ no. absurd (no one))
+
+  -- who loads 1 has the node
+  pub granted : (g : Stepped) (b n : ℕ) → n ≡ 1 → ent 𝓤 (sem 𝓛 (sees g b (g.3 + 0) n)) (H.⇛ (sep 𝓤 (sem 𝓛 (part_at BodyRow full_share g.2 b (g.3 + body_at))) (sem 𝓛 (all_but_body g.0 g.1 g.2 b g.3 g.4))))
+  granted g b n one = qed 𝓛 (‵ (sees g b (g.3 + 0) n) ∷ []) ∵ fpick ! (λ y. by ! (at y))
+    where
+      at : (y : Bool) → ent 𝓤 (sem 𝓛 (alone_gives holder_coded.code (limit g.0) (content g.1 g.2 b g.3) b (g.3 + 0) g.4.0 g.4.1 g.4.2 g.4.3 n y)) (H.⇛ (sep 𝓤 (sem 𝓛 (part_at BodyRow full_share g.2 b (g.3 + body_at))) (sem 𝓛 (all_but_body g.0 g.1 g.2 b g.3 g.4))))
+      at true = qed 𝓛 (‵ (alone_gives holder_coded.code (limit g.0) (content g.1 g.2 b g.3) b (g.3 + 0) g.4.0 g.4.1 g.4.2 g.4.3 n true) ∷ []) ∵ updating ! $ fsplit ! $ drop ! $ fsplit ! $ move ! (1 ∷ []) $ fsplit ! $ move ! (1 ∷ []) $ fsplit3 ! $
+          -- [the end; what was shared; the machine; the word; the mark]
+          lent_back ! tt $ now ! $ fsplit ! $ move ! (2 ∷ 1 ∷ []) $ fjoin ! $ move ! (2 ∷ 0 ∷ []) $ fjoin ! $ move ! (2 ∷ 0 ∷ []) $ fjoin ! $ move ! (1 ∷ 0 ∷ []) $ done !
+      at false = qed 𝓛 (‵ (alone_gives holder_coded.code (limit g.0) (content g.1 g.2 b g.3) b (g.3 + 0) g.4.0 g.4.1 g.4.2 g.4.3 n false) ∷ []) ∵ fsplit ! $ fpick ! (λ no. absurd (no one))
+
+  -- who loads another number reads on
+  pub refused : (g : Stepped) (b w n : ℕ) → n ≢ 1 → ent 𝓤 (sem 𝓛 (sees g b w n)) (sep 𝓤 (sem 𝓛 (mark holder_coded.code g.4.1 g.4.2 (Reads g.4.3))) (sem 𝓛 (part 63 g.4.0)))
+  refused g b w n more = qed 𝓛 (‵ (sees g b w n) ∷ []) ∵ fpick ! (λ y. by ! (at y))
+    where
+      at : (y : Bool) → ent 𝓤 (sem 𝓛 (alone_gives holder_coded.code (limit g.0) (content g.1 g.2 b g.3) b w g.4.0 g.4.1 g.4.2 g.4.3 n y)) (sep 𝓤 (sem 𝓛 (mark holder_coded.code g.4.1 g.4.2 (Reads g.4.3))) (sem 𝓛 (part 63 g.4.0)))
+      at true = qed 𝓛 (‵ (alone_gives holder_coded.code (limit g.0) (content g.1 g.2 b g.3) b w g.4.0 g.4.1 g.4.2 g.4.3 n true) ∷ []) ∵ fsplit ! $ fpick ! (λ one. absurd (more one))
+      at false = qed 𝓛 (‵ (alone_gives holder_coded.code (limit g.0) (content g.1 g.2 b g.3) b w g.4.0 g.4.1 g.4.2 g.4.3 n false) ∷ []) ∵ fsplit ! $ drop ! $ fsplit ! $ done !
+
+  -- a writer that gives its holder up, its word at 0, has the duty
+  pub gives_up : (l b w : ℕ) (P : Fml) (i : Id) → ent 𝓤 (sep 𝓤 (sem 𝓛 (mark holder_coded.code i.1 i.2 (Writes i.3))) (sem 𝓛 (fex Counted (stands l i)))) (H.⇛ (sem 𝓛 (owed l i)))
+  gives_up l b w P i = qed 𝓛 (‵ (mark holder_coded.code i.1 i.2 (Writes i.3)) ∷ ‵ (fex Counted (stands l i)) ∷ []) ∵ updating ! $ move ! (1 ∷ []) $ fpick ! (λ s. fsplit ! $ move ! (1 ∷ []) $ fpick ! (λ so. drop ! $
+      let s' : Counted = subtracted s i.2 Ended i.3 in let Ended_at = raw (upd 𝓤 (sep 𝓤 (sem 𝓛 (roster holder_coded.code i.1 0 s'.holders)) (sem 𝓛 (mark holder_coded.code i.1 i.2 Ended)))) in
+      use2 𝓛 (given (holder_at s.holders i.2 ≡ Writes i.3) Ended_at) (marked 𝓛 (limit l) P b w 0 i.1 (low l) s i.2 (Writes i.3) Ended) $ learn ! (λ at.
+      use1 𝓛 (later (‵ (roster holder_coded.code i.1 0 s'.holders) ⊛ ‵ (mark holder_coded.code i.1 i.2 Ended))) (basic 𝓛 (sep 𝓤 (sem 𝓛 (roster holder_coded.code i.1 0 s'.holders)) (sem 𝓛 (mark holder_coded.code i.1 i.2 Ended)))) $ await ! tt $ split ! $
+      move ! (1 ∷ []) $ drop ! $ nothing ! $ fpack ! (IsGivenUp (limit l) s' i.3) (λ _. ftrue) (given_up (limit l) (low l) s i.2 i.3 so.0 so.2 so.1) $ move ! (1 ∷ 0 ∷ []) $ fjoin ! $
+      fpack ! Counted (λ t. fsep (roster holder_coded.code i.1 0 t.holders) (fact (IsGivenUp (limit l) t i.3))) s' $ now ! $ done !)))
+
+  -- who has the duty frees
+  pub frees : (l : ℕ) → ent 𝓤 (sem 𝓛 (fex Id (owed l))) (sem 𝓛 (fex Id (freed l)))
+  frees l = qed 𝓛 (‵ (fex Id (owed l)) ∷ []) ∵ fpick ! (λ i. fpick ! (λ s. fsplit ! $ move ! (1 ∷ []) $ fpick ! (λ so. drop ! $
+      nothing ! $ fpack ! (IsFreed (limit l) (reached.freed s)) (λ _. ftrue) (is_freed (limit l) s i.3 so) $ move ! (1 ∷ 0 ∷ []) $ fjoin ! $
+      fpack ! Counted (λ t. fsep (roster holder_coded.code i.1 0 t.holders) (fact (IsFreed (limit l) t))) (reached.freed s) $ fpack ! Id (freed l) i $ done !)))
+
+  -- with any list in its place, what was lent is the handle again
+  pub back : (d : SharedHandle) (b o nb na : ℕ) (h : Val) (i : Id) → d.node ≡ block_ptr nb na → (w : BodyIn)
+      → ent 𝓤 (sep 𝓤 (sem 𝓛 ((mem BodyRow).own_at w nb (na + body_at))) (sem 𝓛 (fsep (all_but_body d.limit d.alloc d.inner nb na i) (fsep (Z.own_val d.alloc (h ∷ [])) (cell_at full_share block.the_row.mir (both (vptr nb na) h ∷ []) b o)))))
+      (sem 𝓛 ((mem block.the_row).own_at (with_body d w) b o))
+  unfolding part_of
+  back d b o nb na h i e w = let v : Val = both (vptr nb na) h in
+      qed 𝓛 (‵ (part_at BodyRow full_share w nb (na + body_at)) ∷ ‵ (fsep (all_but_body d.limit d.alloc d.inner nb na i) (fsep (Z.own_val d.alloc (h ∷ [])) (cell_at full_share block.the_row.mir (v ∷ []) b o))) ∷ []) ∵
+      move ! (1 ∷ []) $ fsplit3 ! $ fsplit3 ! $ move ! (2 ∷ []) $ fsplit ! $
+      -- [the machine; the right to free; the mark; the word; the handle; the cell; the list]
+      move ! (6 ∷ 1 ∷ []) $ fjoin ! $ move ! (1 ∷ 0 ∷ []) $ fjoin ! $ move ! (2 ∷ 0 ∷ []) $ fjoin ! $ move ! (1 ∷ 0 ∷ []) $ fjoin ! $
+      fpack ! Id (writer d.limit d.alloc w nb na) i $ fpack ! Bool (sole_or_counted (fex Id (writer d.limit d.alloc w nb na)) (fex Id (reader true d.limit d.alloc w nb na))) true $
+      block_in ! d.limit nb na h d.alloc w $ rewrite ! 0 (λ (p : Ptr). ‵ (block.the_row.own_val (record { node = p; alloc = d.alloc; limit = d.limit; inner = w }) (v ∷ []))) (sym e) refl $
+      move ! (1 ∷ 0 ∷ []) $ fjoin ! $ fpack ! (List Val) (λ us. fsep (cell_at full_share block.the_row.mir us b o) (block.the_row.own_val (with_body d w) us)) (v ∷ []) $ done !
+
+  -- who adds where the word was still the same has a new holder
+  pub joined : (l : ℕ) (P : Fml) (b w a γ t old n : ℕ) → n ≡ old → ent 𝓤 (sem 𝓛 (fex Bool (join_gives holder_coded.code l P b w a γ t old n))) (sem 𝓛 (fsep (fex ℕ (λ j. mark holder_coded.code γ j (Reads t))) (part 63 a)))
+  joined l P b w a γ t old n same = qed 𝓛 (‵ (fex Bool (join_gives holder_coded.code l P b w a γ t old n)) ∷ []) ∵ fpick ! (λ y. by ! (at y))
+    where
+      at : (y : Bool) → ent 𝓤 (sem 𝓛 (join_gives holder_coded.code l P b w a γ t old n y)) (sem 𝓛 (fsep (fex ℕ (λ j. mark holder_coded.code γ j (Reads t))) (part 63 a)))
+      at true = qed 𝓛 (‵ (join_gives holder_coded.code l P b w a γ t old n true) ∷ []) ∵ fsplit ! $ drop ! $ done !
+      at false = qed 𝓛 (‵ (join_gives holder_coded.code l P b w a γ t old n false) ∷ []) ∵ fpick ! (λ no. absurd (no same))

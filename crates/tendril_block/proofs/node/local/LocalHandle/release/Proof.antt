@@ -1,0 +1,106 @@
+-- `release` opens the rule with the thread's token, takes a holder off the count, and joins the node again where it was the last.
+use Rattle.std.proofs.Common.{◌≡◌, ℕ, ◌+◌, ◌-◌, ◌%◌, ◌^◌, ◌<◌, arith, false, List, [], ◌∷◌, ◌++◌, refl, sym, subst, lit<}
+use lib.Dec.{eqb→eq}
+use mir.Val.{Val, vptr, vcons, vnil}
+use base.Logic.{SProp, ent, emp, id⊢}
+use base.Fml.{Fml, ftrue, fex, ftok}
+use prog.Wp.{WpFn}
+use types.Kit.{‵, raw, ◌⊛◌, some, later, at_ret, ◌$◌, ◌∵◌, !, qed, by, move, keep, split, split3, join, fsplit, fsplit3, fjoin, fpick, fpack, pick, learn, given, suffices, use0, use1, use2, use3, await, rewrite}
+use types.Run.{stop, fld, load, look, store, assigns_last, lit, of_opd, bin, no_more, and_then, first, blocks, branches, exec, returns, enter}
+use types.ByLocal.{alloc_all, pass_all, free_all, look_at, get, get_in, through, sets, sets_last, env}
+use types.Part.{agg, sub, whole}
+use types.Match.{live}
+use contract.Monad.{fact, fact_i}
+use denote.Exit.{yes}
+use denote.RattleType.{RattleType, owns}
+use denote.Signature.{types_at, type_at, plain}
+use denote.Memory.{part_at}
+use denote.Param.{layout}
+use denote.RawPtr.{block_ptr}
+use denote.Steps.{nothing}
+use denote.Triple.Walked.{Stays, stay_dropped, walk_of, Goes-dropped}
+use base.Fraction.{full_share}
+use Rattle.core.specs.declared.option.Option.TheVariants.{None, Some}
+use Rattle.core.proofs.alloc.Shapes.{after}
+use Rattle.core.proofs.cell.Inside.{Good}
+use Rattle.core.proofs.option.Made.{Some-of, none_of}
+use Rattle.std.proofs.alloc.Global.TheLaws as heap_laws
+use Rattle.std.specs.contracts.impls.GlobalAllocator.TheImpl.{ghosts}
+use Rattle.std.proofs.raw_atomic.Walks.{leaves}
+use Rattle.std_alloc.proofs.ResultValues.{and_tt}
+use Rattle.atomic_table.specs.Seated.{word}
+use Rattle.tendril_block.proofs.Values.{both, loose_good}
+use Rattle.tendril_block.proofs.Lasts.{L, last_in}
+use Rattle.tendril_block.proofs.Carved.{rejoin, counted, kept_twice, low}
+use Rattle.tendril_block.proofs.Handles.{Z, taken}
+use Rattle.tendril_block.proofs.LocalHandles.{local_out}
+use Rattle.tendril_block.proofs.NodeWalks.{with_token, proved_with_token, opens_rule}
+use Rattle.tendril_count.proofs.Steps.{part_alive, found_live, some_word, subtracts_plainly}
+use Rattle.tendril_count.proofs.Kept.{down}
+use Rattle.tendril_count.specs.Machine.{Reads}
+use Rattle.tendril_count.specs.Machine.{Block as Counted}
+use Rattle.tendril_count.specs.Rule.{holder_coded, mark, beside}
+use types.RcWeak.{part}
+use types.Logic.{sem}
+use base.Mask.{every}
+use base.Logic.{sep, wand, apply∗}
+use Rattle.tendril_block.specs.Held.{limit, kept, content, owed, rule, reader, Id, Step, leaves_with}
+use Rattle.tendril_block.specs.declared.node.Node.{Node}
+use Rattle.tendril_block.specs.contracts.node.Node as node
+use Rattle.tendril_block.specs.contracts.node.local.LocalHandle as block
+use Rattle.tendril_block.specs.contracts.node.local.LocalHandle.release.{ended, clauses}
+use Rattle.tendril_block.specs.contracts.node.local.LocalHandle.release.Key.{name as #self}
+use Rattle.tendril_block.proofs.node.local.LocalHandle.release.Statement.{statement}
+use Rattle.tendril_block.proofs.node.local.LocalHandle.release.Code as code
+use Rattle.tendril_block.proofs.node.local.LocalHandle.release.Code.{code}
+
+abbrev Self : RattleType
+Self = block.the_row
+
+abbrev stayed : Stays ended.signature.params ended.kept
+stayed = (stay_dropped (plain (λ _. Self)) yes, tt)
+
+pub release_spec : {M : Type 1} → statement M
+unfolding code
+release_spec 𝓤 𝓛 𝓜 𝓡 wired =
+    let H = 𝓛.H in let A = 𝓛.A in let c₀ = clauses 𝓛 𝓜.mem 𝓡.returns in let c = with_token 𝓛 ended stayed c₀ in let fn = code.function in
+    proved_with_token 𝓛 ended stayed c₀ 𝓜 𝓡 (Goes-dropped 𝓛 0 (plain (λ _. Self)) yes (λ κs x f. refl), tt) #self fn (wired.0.0 #self refl) (λ C Λ z are.
+    let κs = z.0.0 in let v = z.0.3.0 in let a = v.alloc in let x = v.inner in let l₀ = v.limit in let Post : Val → SProp 𝓤 = (walk_of 𝓛 ended stayed c).post z in let Run : List Val → SProp 𝓤 = λ ws. WpFn 𝓤 H C Λ fn ws Post in
+    let Out : RattleType = type_at ended.signature.result κs in
+    qed 𝓛 ((‵ ftrue ⊛ ‵ (owns (types_at ended.signature.params κs) z.0.3 z.0.4)) ∷ (‵ (ftok every) ⊛ ‵ ftrue) ∷ []) ∵
+    split ! $ move ! (1 ∷ []) $ fsplit ! $ local_out ! v z.0.4.0 (λ b o h e ws fits.
+    let w : Val = both (vptr b o) h in let good_w = loose_good node.the_row Z heap_laws.the_row_laws ghosts b o h fits in
+    suffices ! (Run (w ∷ [])) (subst (λ (us : List Val). ent 𝓤 (Run (w ∷ [])) (Run us)) (sym (λ j. ws j ++ [])) (id⊢ 𝓤 (Run (w ∷ [])))) $
+    enter ! C Λ fn (w ∷ []) Post $ alloc_all ! (λ l. pass_all ! refl (good_w, tt) $ let Ev = env fn.locals l in
+    sets ! (of_opd ! (get_in ! (fld ! refl (stop !)) (sub ! 0 refl (whole !)))) refl (tt, tt) $ sets ! (of_opd ! (get_in ! (fld ! refl (stop !)) (sub ! 1 refl (whole !)))) refl fits $
+    use1 𝓛 (later (‵ (fex Id (reader false l₀ a x b o)))) (counted 𝓛 false l₀ a x b o) $ await ! tt $ fpick ! (λ i. let P : Fml = rule l₀ a x b o i in let K : Fml = kept false b (o + 0) P in let g : Step = (l₀, a, x, o, i) in
+    let Mk : Fml = mark holder_coded.code i.1 i.2 (Reads i.3) in let Cn : Fml = content a x b o in
+    fsplit ! $ move ! (1 ∷ []) $ fsplit ! $ use1 𝓛 (‵ K ⊛ ‵ K) (kept_twice 𝓛 false b (o + 0) P) $ split ! $ move ! (2 ∷ []) $ fsplit ! $
+    -- [mark; shown; rule; rule; part; the handle; the end of the parameters; nothing; the thread's token and nothing]
+    move ! (8 ∷ []) $ split ! $ move ! (4 ∷ 0 ∷ []) $ use2 𝓛 (later (‵ P ⊛ raw (wand 𝓤 (sem 𝓛 P) (H.⇛ (A.tok every))))) (opens_rule 𝓛 (b, o + 0) P) $ await ! tt $ split ! $
+    -- [what the rule says; its way back; nothing; mark; shown; rule; part; the handle; the end of the parameters; nothing]
+    move ! (0 ∷ 3 ∷ 6 ∷ []) $ use3 𝓛 (some (λ (s : Counted). given (s.word < 2 ^ 64) (‵ (word b (o + 0) s.word) ⊛ ‵ (beside holder_coded.code (limit l₀) Cn b (o + 0) i.0 i.1 s) ⊛ ‵ Mk ⊛ ‵ (part 63 i.0))))
+    (found_live 𝓛 (limit l₀) Cn b (o + 0) i.0 i.1 (low l₀) (sep 𝓤 (sem 𝓛 Mk) (sem 𝓛 (part 63 i.0))) (part_alive 𝓛 (limit l₀) Cn b (o + 0) i.0 i.1 (low l₀) (sem 𝓛 Mk))) $ pick ! (λ s. learn ! (λ small. split3 ! $ let n = s.word in
+    first ! $ blocks ! $ sets_last ! (of_opd ! (load ! (through ! refl (fld ! refl (stop !))) (look ! 0 refl))) refl (tt, record { fits = small }) $
+    exec ! C Λ Ev (after 3 fn.body) (at_ret Ev Post) $ sets ! (of_opd ! (get ! refl)) refl (tt, record { fits = small }) $
+    -- [the word; the machine; mark and part; the way back; nothing; shown; rule; the handle; the end of the parameters; nothing]
+    move ! (1 ∷ []) $ use1 𝓛 (given (0 < n) (‵ (beside holder_coded.code (limit l₀) Cn b (o + 0) i.0 i.1 s))) (some_word 𝓛 (limit l₀) Cn b (o + 0) i.0 i.1 (low l₀) s) $ learn ! (λ some_n. move ! (1 ∷ 0 ∷ []) $
+    let less : n - 1 < 2 ^ 64 = omega (arith, small) in let is : n - 1 ≡ (n + (2 ^ 64 - 1)) % 2 ^ 64 = omega (arith, down n some_n small) in
+    first ! $ blocks ! $ sets ! (bin ! (get ! refl) (lit ! tt) some_n) refl (tt, record { fits = less }) $
+    assigns_last ! (of_opd ! (get ! refl)) (through ! refl (fld ! refl (stop !))) (store ! 0 refl (tt, record { fits = less })) $ exec ! C Λ Ev (after 5 fn.body) (at_ret Ev Post) $
+    rewrite ! 0 (λ (m : ℕ). ‵ (word b (o + 0) m)) is refl $
+    use3 𝓛 (later (‵ P ⊛ ‵ (leaves_with g b (o + 0) n))) (subtracts_plainly 𝓛 (limit l₀) Cn b (o + 0) i.0 i.1 (low l₀) i.2 i.3 s) $ await ! tt $ split ! $ move ! (0 ∷ 2 ∷ []) $
+    use2 𝓛 (later (‵ (ftok every))) (apply∗ 𝓤 (sem 𝓛 P) (H.⇛ (A.tok every))) $ await ! tt $ move ! (1 ∷ []) $
+    -- [what the subtract gives; the thread's token; nothing; shown; rule; the handle; the end of the parameters; nothing]
+    sets ! (bin ! (get ! refl) (lit ! tt) tt) refl (tt, tt) $ first ! $ branches ! (get ! refl)
+    (λ last. let d : Node = record { count = 0; body = x } in let lr : L.Denot = record { node = block_ptr b o; alloc = a; limit = l₀; inner = x } in let v₁ : Val = live 1 (vcons w vnil) in
+    let good : Good (layout Out) v₁ = (and_tt _ good_w.0, (record { fits = lit< tt }, (good_w.1, tt))) in
+    use1 𝓛 (later (‵ (word b (o + 0) 0) ⊛ ‵ (content a x b o) ⊛ ‵ (owed l₀ i))) (taken 𝓛 g b (o + 0) n (eqb→eq n 1 last)) $ await ! tt $ split3 ! $ move ! (2 ∷ []) $ fpack ! Id (owed l₀) i $ move ! (2 ∷ []) $ fsplit3 ! $ move ! (4 ∷ 0 ∷ 2 ∷ []) $
+    use3 𝓛 (‵ (part_at node.the_row full_share d b o)) (rejoin 𝓛 d b o) $ fjoin ! $ fjoin ! $ move ! (0 ∷ 5 ∷ []) $ last_in ! l₀ b o h a x $
+    sets ! (agg ! (and_then ! (get ! refl) (and_then ! (get ! refl) (no_more !)))) refl good_w $ sets_last ! (agg ! (and_then ! (lit ! tt) (and_then ! (get ! refl) (no_more !)))) refl good $
+    exec ! C Λ Ev (after 7 fn.body) (at_ret Ev Post) $ sets ! (of_opd ! (get ! refl)) refl good $ use1 𝓛 (‵ (Out.own_val (Some lr) (v₁ ∷ []))) (Some-of 𝓛 L lr w) $
+    use0 𝓛 (raw (fact 𝓤 (x ≡ x))) (fact_i 𝓤 (x ≡ x) (emp 𝓤) refl) $ move ! (2 ∷ 0 ∷ []) $ join ! $ nothing ! $ nothing ! $ fjoin ! $
+    returns ! (look_at ! 0 refl) $ free_all ! refl $ keep ! (7 ∷ 0 ∷ 2 ∷ 1 ∷ []) $ by ! (leaves 𝓛 ended stayed c z v₁ (Some lr) _ (tt, tt)))
+    (λ more. sets_last ! (agg ! (and_then ! (lit ! tt) (no_more !))) refl (tt, (record { fits = lit< tt }, tt)) $ exec ! C Λ Ev (after 7 fn.body) (at_ret Ev Post) $ sets ! (of_opd ! (get ! refl)) refl (tt, (record { fits = lit< tt }, tt)) $
+    use0 𝓛 (‵ (Out.own_val None (live 0 vnil ∷ []))) (none_of 𝓛 L) $ use0 𝓛 (raw (fact 𝓤 (Unit {0}))) (fact_i 𝓤 (Unit {0}) (emp 𝓤) tt) $ move ! (3 ∷ 0 ∷ []) $ join ! $ nothing ! $ nothing ! $ fjoin ! $
+    returns ! (look_at ! 0 refl) $ free_all ! refl $ keep ! (9 ∷ 0 ∷ 2 ∷ 1 ∷ []) $ by ! (leaves 𝓛 ended stayed c z (live 0 vnil) None _ (tt, tt))))))))))

@@ -1,0 +1,6 @@
+-- A block after its list was written over.
+use Rattle.tendril_block.specs.declared.node.shared.SharedHandle.{SharedHandle}
+use Rattle.tendril_block.specs.Held.{BodyIn}
+
+abbrev pub with_body : SharedHandle → BodyIn → SharedHandle
+with_body d w = record { node = d.node; alloc = d.alloc; limit = d.limit; inner = w }

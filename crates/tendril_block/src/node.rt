@@ -1,0 +1,17 @@
+//! The node of a block: one piece of the heap with the word that counts its holders, and the body.
+//!
+//! All functions with a raw pointer stand here. What a holder owns is said in `specs/Held`, by the machine of
+//! `tendril_count` and the rule in which a node's word is kept.
+
+pub(crate) mod last;
+pub(crate) mod local;
+pub(crate) mod loose;
+pub(crate) mod shared;
+
+use crate::body::Body;
+
+#[derive(Drop)]
+pub(crate) struct Node {
+    pub(crate) count: u64,
+    pub(crate) body: Body,
+}

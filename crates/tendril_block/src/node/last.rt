@@ -1,0 +1,33 @@
+//! The node of a block that has no holder any more.
+ghost use Rattle.std.specs.Prelude.{◌≡◌, ℕ};
+ghost use Rattle.std.specs.Borrow.{sem};
+ghost use Rattle.tendril_block.specs.Held.{BodyIn, Id, body_coded, freed, last_owns};
+ghost use base.Fml.{fex};
+
+use crate::node::Node;
+use crate::node::loose::Loose;
+use std::alloc::Global;
+use std::marker::Model;
+
+/// A node that its last holder gave up, with the duty to free it. It can't be let go otherwise.
+pub(crate) struct Last {
+    pub(crate) node: *mut Node,
+    pub(crate) alloc: Global,
+    pub(crate) ghost limit: { ℕ },
+    pub(crate) ghost inner: { BodyIn } by { body_coded },
+}
+
+impl Model for Last {
+    ghost also_owns = { λ l. last_owns l.limit l.node l.alloc l.inner };
+}
+
+impl Last {
+    /// The machine's free: the node is the heap's to take back.
+    pub(crate) fn free(self) -> Loose<Node, Global>
+        ensures body { result.value.body ≡ self.inner }
+        ensures* freed { sem 𝓛 (fex Id (freed self.limit)) }
+    {
+        let Last { node, alloc } = self;
+        Loose { at: node, alloc }
+    }
+}

@@ -1,0 +1,316 @@
+-- One step on a block's word, under its invariant. Assumes `Logic`.
+use Rattle.std.proofs.Common.{◌≡◌, ◌≢◌, ℕ, zero, suc, ◌+◌, ◌-◌, ◌%◌, ◌^◌, ◌<◌, Bool, true, false, List, [], ◌∷◌, refl, sym, ◌∙◌, ap, subst, arith, w64, lt-ltb, eq-eqb, ne_eqb, eqb, if◌then◌else◌, length, ◌==◌}
+use mathlib.Core.Option.{some}
+use mathlib.Core.List.{Mem, not-mem-nil}
+use lib.ListN.{get_elem?}
+use seplogic.Ra.Ura.{Ura}
+use mir.Syntax.{ty_int}
+use mir.Val.{vint, has_ty, WT}
+use base.Fraction.{full_share}
+use base.Logic.{SProp, ent, sep, wand, ex, all, guard, upd, emp, never, never_e, via, id⊢, apply∗, ex_i, all_e, upd_i}
+use base.Fml.{Share, Fml, ftrue, fsep, fex, flft, fdead, flent, finv, fnamed}
+use types.Logic.{Logic, sem}
+use types.Kit.{‵, raw, ◌⊛◌, given, later, ◌$◌, ◌∵◌, !, qed, by, move, keep, drop, split, split3, group, join, fsplit, fsplit3, fjoin, fjoin3, fpick, fpack, pick, learn, show, check, frame, each, assume, suffices, settle, updating, await, use0, use1, use2, use3, rewrite, done}
+use types.Kit as Kit
+use types.Tokens.{lft_end}
+use types.Owned.{basic}
+use types.RcWeak.{part, rest, takes, gives, whole}
+use denote.RawPtr.{block_ptr}
+use denote.Steps.{nothing}
+use Rattle.core.specs.Sync.RawAtomic.{Shift, rests, ends, enters, leaves, asks, always, along, shifted, if_none, back, found}
+use Rattle.atomic_table.specs.Seated.{word, fact, seen, roster}
+use Rattle.atomic_table.proofs.Roster.{Moved, moves, Joined, joins}
+use Rattle.tendril_count.specs.Machine.{Holder, Ended, Reads, Writes, Block, Step, Add, Alone, Subtract, holder_at, becomes, held, happens, is_held, is_surplus, IsLimit, subtracted, added, with_holder, subtract_by, add_by, alone_by}
+use native.Mathlib.Decide.{ℕ_discrete}
+use mathlib.Core.Logic.{dite}
+use Rattle.tendril_count.proofs.Kept.{changed, joined, no_more, up}
+use prog.Atomic.{either}
+use Rattle.tendril_count.proofs.Parts.{told}
+use Rattle.tendril_count.specs.Rule.{holder_coded, join_gives, alone_gives, subtract_gives, IsReached, mark, beside, live, state, Inv, out}
+use Rattle.tendril_count.proofs.Reached.{found_at, set_is, reached_step, reached_kept}
+
+module _ {M : Type 1} {𝓤 : Ura M} (𝓛 : Logic 𝓤) (limit : ℕ) (P : Fml) (b o a γ : ℕ) where
+  open 𝓛 use {H, A}
+
+  abbrev Pr : Type 2
+  Pr = SProp 𝓤
+
+  abbrev ◌⊢◌ : Pr → Pr → Type 1
+  P ⊢ Q = ent 𝓤 P Q
+
+  abbrev ◌∗◌ : Pr → Pr → Pr
+  P ∗ Q = sep 𝓤 P Q
+
+  abbrev ◌-∗◌ : Pr → Pr → Pr
+  P -∗ Q = wand 𝓤 P Q
+
+  abbrev ⟦◌⟧ : Fml → Pr
+  ⟦ P ⟧ = sem 𝓛 P
+
+  infix 26 ◌⊢◌
+  infixr 35 ◌∗◌
+  infixr 30 ◌-∗◌
+  abbrev c : Holder → base.Stored.Gv
+  c = holder_coded.code
+
+  abbrev I : Fml
+  I = Inv c limit P b o a γ
+
+  abbrev Beside : Block → Fml
+  Beside = beside c limit P b o a γ
+
+  -- the rest of a step, with the invariant open
+  abbrev Goes : ℕ → Fml → Pr
+  Goes j Q = shifted 𝓛 (if_none 𝓛 ⟦ Q ⟧) ((j, I) ∷ [])
+
+  now : (j : ℕ) (Q : Fml) → ⟦ I ⟧ ∗ ⟦ Q ⟧ ⊢ Goes j Q
+  now j Q = let L = (j, I) ∷ [] in let T : Pr = upd 𝓤 ⟦ Q ⟧ in
+      qed 𝓛 (‵ I ∷ ‵ Q ∷ []) ∵ suffices ! _ (ex_i 𝓤 (λ (s : Shift). along 𝓛 s (if_none 𝓛 ⟦ Q ⟧) L) (leaves rests)) $
+      suffices ! _ (upd_i 𝓤 (⟦ I ⟧ ∗ T)) $ frame ! $ suffices ! _ (upd_i 𝓤 ⟦ Q ⟧) $ done !
+
+  after_upd : (j : ℕ) (X : Pr) (Q : Fml) → X ⊢ upd 𝓤 (⟦ I ⟧ ∗ ⟦ Q ⟧) → X ⊢ Goes j Q
+  after_upd j X Q h = let L = (j, I) ∷ [] in let T : Pr = upd 𝓤 ⟦ Q ⟧ in
+      qed 𝓛 (raw X ∷ []) ∵ suffices ! _ (ex_i 𝓤 (λ (s : Shift). along 𝓛 s (if_none 𝓛 ⟦ Q ⟧) L) (leaves rests)) $
+      use1 𝓛 (raw (upd 𝓤 (⟦ I ⟧ ∗ ⟦ Q ⟧))) h $ settle 𝓛 (⟦ I ⟧ ∗ T) (‵ I ⊛ ‵ Q) $ suffices ! _ (upd_i 𝓤 (⟦ I ⟧ ∗ T)) $ split ! $ frame ! $ suffices ! _ (upd_i 𝓤 ⟦ Q ⟧) $ done !
+
+  -- the lifetime ends within the step
+  ending : (j : ℕ) (X : Pr) (Q : Fml) → A.dead (a ∷ []) ∗ X ⊢ upd 𝓤 ⟦ Q ⟧ → A.lft (a ∷ []) full_share ∗ X ⊢ Goes j Q
+  ending j X Q h = let L = (j, I) ∷ [] in let T : Pr = upd 𝓤 ⟦ Q ⟧ in let D : Pr = A.dead (a ∷ []) in let C : Pr = upd 𝓤 (⟦ I ⟧ ∗ T) in
+      qed 𝓛 (‵ (flft (a ∷ []) full_share) ∷ raw X ∷ []) ∵ suffices ! _ (ex_i 𝓤 (λ (s : Shift). along 𝓛 s (if_none 𝓛 ⟦ Q ⟧) L) (ends a (leaves rests))) $
+      suffices ! _ (upd_i 𝓤 (A.lft (a ∷ []) full_share ∗ (D -∗ C))) $ frame ! $ assume ! (‵ (fdead (a ∷ []))) $
+      use1 𝓛 (‵ (fdead (a ∷ [])) ⊛ ‵ (fdead (a ∷ []))) (𝓛.lfts.dead_dup (a ∷ [])) $ split ! $ suffices ! _ (upd_i 𝓤 (⟦ I ⟧ ∗ T)) $
+      fpack ! Bool (state c limit P b o a γ) false $ frame ! $ by ! h
+
+  opened : (f : ℕ → ℕ) (told : ℕ → Fml) (X : Pr) → (⟦ fdead (a ∷ []) ⟧ ∗ X ⊢ never 𝓤)
+      → ((j : ℕ) (s : Block) → s.word < 2 ^ 64 → ⟦ word b o (f s.word) ⟧ ∗ ⟦ Beside s ⟧ ∗ X ⊢ Goes j (told s.word))
+      → A.inv I ∗ X ⊢ asks 𝓛 (block_ptr b o) f always told
+  opened f told X alive law = let K : List (ℕ × Fml) → Pr = λ l. ex 𝓤 (found 𝓛 l b o f always told) in
+      qed 𝓛 (‵ (finv I) ∷ raw X ∷ []) ∵ use1 𝓛 (Kit.some (λ (j : ℕ). ‵ (fnamed j I))) (𝓛.invs.inv_named I) $ pick ! (λ j. let L : List (ℕ × Fml) = (j, I) ∷ [] in let F : Pr = K L in
+      suffices ! _ (ex_i 𝓤 (λ (s : Shift). along 𝓛 s K []) (enters j I rests)) $
+      suffices ! _ (upd_i 𝓤 (guard 𝓤 (¬ Mem j []) (A.named j I ∗ (⟦ I ⟧ -∗ upd 𝓤 F)))) $ check ! (λ m. not-mem-nil m) $ frame ! $ assume ! (‵ I) $ suffices ! _ (upd_i 𝓤 F) $
+      by ! (cases j))
+    where
+      cases : (j : ℕ) → ⟦ I ⟧ ∗ X ⊢ ex 𝓤 (found 𝓛 ((j, I) ∷ []) b o f always told)
+      cases j = qed 𝓛 (‵ I ∷ raw X ∷ []) ∵ fpick ! (λ y. by ! (at j y))
+        where
+          at : (j : ℕ) (y : Bool) → ⟦ state c limit P b o a γ y ⟧ ∗ X ⊢ ex 𝓤 (found 𝓛 ((j, I) ∷ []) b o f always told)
+          at j false = via 𝓤 (never 𝓤) alive (never_e 𝓤 _)
+          at j true = qed 𝓛 (‵ (fex Block (live c limit P b o a γ)) ∷ raw X ∷ []) ∵ fpick ! (λ s. fsplit ! $
+              use1 𝓛 (given (lib.Dec.T (has_ty (ty_int w64) (vint w64 s.word)) × WT (vint w64 s.word)) (‵ (word b o s.word))) (𝓛.laws.at_wt full_share (ty_int w64) b o (vint w64 s.word)) $ learn ! (λ g.
+              show ! (found 𝓛 ((j, I) ∷ []) b o f always told) s.word $ frame ! $ each ! (λ (_ : always s.word). back 𝓛 ((j, I) ∷ []) b o f told s.word) (λ _.
+              assume ! (‵ (word b o (f s.word))) $ by ! (law j s g.1.fits))))
+
+  module _ (low : IsLimit limit) where
+    -- a holder has a part of the token, so the lifetime is alive
+    pub part_alive : (X : Pr) → ⟦ fdead (a ∷ []) ⟧ ∗ (X ∗ ⟦ part 63 a ⟧) ⊢ never 𝓤
+    part_alive X = qed 𝓛 (‵ (fdead (a ∷ [])) ∷ raw X ∷ ‵ (part 63 a) ∷ []) ∵ move ! (2 ∷ []) $ fpick ! (λ e. fpick ! (λ n. move ! (0 ∷ 1 ∷ []) $ use2 𝓛 (raw (never 𝓤)) (𝓛.lfts.lft-dead (a ∷ []) e) $ by ! (via 𝓤 _ (base.Logic.fst∗ 𝓤 (never 𝓤) X) (id⊢ 𝓤 (never 𝓤)))))
+
+    pub share_alive : (X : Pr) (q : Share) → ⟦ fdead (a ∷ []) ⟧ ∗ (X ∗ A.lft (a ∷ []) q) ⊢ never 𝓤
+    share_alive X q = qed 𝓛 (‵ (fdead (a ∷ [])) ∷ raw X ∷ ‵ (flft (a ∷ []) q) ∷ []) ∵ move ! (2 ∷ 0 ∷ []) $ use2 𝓛 (raw (never 𝓤)) (𝓛.lfts.lft-dead (a ∷ []) q) $ by ! (via 𝓤 _ (base.Logic.fst∗ 𝓤 (never 𝓤) X) (id⊢ 𝓤 (never 𝓤)))
+
+    -- who has the content and is alive has a live block
+    abbrev pub LiveBeside : Pr → Block → Pr
+    LiveBeside X s = guard 𝓤 (s.word < 2 ^ 64) (⟦ word b o s.word ⟧ ∗ (⟦ Beside s ⟧ ∗ X))
+
+    live_at : (X : Pr) → ⟦ fdead (a ∷ []) ⟧ ∗ X ⊢ never 𝓤 → (y : Bool) → ⟦ state c limit P b o a γ y ⟧ ∗ X ⊢ ex 𝓤 (LiveBeside X)
+    live_at X alive false = via 𝓤 (never 𝓤) alive (never_e 𝓤 _)
+    live_at X alive true = qed 𝓛 (‵ (fex Block (live c limit P b o a γ)) ∷ raw X ∷ []) ∵ fpick ! (λ s. fsplit ! $
+        use1 𝓛 (given (lib.Dec.T (has_ty (ty_int w64) (vint w64 s.word)) × WT (vint w64 s.word)) (‵ (word b o s.word))) (𝓛.laws.at_wt full_share (ty_int w64) b o (vint w64 s.word)) $ learn ! (λ g.
+        show ! (LiveBeside X) s $ check ! g.1.fits $ done !))
+
+    pub found_live : (X : Pr) → ⟦ fdead (a ∷ []) ⟧ ∗ X ⊢ never 𝓤 → ⟦ I ⟧ ∗ X ⊢ ex 𝓤 (LiveBeside X)
+    found_live X alive = qed 𝓛 (‵ I ∷ raw X ∷ []) ∵ fpick ! (λ y. by ! (live_at X alive y))
+
+    pub token_alive : (q : Share) → ⟦ fdead (a ∷ []) ⟧ ∗ A.lft (a ∷ []) q ⊢ never 𝓤
+    token_alive q = qed 𝓛 (‵ (fdead (a ∷ [])) ∷ ‵ (flft (a ∷ []) q) ∷ []) ∵ move ! (1 ∷ 0 ∷ []) $ by ! (𝓛.lfts.lft-dead (a ∷ []) q)
+
+    -- a live block's word is not 0
+    pub some_word : (s : Block) → ⟦ Beside s ⟧ ⊢ guard 𝓤 (0 < s.word) ⟦ Beside s ⟧
+    some_word s = qed 𝓛 (‵ (Beside s) ∷ []) ∵ fsplit ! $ move ! (1 ∷ []) $ fsplit ! $ fpick ! (λ so. check ! (let kept = reached_kept limit low s so.0 in omega (arith, kept.word, so.1)) $
+        fpack ! (IsReached limit s × (0 < held s)) (λ _. ftrue) so $ fjoin ! $ move ! (1 ∷ 0 ∷ []) $ fjoin ! $ done !)
+
+    -- a load that is no step, by a share of the token
+    pub peeks : (q : Share) → A.inv I ∗ A.lft (a ∷ []) q ⊢ asks 𝓛 (block_ptr b o) (λ n. n) always (λ _. flft (a ∷ []) q)
+    peeks q = let Q : Fml = flft (a ∷ []) q in opened (λ n. n) (λ _. Q) (A.lft (a ∷ []) q) (qed 𝓛 (‵ (fdead (a ∷ [])) ∷ ‵ Q ∷ []) ∵ move ! (1 ∷ 0 ∷ []) $ by ! (𝓛.lfts.lft-dead (a ∷ []) q)) (λ j s fits.
+        via 𝓤 (⟦ I ⟧ ∗ ⟦ Q ⟧) (qed 𝓛 (‵ (word b o s.word) ∷ ‵ (Beside s) ∷ ‵ Q ∷ []) ∵ fjoin ! $ fpack ! Block (live c limit P b o a γ) s $ fpack ! Bool (state c limit P b o a γ) true $ done !) (now j Q))
+
+    -- what the holder's mark says of the machine, and its move there
+    pub marked : (s : Block) (k : ℕ) (h u : Holder) → ⟦ roster c γ 0 s.holders ⟧ ∗ ⟦ mark c γ k h ⟧
+        ⊢ guard 𝓤 (holder_at s.holders k ≡ h) (upd 𝓤 (⟦ roster c γ 0 (becomes s.holders k u) ⟧ ∗ ⟦ mark c γ k u ⟧))
+    marked s k h u = qed 𝓛 (‵ (roster c γ 0 s.holders) ∷ ‵ (mark c γ k h) ∷ []) ∵
+        use2 𝓛 (given (get_elem? s.holders k ≡ some h) (raw (all 𝓤 (Moved 𝓛 holder_coded γ 0 s.holders k k)))) (moves 𝓛 holder_coded γ s.holders 0 k k h (omega arith)) $ learn ! (λ at. check ! (found_at s.holders k h at) $
+        use1 𝓛 (raw (Moved 𝓛 holder_coded γ 0 s.holders k k u)) (all_e 𝓤 (Moved 𝓛 holder_coded γ 0 s.holders k k) u) $
+        by ! (subst (λ (hs : List Holder). Moved 𝓛 holder_coded γ 0 s.holders k k u ⊢ upd 𝓤 (⟦ roster c γ 0 hs ⟧ ∗ ⟦ mark c γ k u ⟧)) (set_is s.holders k u) (id⊢ 𝓤 _)))
+
+    -- the invariant again, with the word that the machine has
+    shut : (s : Block) → IsReached limit s → 0 < held s → ⟦ word b o s.word ⟧ ∗ (⟦ roster c γ 0 s.holders ⟧ ∗ (⟦ rest 63 a (held s) ⟧ ∗ ⟦ flent (a ∷ []) P ⟧)) ⊢ ⟦ I ⟧
+    shut s is more = qed 𝓛 (‵ (word b o s.word) ∷ ‵ (roster c γ 0 s.holders) ∷ ‵ (rest 63 a (held s)) ∷ ‵ (flent (a ∷ []) P) ∷ []) ∵
+        move ! (2 ∷ 3 ∷ []) $ fjoin ! $ nothing ! $ fpack ! (IsReached limit s × (0 < held s)) (λ _. ftrue) (is, more) $ fjoin ! $ move ! (2 ∷ 0 ∷ []) $ fjoin ! $ move ! (1 ∷ 0 ∷ []) $ fjoin ! $
+        fpack ! Block (live c limit P b o a γ) s $ fpack ! Bool (state c limit P b o a γ) true $ done !
+
+    reached : (s : Block) (e : Step) (s' : Block) → happens limit s e ≡ s' → IsReached limit s → IsReached limit s'
+    reached s e s' is so = subst (IsReached limit) is (reached_step limit s so e)
+
+    at_becomes : (hs : List Holder) (k : ℕ) (h : Holder) → is_held (holder_at hs k) ≡ 1 → holder_at (becomes hs k h) k ≡ h
+    at_becomes [] k h is = absurd (omega (arith, is))
+    at_becomes (x ∷ hs) zero h is = refl
+    at_becomes (x ∷ hs) (suc k) h is = at_becomes hs k h is
+
+    -- the add that goes on only where the word is still old, which is below the limit. A share of the mark is enough
+    module _ (k t : ℕ) (r q : Share) (old : ℕ) (lower : old < limit) where
+      abbrev pub Joins : ℕ → Fml
+      Joins n = fsep (seen c γ k r (Reads t)) (fsep (flft (a ∷ []) q) (fex Bool (join_gives c limit P b o a γ t old n)))
+
+      abbrev pub one_more : ℕ → ℕ
+      one_more n = either (eqb n old) (old + 1) n
+
+      grown : (s : Block) → IsReached limit s → 0 < held s → holder_at s.holders k ≡ Reads t → s.word ≡ old
+          → ⟦ word b o (one_more s.word) ⟧ ∗ (⟦ roster c γ 0 s.holders ⟧ ∗ (⟦ rest 63 a (held s) ⟧ ∗ (⟦ flent (a ∷ []) P ⟧ ∗ (⟦ seen c γ k r (Reads t) ⟧ ∗ A.lft (a ∷ []) q)))) ⊢ upd 𝓤 (⟦ I ⟧ ∗ ⟦ Joins s.word ⟧)
+      grown s is some_held at same = let s' : Block = added limit s k t true in let Z : Pr = ⟦ I ⟧ ∗ ⟦ Joins s.word ⟧ in let kept = reached_kept limit low s is in let J : ℕ → Fml = λ j. mark c γ j (Reads t) in
+          let more : held s + 1 ≡ held s' = omega (arith, joined is_held s.holders (Reads t)) in let below : s.word < limit = omega (arith, same, lower) in
+          let next : one_more s.word ≡ s'.word = ap (λ (y : Bool). either y (old + 1) s.word) (eq-eqb s.word old same) ∙ omega (arith, same, up s.word (omega (arith, below, low.1))) in
+          let sends : happens limit s (Add k) ≡ s' = ap (add_by limit s k) at ∙ ap (added limit s k t) (lt-ltb s.word limit below) in
+          qed 𝓛 (‵ (word b o (one_more s.word)) ∷ ‵ (roster c γ 0 s.holders) ∷ ‵ (rest 63 a (held s)) ∷ ‵ (flent (a ∷ []) P) ∷ ‵ (seen c γ k r (Reads t)) ∷ ‵ (flft (a ∷ []) q) ∷ []) ∵ rewrite ! 0 (λ (m : ℕ). ‵ (word b o m)) next refl $ move ! (1 ∷ []) $
+          use1 𝓛 (raw (upd 𝓤 (ex 𝓤 (Joined 𝓛 holder_coded γ 0 s.holders (Reads t))))) (joins 𝓛 holder_coded γ s.holders 0 (Reads t)) $ settle 𝓛 Z (Kit.some (λ (j : ℕ). ‵ (roster c γ 0 s'.holders) ⊛ ‵ (J j))) $
+          pick ! (λ j. split ! $ suffices ! _ (upd_i 𝓤 Z) $ move ! (3 ∷ []) $
+          use1 𝓛 (‵ (rest 63 a (held s + 1)) ⊛ ‵ (part 63 a)) (takes 63 𝓛 a (held s) (omega (arith, kept.within, low.1))) $ split ! $ rewrite ! 0 (λ (m : ℕ). ‵ (rest 63 a m)) more refl $
+          -- [rest; part; roster; new mark; word; P; the share; the token]
+          move ! (0 ∷ 5 ∷ []) $ join ! $ move ! (4 ∷ 2 ∷ 0 ∷ []) $ use3 𝓛 (‵ I) (shut s' (reached s (Add k) s' sends is) (omega (arith, more))) $ frame ! $
+          -- [part; new mark; the share; the token]
+          move ! (1 ∷ []) $ fpack ! ℕ J j $ fjoin ! $ nothing ! $ fpack ! (s.word ≡ old) (λ _. ftrue) same $ fjoin ! $ fpack ! Bool (join_gives c limit P b o a γ t old s.word) true $
+          move ! (2 ∷ 0 ∷ []) $ fjoin ! $ move ! (1 ∷ 0 ∷ []) $ fjoin ! $ done !)
+
+      found_same : (s : Block) → s.word ≡ old → ⟦ word b o (one_more s.word) ⟧ ∗ (⟦ Beside s ⟧ ∗ (⟦ seen c γ k r (Reads t) ⟧ ∗ A.lft (a ∷ []) q)) ⊢ upd 𝓤 (⟦ I ⟧ ∗ ⟦ Joins s.word ⟧)
+      found_same s same = qed 𝓛 (‵ (word b o (one_more s.word)) ∷ ‵ (Beside s) ∷ ‵ (seen c γ k r (Reads t)) ∷ ‵ (flft (a ∷ []) q) ∷ []) ∵ move ! (1 ∷ []) $ fsplit ! $ move ! (1 ∷ []) $ fsplit ! $ fpick ! (λ so. drop ! $ fsplit ! $
+          -- [rest; P; roster; word; the share; the token]
+          move ! (2 ∷ 4 ∷ []) $ use2 𝓛 (given (holder_at s.holders k ≡ Reads t) (‵ (roster c γ 0 s.holders) ⊛ ‵ (seen c γ k r (Reads t)))) (told 𝓛 γ s.holders k r (Reads t)) $ learn ! (λ at. split ! $
+          move ! (4 ∷ 0 ∷ 2 ∷ 3 ∷ 1 ∷ 5 ∷ []) $ by ! (grown s so.0 so.1 at same)))
+
+      -- the same for one thread, where it found old
+      pub joins_plainly : (s : Block) → s.word ≡ old → ⟦ word b o (old + 1) ⟧ ∗ (⟦ Beside s ⟧ ∗ (⟦ seen c γ k r (Reads t) ⟧ ∗ A.lft (a ∷ []) q)) ⊢ H.⇛ (⟦ I ⟧ ∗ ⟦ Joins s.word ⟧)
+      joins_plainly s same = let is : one_more s.word ≡ old + 1 = ap (λ (y : Bool). either y (old + 1) s.word) (eq-eqb s.word old same) in
+          via 𝓤 (upd 𝓤 (⟦ I ⟧ ∗ ⟦ Joins s.word ⟧)) (qed 𝓛 (‵ (word b o (old + 1)) ∷ ‵ (Beside s) ∷ ‵ (seen c γ k r (Reads t)) ∷ ‵ (flft (a ∷ []) q) ∷ []) ∵ rewrite ! 0 (λ (m : ℕ). ‵ (word b o m)) (sym is) refl $ by ! (found_same s same)) (basic 𝓛 _)
+
+      stays : (s : Block) → s.word ≢ old → one_more s.word ≡ s.word
+      stays s other = ap (λ (y : Bool). either y (old + 1) s.word) (ne_eqb s.word old other)
+
+      pub joins_at : A.inv I ∗ (⟦ seen c γ k r (Reads t) ⟧ ∗ A.lft (a ∷ []) q) ⊢ asks 𝓛 (block_ptr b o) one_more always Joins
+      joins_at = opened one_more Joins (⟦ seen c γ k r (Reads t) ⟧ ∗ A.lft (a ∷ []) q) (share_alive ⟦ seen c γ k r (Reads t) ⟧ q) (λ j s fits.
+          dite (ℕ_discrete s.word old)
+          (λ same. after_upd j _ (Joins s.word) (found_same s same))
+          (λ other. via 𝓤 (⟦ I ⟧ ∗ ⟦ Joins s.word ⟧) (qed 𝓛 (‵ (word b o (one_more s.word)) ∷ ‵ (Beside s) ∷ ‵ (seen c γ k r (Reads t)) ∷ ‵ (flft (a ∷ []) q) ∷ []) ∵ rewrite ! 0 (λ (m : ℕ). ‵ (word b o m)) (stays s other) refl $
+          fjoin ! $ fpack ! Block (live c limit P b o a γ) s $ fpack ! Bool (state c limit P b o a γ) true $ frame ! $
+          nothing ! $ fpack ! (s.word ≢ old) (λ _. ftrue) other $ fpack ! Bool (join_gives c limit P b o a γ t old s.word) false $ move ! (2 ∷ 0 ∷ []) $ fjoin ! $ move ! (1 ∷ 0 ∷ []) $ fjoin ! $ done !) (now j (Joins s.word))))
+
+    -- the load
+    module _ (k t : ℕ) where
+      abbrev pub Seen : ℕ → Fml
+      Seen n = fex Bool (alone_gives c limit P b o a γ k t n)
+
+      abbrev Leaves : (Block → Type 0) → ℕ → Fml
+      Leaves Is n = out c limit P b o a γ Is n
+
+      -- who has the whole token takes all that the invariant has
+      goes_out : (Is : Block → Type 0) (s : Block) → IsReached limit s → Is s → (n : ℕ) → s.word ≡ n → ⟦ fdead (a ∷ []) ⟧ ∗ (⟦ word b o s.word ⟧ ∗ (⟦ roster c γ 0 s.holders ⟧ ∗ ⟦ flent (a ∷ []) P ⟧)) ⊢ ⟦ Leaves Is n ⟧
+      goes_out Is s is so n same = qed 𝓛 (‵ (fdead (a ∷ [])) ∷ ‵ (word b o s.word) ∷ ‵ (roster c γ 0 s.holders) ∷ ‵ (flent (a ∷ []) P) ∷ []) ∵ rewrite ! 1 (λ (m : ℕ). ‵ (word b o m)) same refl $
+          move ! (2 ∷ []) $ nothing ! $ fpack ! (IsReached limit s × (s.word ≡ n) × Is s) (λ _. ftrue) (is, same, so) $ move ! (1 ∷ 0 ∷ []) $ fjoin ! $ fpack ! Block (λ s'. fsep (roster c γ 0 s'.holders) (fact (IsReached limit s' × (s'.word ≡ n) × Is s'))) s $
+          move ! (3 ∷ 0 ∷ []) $ fjoin ! $ move ! (1 ∷ 0 ∷ []) $ fjoin ! $ move ! (1 ∷ 0 ∷ []) $ fjoin ! $ done !
+
+      single : (s : Block) → IsReached limit s → 0 < held s → s.word ≡ 1 → held s ≡ 1
+      single s is some_held one = let kept = reached_kept limit low s is in omega (arith, kept.word, one, some_held)
+
+      writes : (s : Block) → IsReached limit s → s.word ≡ 1 → A.dead (a ∷ []) ∗ (⟦ flent (a ∷ []) P ⟧ ∗ (⟦ roster c γ 0 s.holders ⟧ ∗ (⟦ word b o s.word ⟧ ∗ ⟦ mark c γ k (Reads t) ⟧))) ⊢ upd 𝓤 ⟦ Seen s.word ⟧
+      writes s is one = let s' : Block = with_holder s k (Writes t) in let Is : Block → Type 0 = λ x. holder_at x.holders k ≡ Writes t in
+          qed 𝓛 (‵ (fdead (a ∷ [])) ∷ ‵ (flent (a ∷ []) P) ∷ ‵ (roster c γ 0 s.holders) ∷ ‵ (word b o s.word) ∷ ‵ (mark c γ k (Reads t)) ∷ []) ∵ move ! (2 ∷ 4 ∷ []) $
+          use2 𝓛 (given (holder_at s.holders k ≡ Reads t) (raw (upd 𝓤 (⟦ roster c γ 0 s'.holders ⟧ ∗ ⟦ mark c γ k (Writes t) ⟧)))) (marked s k (Reads t) (Writes t)) $ learn ! (λ at.
+          settle 𝓛 ⟦ Seen s.word ⟧ (‵ (roster c γ 0 s'.holders) ⊛ ‵ (mark c γ k (Writes t))) $ split ! $ suffices ! _ (upd_i 𝓤 ⟦ Seen s.word ⟧) $ move ! (2 ∷ 4 ∷ 0 ∷ 3 ∷ []) $ group ! 4 $
+          use1 𝓛 (‵ (Leaves Is 1)) (goes_out Is s' (reached s (Alone k) s' (ap (alone_by s k) at ∙ ap (λ (y : Bool). if y then s' else s) (eq-eqb s.word 1 one)) is)
+          (at_becomes s.holders k (Writes t) (ap is_held at)) 1 one) $ move ! (1 ∷ 0 ∷ []) $ fjoin ! $ nothing ! $ fpack ! (s.word ≡ 1) (λ _. ftrue) one $ fjoin ! $
+          fpack ! Bool (alone_gives c limit P b o a γ k t s.word) true $ done !)
+
+      -- the same for one thread, which holds the invariant's content while it looks
+      pub looks_plainly : (s : Block) → ⟦ word b o s.word ⟧ ∗ (⟦ Beside s ⟧ ∗ (⟦ mark c γ k (Reads t) ⟧ ∗ ⟦ part 63 a ⟧)) ⊢ H.⇛ (⟦ I ⟧ ∗ ⟦ Seen s.word ⟧)
+      looks_plainly s = dite (ℕ_discrete s.word 1)
+          (λ one. qed 𝓛 (‵ (word b o s.word) ∷ ‵ (Beside s) ∷ ‵ (mark c γ k (Reads t)) ∷ ‵ (part 63 a) ∷ []) ∵ updating ! $ move ! (1 ∷ []) $ fsplit ! $ move ! (1 ∷ []) $ fsplit ! $ fpick ! (λ so. drop ! $ fsplit ! $
+          rewrite ! 0 (λ (m : ℕ). ‵ (rest 63 a m)) (single s so.0 so.1 one) refl $ move ! (0 ∷ 5 ∷ []) $ use2 𝓛 (‵ (flft (a ∷ []) full_share)) (whole 63 𝓛 a) $ lft_end ! tt $
+          use1 𝓛 (‵ (fdead (a ∷ [])) ⊛ ‵ (fdead (a ∷ []))) (𝓛.lfts.dead_dup (a ∷ [])) $ split ! $ move ! (1 ∷ 2 ∷ 3 ∷ 4 ∷ 5 ∷ []) $ group ! 5 $ use1 𝓛 (raw (upd 𝓤 ⟦ Seen s.word ⟧)) (writes s so.0 one) $
+          use1 𝓛 (later (‵ (Seen s.word))) (basic 𝓛 ⟦ Seen s.word ⟧) $ await ! tt $ move ! (1 ∷ []) $ fpack ! Bool (state c limit P b o a γ) false $ Kit.now ! $ done !))
+          (λ more. via 𝓤 (⟦ I ⟧ ∗ ⟦ Seen s.word ⟧) (qed 𝓛 (‵ (word b o s.word) ∷ ‵ (Beside s) ∷ ‵ (mark c γ k (Reads t)) ∷ ‵ (part 63 a) ∷ []) ∵ fjoin ! $ fpack ! Block (live c limit P b o a γ) s $ fpack ! Bool (state c limit P b o a γ) true $ frame ! $
+          fjoin ! $ nothing ! $ fpack ! (s.word ≢ 1) (λ _. ftrue) more $ fjoin ! $ fpack ! Bool (alone_gives c limit P b o a γ k t s.word) false $ done !) (𝓛.laws.⇛_intro _))
+
+      pub looks : A.inv I ∗ (⟦ mark c γ k (Reads t) ⟧ ∗ ⟦ part 63 a ⟧) ⊢ asks 𝓛 (block_ptr b o) (λ n. n) always Seen
+      looks = opened (λ n. n) Seen (⟦ mark c γ k (Reads t) ⟧ ∗ ⟦ part 63 a ⟧) (part_alive ⟦ mark c γ k (Reads t) ⟧) (λ j s fits.
+          dite (ℕ_discrete s.word 1) (λ one. sees_one j s one) (λ more. sees_more j s more))
+        where
+          sees_more : (j : ℕ) (s : Block) → s.word ≢ 1 → ⟦ word b o s.word ⟧ ∗ ⟦ Beside s ⟧ ∗ (⟦ mark c γ k (Reads t) ⟧ ∗ ⟦ part 63 a ⟧) ⊢ Goes j (Seen s.word)
+          sees_more j s more = via 𝓤 (⟦ I ⟧ ∗ ⟦ Seen s.word ⟧) (qed 𝓛 (‵ (word b o s.word) ∷ ‵ (Beside s) ∷ ‵ (mark c γ k (Reads t)) ∷ ‵ (part 63 a) ∷ []) ∵ fjoin ! $ fpack ! Block (live c limit P b o a γ) s $ fpack ! Bool (state c limit P b o a γ) true $ frame ! $
+              fjoin ! $ nothing ! $ fpack ! (s.word ≢ 1) (λ _. ftrue) more $ fjoin ! $ fpack ! Bool (alone_gives c limit P b o a γ k t s.word) false $ done !) (now j (Seen s.word))
+
+          sees_one : (j : ℕ) (s : Block) → s.word ≡ 1 → ⟦ word b o s.word ⟧ ∗ ⟦ Beside s ⟧ ∗ (⟦ mark c γ k (Reads t) ⟧ ∗ ⟦ part 63 a ⟧) ⊢ Goes j (Seen s.word)
+          sees_one j s one = let X : Pr = ⟦ flent (a ∷ []) P ⟧ ∗ (⟦ roster c γ 0 s.holders ⟧ ∗ (⟦ word b o s.word ⟧ ∗ ⟦ mark c γ k (Reads t) ⟧)) in
+              qed 𝓛 (‵ (word b o s.word) ∷ ‵ (Beside s) ∷ ‵ (mark c γ k (Reads t)) ∷ ‵ (part 63 a) ∷ []) ∵ move ! (1 ∷ []) $ fsplit ! $ move ! (1 ∷ []) $ fsplit ! $ fpick ! (λ so. drop ! $ fsplit ! $
+              rewrite ! 0 (λ (m : ℕ). ‵ (rest 63 a m)) (single s so.0 so.1 one) refl $ move ! (0 ∷ 5 ∷ []) $ use2 𝓛 (‵ (flft (a ∷ []) full_share)) (whole 63 𝓛 a) $ by ! (ending j X (Seen s.word) (writes s so.0 one)))
+
+      -- the subtract
+      abbrev pub Given : ℕ → Fml
+      Given n = fex Bool (subtract_gives c limit P b o a γ t n)
+
+      several : (s : Block) → IsReached limit s → 0 < held s → holder_at s.holders k ≡ Reads t → s.word ≢ 1 → (1 < held s) × (held s - 1 ≡ held (subtracted s k Ended t))
+      several s is some_held at more = let kept = reached_kept limit low s is in let m = changed is_held s.holders k Ended (Reads t) at refl in let u = changed is_surplus s.holders k Ended (Reads t) at refl in
+          let w = no_more (becomes s.holders k Ended) in (omega (arith, kept.word, m, u, w, more, some_held), omega (arith, m))
+
+      frees : (s : Block) → IsReached limit s → 0 < held s → s.word ≡ 1 → A.dead (a ∷ []) ∗ (⟦ flent (a ∷ []) P ⟧ ∗ (⟦ roster c γ 0 s.holders ⟧ ∗ (⟦ word b o ((s.word + (2 ^ 64 - 1)) % 2 ^ 64) ⟧ ∗ ⟦ mark c γ k (Reads t) ⟧))) ⊢ upd 𝓤 ⟦ Given s.word ⟧
+      frees s is some_held one = let s' : Block = subtracted s k Ended t in let Is : Block → Type 0 = λ x. (held x ≡ 0) × (x.frees ≡ 0) × (x.duties ≡ t ∷ []) in
+          qed 𝓛 (‵ (fdead (a ∷ [])) ∷ ‵ (flent (a ∷ []) P) ∷ ‵ (roster c γ 0 s.holders) ∷ ‵ (word b o s'.word) ∷ ‵ (mark c γ k (Reads t)) ∷ []) ∵ move ! (2 ∷ 4 ∷ []) $
+          use2 𝓛 (given (holder_at s.holders k ≡ Reads t) (raw (upd 𝓤 (⟦ roster c γ 0 s'.holders ⟧ ∗ ⟦ mark c γ k Ended ⟧)))) (marked s k (Reads t) Ended) $ learn ! (λ at.
+          settle 𝓛 ⟦ Given s.word ⟧ (‵ (roster c γ 0 s'.holders) ⊛ ‵ (mark c γ k Ended)) $ split ! $ suffices ! _ (upd_i 𝓤 ⟦ Given s.word ⟧) $ move ! (2 ∷ 4 ∷ 0 ∷ 3 ∷ []) $ group ! 4 $
+          use1 𝓛 (‵ (Leaves Is 0)) (goes_out Is s' (reached s (Subtract k) s' (ap (subtract_by s k) at) is) (last s is some_held at one) 0 (zeroed s one)) $ move ! (1 ∷ []) $ drop ! $ nothing ! $
+          fpack ! (s.word ≡ 1) (λ _. ftrue) one $ fjoin ! $ fpack ! Bool (subtract_gives c limit P b o a γ t s.word) true $ done !)
+        where
+          zeroed : (s : Block) → s.word ≡ 1 → (s.word + (2 ^ 64 - 1)) % 2 ^ 64 ≡ 0
+          zeroed s one = ap (λ (n : ℕ). (n + (2 ^ 64 - 1)) % 2 ^ 64) one
+
+          nil : (ts : List ℕ) → length ts ≡ 0 → ts ≡ []
+          nil [] e = refl
+          nil (x ∷ ts) e = absurd (omega (arith, e))
+
+          last : (s : Block) → IsReached limit s → 0 < held s → holder_at s.holders k ≡ Reads t → s.word ≡ 1 → (held (subtracted s k Ended t) ≡ 0) × (s.frees ≡ 0) × ((if s.word == 1 then t ∷ s.duties else s.duties) ≡ t ∷ [])
+          last s is some_held at one = let kept = reached_kept limit low s is in (
+            omega (arith, changed is_held s.holders k Ended (Reads t) at refl, kept.word, one),
+            omega (arith, kept.before some_held),
+            ap (λ (y : Bool). if y then t ∷ s.duties else s.duties) (eq-eqb s.word 1 one) ∙ ap (λ (ts : List ℕ). t ∷ ts) (nil s.duties (omega (arith, kept.before some_held))),
+          )
+
+      -- the same for one thread
+      pub subtracts_plainly : (s : Block) → ⟦ word b o ((s.word + (2 ^ 64 - 1)) % 2 ^ 64) ⟧ ∗ (⟦ Beside s ⟧ ∗ (⟦ mark c γ k (Reads t) ⟧ ∗ ⟦ part 63 a ⟧)) ⊢ H.⇛ (⟦ I ⟧ ∗ ⟦ Given s.word ⟧)
+      subtracts_plainly s = let s' : Block = subtracted s k Ended t in let Z : Pr = ⟦ I ⟧ ∗ ⟦ Given s.word ⟧ in dite (ℕ_discrete s.word 1)
+          (λ one. qed 𝓛 (‵ (word b o s'.word) ∷ ‵ (Beside s) ∷ ‵ (mark c γ k (Reads t)) ∷ ‵ (part 63 a) ∷ []) ∵ updating ! $ move ! (1 ∷ []) $ fsplit ! $ move ! (1 ∷ []) $ fsplit ! $ fpick ! (λ so. drop ! $ fsplit ! $
+          rewrite ! 0 (λ (m : ℕ). ‵ (rest 63 a m)) (single s so.0 so.1 one) refl $ move ! (0 ∷ 5 ∷ []) $ use2 𝓛 (‵ (flft (a ∷ []) full_share)) (whole 63 𝓛 a) $ lft_end ! tt $
+          use1 𝓛 (‵ (fdead (a ∷ [])) ⊛ ‵ (fdead (a ∷ []))) (𝓛.lfts.dead_dup (a ∷ [])) $ split ! $ move ! (1 ∷ 2 ∷ 3 ∷ 4 ∷ 5 ∷ []) $ group ! 5 $ use1 𝓛 (raw (upd 𝓤 ⟦ Given s.word ⟧)) (frees s so.0 so.1 one) $
+          use1 𝓛 (later (‵ (Given s.word))) (basic 𝓛 ⟦ Given s.word ⟧) $ await ! tt $ move ! (1 ∷ []) $ fpack ! Bool (state c limit P b o a γ) false $ Kit.now ! $ done !))
+          (λ more. via 𝓤 (upd 𝓤 Z) (qed 𝓛 (‵ (word b o s'.word) ∷ ‵ (Beside s) ∷ ‵ (mark c γ k (Reads t)) ∷ ‵ (part 63 a) ∷ []) ∵ move ! (1 ∷ []) $ fsplit ! $ move ! (1 ∷ []) $ fsplit ! $ fpick ! (λ so. drop ! $ fsplit ! $ move ! (2 ∷ 4 ∷ []) $
+          use2 𝓛 (given (holder_at s.holders k ≡ Reads t) (raw (upd 𝓤 (⟦ roster c γ 0 s'.holders ⟧ ∗ ⟦ mark c γ k Ended ⟧)))) (marked s k (Reads t) Ended) $ learn ! (λ at.
+          settle 𝓛 Z (‵ (roster c γ 0 s'.holders) ⊛ ‵ (mark c γ k Ended)) $ split ! $ suffices ! _ (upd_i 𝓤 Z) $ let many = several s so.0 so.1 at more in
+          -- [roster; mark; rest; P; word; part]
+          move ! (2 ∷ 5 ∷ []) $ use2 𝓛 (‵ (rest 63 a (held s - 1))) (gives 63 𝓛 a (held s) many.0) $ rewrite ! 0 (λ (m : ℕ). ‵ (rest 63 a m)) many.1 refl $
+          move ! (0 ∷ 3 ∷ []) $ join ! $ move ! (3 ∷ 1 ∷ 0 ∷ []) $ use3 𝓛 (‵ I) (shut s' (reached s (Subtract k) s' (ap (subtract_by s k) at) so.0) (omega (arith, many.0, many.1))) $ frame ! $ drop ! $ nothing ! $
+          fpack ! (s.word ≢ 1) (λ _. ftrue) more $ fpack ! Bool (subtract_gives c limit P b o a γ t s.word) false $ done !))) (basic 𝓛 Z))
+
+      pub subtracts : A.inv I ∗ (⟦ mark c γ k (Reads t) ⟧ ∗ ⟦ part 63 a ⟧) ⊢ asks 𝓛 (block_ptr b o) (λ n. (n + (2 ^ 64 - 1)) % 2 ^ 64) always Given
+      subtracts = opened (λ n. (n + (2 ^ 64 - 1)) % 2 ^ 64) Given (⟦ mark c γ k (Reads t) ⟧ ∗ ⟦ part 63 a ⟧) (part_alive ⟦ mark c γ k (Reads t) ⟧) (λ j s fits.
+          dite (ℕ_discrete s.word 1) (λ one. takes_one j s one) (λ more. takes_more j s more))
+        where
+          takes_more : (j : ℕ) (s : Block) → s.word ≢ 1 → ⟦ word b o ((s.word + (2 ^ 64 - 1)) % 2 ^ 64) ⟧ ∗ ⟦ Beside s ⟧ ∗ (⟦ mark c γ k (Reads t) ⟧ ∗ ⟦ part 63 a ⟧) ⊢ Goes j (Given s.word)
+          takes_more j s more = let s' : Block = subtracted s k Ended t in let Z : Pr = ⟦ I ⟧ ∗ ⟦ Given s.word ⟧ in after_upd j _ (Given s.word) (
+              qed 𝓛 (‵ (word b o s'.word) ∷ ‵ (Beside s) ∷ ‵ (mark c γ k (Reads t)) ∷ ‵ (part 63 a) ∷ []) ∵ move ! (1 ∷ []) $ fsplit ! $ move ! (1 ∷ []) $ fsplit ! $ fpick ! (λ so. drop ! $ fsplit ! $ move ! (2 ∷ 4 ∷ []) $
+              use2 𝓛 (given (holder_at s.holders k ≡ Reads t) (raw (upd 𝓤 (⟦ roster c γ 0 s'.holders ⟧ ∗ ⟦ mark c γ k Ended ⟧)))) (marked s k (Reads t) Ended) $ learn ! (λ at.
+              settle 𝓛 Z (‵ (roster c γ 0 s'.holders) ⊛ ‵ (mark c γ k Ended)) $ split ! $ suffices ! _ (upd_i 𝓤 Z) $ let many = several s so.0 so.1 at more in
+              -- [roster; mark; rest; P; word; part]
+              move ! (2 ∷ 5 ∷ []) $ use2 𝓛 (‵ (rest 63 a (held s - 1))) (gives 63 𝓛 a (held s) many.0) $ rewrite ! 0 (λ (m : ℕ). ‵ (rest 63 a m)) many.1 refl $
+              move ! (0 ∷ 3 ∷ []) $ join ! $ move ! (3 ∷ 1 ∷ 0 ∷ []) $ use3 𝓛 (‵ I) (shut s' (reached s (Subtract k) s' (ap (subtract_by s k) at) so.0) (omega (arith, many.0, many.1))) $ frame ! $ drop ! $ nothing ! $
+              fpack ! (s.word ≢ 1) (λ _. ftrue) more $ fpack ! Bool (subtract_gives c limit P b o a γ t s.word) false $ done !)))
+
+          takes_one : (j : ℕ) (s : Block) → s.word ≡ 1 → ⟦ word b o ((s.word + (2 ^ 64 - 1)) % 2 ^ 64) ⟧ ∗ ⟦ Beside s ⟧ ∗ (⟦ mark c γ k (Reads t) ⟧ ∗ ⟦ part 63 a ⟧) ⊢ Goes j (Given s.word)
+          takes_one j s one = let X : Pr = ⟦ flent (a ∷ []) P ⟧ ∗ (⟦ roster c γ 0 s.holders ⟧ ∗ (⟦ word b o ((s.word + (2 ^ 64 - 1)) % 2 ^ 64) ⟧ ∗ ⟦ mark c γ k (Reads t) ⟧)) in
+              qed 𝓛 (‵ (word b o ((s.word + (2 ^ 64 - 1)) % 2 ^ 64)) ∷ ‵ (Beside s) ∷ ‵ (mark c γ k (Reads t)) ∷ ‵ (part 63 a) ∷ []) ∵ move ! (1 ∷ []) $ fsplit ! $ move ! (1 ∷ []) $ fsplit ! $ fpick ! (λ so. drop ! $ fsplit ! $
+              rewrite ! 0 (λ (m : ℕ). ‵ (rest 63 a m)) (single s so.0 so.1 one) refl $ move ! (0 ∷ 5 ∷ []) $ use2 𝓛 (‵ (flft (a ∷ []) full_share)) (whole 63 𝓛 a) $ by ! (ending j X (Given s.word) (frees s so.0 so.1 one)))
