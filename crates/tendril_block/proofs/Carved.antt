@@ -1,5 +1,5 @@
 -- A node is cut into its word and the rest, and a sole owner is made one of the holders. Assumes `Logic`.
-use Rattle.std.proofs.Common.{ℕ, ◌+◌, Bool, true, false, [], ◌∷◌, arith, w64}
+use Rattle.std.proofs.Common.{ℕ, ◌+◌, Bool, true, false, [], ◌∷◌, arith, refl, w64}
 use mathlib.Core.List.{not-mem-nil}
 use seplogic.Ra.Ura.{Ura}
 use mir.Syntax.{ty_struct}
@@ -31,7 +31,13 @@ use Rattle.tendril_count.specs.Machine.{IsLimit}
 use Rattle.tendril_count.proofs.Made.{made, resumed, first_holder}
 use Rattle.tendril_block.specs.declared.node.Node.{Node}
 use Rattle.tendril_block.specs.contracts.node.Node as node
-use Rattle.tendril_block.specs.Held.{limit, kept, BodyRow, BodyIn, members, body_at, content, shown, Id, reader, writer, held_at}
+use Rattle.tendril_count.specs.Rule.{IsTurn}
+use Rattle.tendril_block.specs.Held.{limit, whose, kept, BodyRow, BodyIn, members, body_at, content, shown, Id, reader, writer, held_at}
+
+-- a thread takes the steps of its own rule
+pub own_turn : (y : Bool) (t : ℕ) → IsTurn (whose y t) t
+own_turn true t = tt
+own_turn false t = refl
 
 pub low : (l : ℕ) → IsLimit (limit l)
 low l = (omega arith, omega arith)
@@ -91,8 +97,8 @@ module _ {M : Type 1} {𝓤 : Ura M} (𝓛 : Logic 𝓤) where
     new = keeps y b (o + 0)
 
     -- the first holder of an invariant shares the content
-    lent : (k t : ℕ) → ent 𝓤 ⟦ fex (ℕ × ℕ) (first_holder 𝓛 R new (limit l) (content h x b o) b (o + 0) k t) ⟧ (H.⇛ ⟦ fex Id (reader y l h x b o) ⟧)
-    lent k t = qed 𝓛 (‵ (fex (ℕ × ℕ) (first_holder 𝓛 R new (limit l) (content h x b o) b (o + 0) k t)) ∷ []) ∵ updating ! $ fpick ! (λ i. fsplit ! $ fsplit3 ! $
+    lent : (k t : ℕ) → ent 𝓤 ⟦ fex (ℕ × ℕ) (first_holder 𝓛 R new (whose y t) (limit l) (content h x b o) b (o + 0) k) ⟧ (H.⇛ ⟦ fex Id (reader y l h x b o) ⟧)
+    lent k t = qed 𝓛 (‵ (fex (ℕ × ℕ) (first_holder 𝓛 R new (whose y t) (limit l) (content h x b o) b (o + 0) k)) ∷ []) ∵ updating ! $ fpick ! (λ i. fsplit ! $ fsplit3 ! $
         -- [invariant; mark; part; borrow]
         move ! (2 ∷ []) $ fpick ! (λ s. fpick ! (λ one. let a : Lft = i.0 ∷ [] in
         move ! (3 ∷ 0 ∷ []) $ use2 𝓛 (later (‵ (shown h x b o a) ⊛ ‵ (flft a s))) (shares_content h x b o a ((a, s) ∷ []) (static a) (Incl-refl a)) $ await ! tt $ split ! $
@@ -102,18 +108,18 @@ module _ {M : Type 1} {𝓤 : Ura M} (𝓛 : Logic 𝓤) where
 
     pub begin : ent 𝓤 (sep 𝓤 ⟦ word b (o + 0) 1 ⟧ ⟦ content h x b o ⟧) (H.⇛ ⟦ fex Id (reader y l h x b o) ⟧)
     begin = qed 𝓛 (‵ (word b (o + 0) 1) ∷ ‵ (content h x b o) ∷ []) ∵ updating ! $
-        use2 𝓛 (later (‵ (fex (ℕ × ℕ) (first_holder 𝓛 R new (limit l) (content h x b o) b (o + 0) 0 0)))) (made 𝓛 R new (limit l) (content h x b o) b (o + 0) 0) $ await ! tt $
+        use2 𝓛 (later (‵ (fex (ℕ × ℕ) (first_holder 𝓛 R new (whose y 0) (limit l) (content h x b o) b (o + 0) 0)))) (made 𝓛 R new (whose y 0) (limit l) (content h x b o) b (o + 0) 0 (own_turn y 0)) $ await ! tt $
         use1 𝓛 (later (‵ (fex Id (reader y l h x b o)))) (lent 0 0) $ await ! tt $ now ! $ done !
 
-    again : ent 𝓤 ⟦ fex Id (writer l h x b o) ⟧ (H.⇛ ⟦ fex Id (reader y l h x b o) ⟧)
-    again = qed 𝓛 (‵ (fex Id (writer l h x b o)) ∷ []) ∵ updating ! $ fpick ! (λ i.
-        use1 𝓛 (later (‵ (fex (ℕ × ℕ) (first_holder 𝓛 R new (limit l) (content h x b o) b (o + 0) i.2 i.3)))) (resumed 𝓛 R new (limit l) (content h x b o) b (o + 0) (low l) i.1 i.2 i.3) $ await ! tt $
+    again : ent 𝓤 ⟦ fex Id (writer y l h x b o) ⟧ (H.⇛ ⟦ fex Id (reader y l h x b o) ⟧)
+    again = qed 𝓛 (‵ (fex Id (writer y l h x b o)) ∷ []) ∵ updating ! $ fpick ! (λ i.
+        use1 𝓛 (later (‵ (fex (ℕ × ℕ) (first_holder 𝓛 R new (whose y i.3) (limit l) (content h x b o) b (o + 0) i.2)))) (resumed 𝓛 R new (whose y i.3) (limit l) (content h x b o) b (o + 0) (low l) i.1 i.2 i.3) $ await ! tt $
         use1 𝓛 (later (‵ (fex Id (reader y l h x b o)))) (lent i.2 i.3) $ await ! tt $ now ! $ done !)
 
     -- a holder that was found alone is one of the holders again
     pub counted : ent 𝓤 ⟦ held_at y l h x b o ⟧ (H.⇛ ⟦ fex Id (reader y l h x b o) ⟧)
     counted = qed 𝓛 (‵ (held_at y l h x b o) ∷ []) ∵ fpick ! (λ z. by ! (at z))
       where
-        at : (z : Bool) → ent 𝓤 ⟦ sole_or_counted (fex Id (writer l h x b o)) (fex Id (reader y l h x b o)) z ⟧ (H.⇛ ⟦ fex Id (reader y l h x b o) ⟧)
+        at : (z : Bool) → ent 𝓤 ⟦ sole_or_counted (fex Id (writer y l h x b o)) (fex Id (reader y l h x b o)) z ⟧ (H.⇛ ⟦ fex Id (reader y l h x b o) ⟧)
         at true = again
         at false = 𝓛.laws.⇛_intro _

@@ -26,10 +26,10 @@ use Rattle.std.specs.contracts.alloc.Global as heap
 use Rattle.std.proofs.alloc.Global.TheLaws as heap_laws
 use Rattle.std.specs.contracts.impls.GlobalAllocator.TheImpl.{ghosts}
 use Rattle.atomic_table.specs.Seated.{word, fact, roster}
-use Rattle.tendril_count.specs.Machine.{Ended, Reads, Writes, Block as Counted, holder_at, subtracted}
-use Rattle.tendril_count.specs.Rule.{holder_coded, mark, subtract_gives, join_gives, alone_gives}
+use Rattle.tendril_count.specs.Machine.{Ended, Block as Counted, held, holder_at, subtracted}
+use Rattle.tendril_count.specs.Rule.{role_coded, Gone, Reader, Writer, role, roles, Threads, Any, IsReached, mark, subtract_gives, join_gives, alone_gives}
 use Rattle.tendril_count.proofs.Reached as reached
-use Rattle.tendril_count.proofs.Reached.{IsGivenUp, IsFreed, given_up, is_freed}
+use Rattle.tendril_count.proofs.Reached.{IsGivenUp, IsFreed, given_up, is_freed, by_some}
 use Rattle.tendril_count.proofs.Steps.{marked}
 use Rattle.std_alloc.specs.Owners.{sole_or_counted}
 use Rattle.tendril_block.proofs.Carved.{low}
@@ -37,7 +37,7 @@ use Rattle.tendril_block.proofs.Values.{both}
 use Rattle.tendril_block.specs.declared.node.shared.SharedHandle.{SharedHandle}
 use Rattle.tendril_block.specs.contracts.node.shared.SharedHandle as block
 use Rattle.tendril_block.specs.Written.{with_body}
-use Rattle.tendril_block.specs.Held.{limit, BodyRow, BodyIn, body_at, content, Id, all_but_body, owed, freed, stands, reader, writer, held_at, block_owns, Step as Stepped, leaves_with, sees}
+use Rattle.tendril_block.specs.Held.{limit, whose, BodyRow, BodyIn, body_at, content, Id, all_but_body, owed, freed, stands, reader, writer, held_at, block_owns, Step as Stepped, leaves_with, sees}
 
 abbrev pub Z : RattleType
 Z = heap.the_row
@@ -64,70 +64,77 @@ module _ {M : Type 1} {𝓤 : Ura M} {𝓛 : Logic 𝓤} {K : Type 0} {Γ : List
 module _ {M : Type 1} {𝓤 : Ura M} (𝓛 : Logic 𝓤) where
   open 𝓛 use {H}
 
+  -- a machine that one thread's steps led to, as one of any threads
+  by_any_thread : (of : Threads) (l γ n : ℕ) (Is : Counted → Type 0) → ent 𝓤 (sem 𝓛 (fex Counted (λ s. fsep (roster role_coded.code γ 0 (roles s.holders)) (fact (IsReached of (limit l) s × (s.word ≡ n) × Is s)))))
+      (sem 𝓛 (fex Counted (λ s. fsep (roster role_coded.code γ 0 (roles s.holders)) (fact (IsReached Any (limit l) s × (s.word ≡ n) × Is s)))))
+  by_any_thread of l γ n Is = let Stands : Counted → Fml = λ s. fsep (roster role_coded.code γ 0 (roles s.holders)) (fact (IsReached Any (limit l) s × (s.word ≡ n) × Is s)) in
+      qed 𝓛 (‵ (fex Counted (λ s. fsep (roster role_coded.code γ 0 (roles s.holders)) (fact (IsReached of (limit l) s × (s.word ≡ n) × Is s)))) ∷ []) ∵ fpick ! (λ s. fsplit ! $ move ! (1 ∷ []) $ fpick ! (λ so. drop ! $
+      nothing ! $ fpack ! (IsReached Any (limit l) s × (s.word ≡ n) × Is s) (λ _. ftrue) (by_some of (limit l) s so.0, so.1, so.2) $ move ! (1 ∷ 0 ∷ []) $ fjoin ! $ fpack ! Counted Stands s $ done !))
+
   -- who finds 1 has the word, the content and the duty
-  pub taken : (g : Stepped) (b w n : ℕ) → n ≡ 1 → ent 𝓤 (sem 𝓛 (leaves_with g b w n)) (H.⇛ (sep 𝓤 (sem 𝓛 (word b w 0)) (sep 𝓤 (sem 𝓛 (content g.1 g.2 b g.3)) (sem 𝓛 (owed g.0 g.4)))))
-  taken g b w n one = qed 𝓛 (‵ (leaves_with g b w n) ∷ []) ∵ fpick ! (λ y. by ! (at y))
+  pub taken : (y : Bool) (g : Stepped) (b w n : ℕ) → n ≡ 1 → ent 𝓤 (sem 𝓛 (leaves_with y g b w n)) (H.⇛ (sep 𝓤 (sem 𝓛 (word b w 0)) (sep 𝓤 (sem 𝓛 (content g.1 g.2 b g.3)) (sem 𝓛 (owed g.0 g.4)))))
+  taken y g b w n one = qed 𝓛 (‵ (leaves_with y g b w n) ∷ []) ∵ fpick ! (λ z. by ! (at z))
     where
       gives : Bool → Fml
-      gives = subtract_gives holder_coded.code (limit g.0) (content g.1 g.2 b g.3) b w g.4.0 g.4.1 g.4.3 n
+      gives = subtract_gives role_coded.code (whose y g.4.3) (limit g.0) (content g.1 g.2 b g.3) b w g.4.0 g.4.1 g.4.3 n
 
-      at : (y : Bool) → ent 𝓤 (sem 𝓛 (subtract_gives holder_coded.code (limit g.0) (content g.1 g.2 b g.3) b w g.4.0 g.4.1 g.4.3 n y)) (H.⇛ (sep 𝓤 (sem 𝓛 (word b w 0)) (sep 𝓤 (sem 𝓛 (content g.1 g.2 b g.3)) (sem 𝓛 (owed g.0 g.4)))))
-      at true = qed 𝓛 (‵ (subtract_gives holder_coded.code (limit g.0) (content g.1 g.2 b g.3) b w g.4.0 g.4.1 g.4.3 n true) ∷ []) ∵ updating ! $ fsplit ! $ drop ! $ fsplit ! $ move ! (1 ∷ []) $ fsplit3 ! $
+      at : (z : Bool) → ent 𝓤 (sem 𝓛 (subtract_gives role_coded.code (whose y g.4.3) (limit g.0) (content g.1 g.2 b g.3) b w g.4.0 g.4.1 g.4.3 n z)) (H.⇛ (sep 𝓤 (sem 𝓛 (word b w 0)) (sep 𝓤 (sem 𝓛 (content g.1 g.2 b g.3)) (sem 𝓛 (owed g.0 g.4)))))
+      at true = qed 𝓛 (‵ (subtract_gives role_coded.code (whose y g.4.3) (limit g.0) (content g.1 g.2 b g.3) b w g.4.0 g.4.1 g.4.3 n true) ∷ []) ∵ updating ! $ fsplit ! $ drop ! $ fsplit ! $ move ! (1 ∷ []) $ fsplit3 ! $
           -- [the end; what was shared; the machine; the word]
-          lent_back ! tt $ now ! $ move ! (2 ∷ 0 ∷ 1 ∷ []) $ done !
+          lent_back ! tt $ move ! (1 ∷ []) $ use1 𝓛 (‵ (owed g.0 g.4)) (by_any_thread (whose y g.4.3) g.0 g.4.1 0 (λ s. (held s ≡ 0) × (s.frees ≡ 0) × (s.duties ≡ g.4.3 ∷ []))) $ now ! $ move ! (2 ∷ 1 ∷ 0 ∷ []) $ done !
       at false = qed 𝓛 (‵ (fact (n ≢ 1)) ∷ []) ∵ fpick ! (λ no. absurd (no one))
 
   -- who loads 1 has the node
-  pub granted : (g : Stepped) (b n : ℕ) → n ≡ 1 → ent 𝓤 (sem 𝓛 (sees g b (g.3 + 0) n)) (H.⇛ (sep 𝓤 (sem 𝓛 (part_at BodyRow full_share g.2 b (g.3 + body_at))) (sem 𝓛 (all_but_body g.0 g.1 g.2 b g.3 g.4))))
-  granted g b n one = qed 𝓛 (‵ (sees g b (g.3 + 0) n) ∷ []) ∵ fpick ! (λ y. by ! (at y))
+  pub granted : (y : Bool) (g : Stepped) (b n : ℕ) → n ≡ 1 → ent 𝓤 (sem 𝓛 (sees y g b (g.3 + 0) n)) (H.⇛ (sep 𝓤 (sem 𝓛 (part_at BodyRow full_share g.2 b (g.3 + body_at))) (sem 𝓛 (all_but_body y g.0 g.1 g.2 b g.3 g.4))))
+  granted y g b n one = qed 𝓛 (‵ (sees y g b (g.3 + 0) n) ∷ []) ∵ fpick ! (λ z. by ! (at z))
     where
-      at : (y : Bool) → ent 𝓤 (sem 𝓛 (alone_gives holder_coded.code (limit g.0) (content g.1 g.2 b g.3) b (g.3 + 0) g.4.0 g.4.1 g.4.2 g.4.3 n y)) (H.⇛ (sep 𝓤 (sem 𝓛 (part_at BodyRow full_share g.2 b (g.3 + body_at))) (sem 𝓛 (all_but_body g.0 g.1 g.2 b g.3 g.4))))
-      at true = qed 𝓛 (‵ (alone_gives holder_coded.code (limit g.0) (content g.1 g.2 b g.3) b (g.3 + 0) g.4.0 g.4.1 g.4.2 g.4.3 n true) ∷ []) ∵ updating ! $ fsplit ! $ drop ! $ fsplit ! $ move ! (1 ∷ []) $ fsplit ! $ move ! (1 ∷ []) $ fsplit3 ! $
+      at : (z : Bool) → ent 𝓤 (sem 𝓛 (alone_gives role_coded.code (whose y g.4.3) (limit g.0) (content g.1 g.2 b g.3) b (g.3 + 0) g.4.0 g.4.1 g.4.2 g.4.3 n z)) (H.⇛ (sep 𝓤 (sem 𝓛 (part_at BodyRow full_share g.2 b (g.3 + body_at))) (sem 𝓛 (all_but_body y g.0 g.1 g.2 b g.3 g.4))))
+      at true = qed 𝓛 (‵ (alone_gives role_coded.code (whose y g.4.3) (limit g.0) (content g.1 g.2 b g.3) b (g.3 + 0) g.4.0 g.4.1 g.4.2 g.4.3 n true) ∷ []) ∵ updating ! $ fsplit ! $ drop ! $ fsplit ! $ move ! (1 ∷ []) $ fsplit ! $ move ! (1 ∷ []) $ fsplit3 ! $
           -- [the end; what was shared; the machine; the word; the mark]
           lent_back ! tt $ now ! $ fsplit ! $ move ! (2 ∷ 1 ∷ []) $ fjoin ! $ move ! (2 ∷ 0 ∷ []) $ fjoin ! $ move ! (2 ∷ 0 ∷ []) $ fjoin ! $ move ! (1 ∷ 0 ∷ []) $ done !
-      at false = qed 𝓛 (‵ (alone_gives holder_coded.code (limit g.0) (content g.1 g.2 b g.3) b (g.3 + 0) g.4.0 g.4.1 g.4.2 g.4.3 n false) ∷ []) ∵ fsplit ! $ fpick ! (λ no. absurd (no one))
+      at false = qed 𝓛 (‵ (alone_gives role_coded.code (whose y g.4.3) (limit g.0) (content g.1 g.2 b g.3) b (g.3 + 0) g.4.0 g.4.1 g.4.2 g.4.3 n false) ∷ []) ∵ fsplit ! $ fpick ! (λ no. absurd (no one))
 
   -- who loads another number reads on
-  pub refused : (g : Stepped) (b w n : ℕ) → n ≢ 1 → ent 𝓤 (sem 𝓛 (sees g b w n)) (sep 𝓤 (sem 𝓛 (mark holder_coded.code g.4.1 g.4.2 (Reads g.4.3))) (sem 𝓛 (part 63 g.4.0)))
-  refused g b w n more = qed 𝓛 (‵ (sees g b w n) ∷ []) ∵ fpick ! (λ y. by ! (at y))
+  pub refused : (y : Bool) (g : Stepped) (b w n : ℕ) → n ≢ 1 → ent 𝓤 (sem 𝓛 (sees y g b w n)) (sep 𝓤 (sem 𝓛 (mark role_coded.code g.4.1 g.4.2 Reader)) (sem 𝓛 (part 63 g.4.0)))
+  refused y g b w n more = qed 𝓛 (‵ (sees y g b w n) ∷ []) ∵ fpick ! (λ z. by ! (at z))
     where
-      at : (y : Bool) → ent 𝓤 (sem 𝓛 (alone_gives holder_coded.code (limit g.0) (content g.1 g.2 b g.3) b w g.4.0 g.4.1 g.4.2 g.4.3 n y)) (sep 𝓤 (sem 𝓛 (mark holder_coded.code g.4.1 g.4.2 (Reads g.4.3))) (sem 𝓛 (part 63 g.4.0)))
-      at true = qed 𝓛 (‵ (alone_gives holder_coded.code (limit g.0) (content g.1 g.2 b g.3) b w g.4.0 g.4.1 g.4.2 g.4.3 n true) ∷ []) ∵ fsplit ! $ fpick ! (λ one. absurd (more one))
-      at false = qed 𝓛 (‵ (alone_gives holder_coded.code (limit g.0) (content g.1 g.2 b g.3) b w g.4.0 g.4.1 g.4.2 g.4.3 n false) ∷ []) ∵ fsplit ! $ drop ! $ fsplit ! $ done !
+      at : (z : Bool) → ent 𝓤 (sem 𝓛 (alone_gives role_coded.code (whose y g.4.3) (limit g.0) (content g.1 g.2 b g.3) b w g.4.0 g.4.1 g.4.2 g.4.3 n z)) (sep 𝓤 (sem 𝓛 (mark role_coded.code g.4.1 g.4.2 Reader)) (sem 𝓛 (part 63 g.4.0)))
+      at true = qed 𝓛 (‵ (alone_gives role_coded.code (whose y g.4.3) (limit g.0) (content g.1 g.2 b g.3) b w g.4.0 g.4.1 g.4.2 g.4.3 n true) ∷ []) ∵ fsplit ! $ fpick ! (λ one. absurd (more one))
+      at false = qed 𝓛 (‵ (alone_gives role_coded.code (whose y g.4.3) (limit g.0) (content g.1 g.2 b g.3) b w g.4.0 g.4.1 g.4.2 g.4.3 n false) ∷ []) ∵ fsplit ! $ drop ! $ fsplit ! $ done !
 
   -- a writer that gives its holder up, its word at 0, has the duty
-  pub gives_up : (l b w : ℕ) (P : Fml) (i : Id) → ent 𝓤 (sep 𝓤 (sem 𝓛 (mark holder_coded.code i.1 i.2 (Writes i.3))) (sem 𝓛 (fex Counted (stands l i)))) (H.⇛ (sem 𝓛 (owed l i)))
-  gives_up l b w P i = qed 𝓛 (‵ (mark holder_coded.code i.1 i.2 (Writes i.3)) ∷ ‵ (fex Counted (stands l i)) ∷ []) ∵ updating ! $ move ! (1 ∷ []) $ fpick ! (λ s. fsplit ! $ move ! (1 ∷ []) $ fpick ! (λ so. drop ! $
-      let s' : Counted = subtracted s i.2 Ended i.3 in let Ended_at = raw (upd 𝓤 (sep 𝓤 (sem 𝓛 (roster holder_coded.code i.1 0 s'.holders)) (sem 𝓛 (mark holder_coded.code i.1 i.2 Ended)))) in
-      use2 𝓛 (given (holder_at s.holders i.2 ≡ Writes i.3) Ended_at) (marked 𝓛 (limit l) P b w 0 i.1 (low l) s i.2 (Writes i.3) Ended) $ learn ! (λ at.
-      use1 𝓛 (later (‵ (roster holder_coded.code i.1 0 s'.holders) ⊛ ‵ (mark holder_coded.code i.1 i.2 Ended))) (basic 𝓛 (sep 𝓤 (sem 𝓛 (roster holder_coded.code i.1 0 s'.holders)) (sem 𝓛 (mark holder_coded.code i.1 i.2 Ended)))) $ await ! tt $ split ! $
-      move ! (1 ∷ []) $ drop ! $ nothing ! $ fpack ! (IsGivenUp (limit l) s' i.3) (λ _. ftrue) (given_up (limit l) (low l) s i.2 i.3 so.0 so.2 so.1) $ move ! (1 ∷ 0 ∷ []) $ fjoin ! $
-      fpack ! Counted (λ t. fsep (roster holder_coded.code i.1 0 t.holders) (fact (IsGivenUp (limit l) t i.3))) s' $ now ! $ done !)))
+  pub gives_up : (y : Bool) (l b w : ℕ) (P : Fml) (i : Id) → ent 𝓤 (sep 𝓤 (sem 𝓛 (mark role_coded.code i.1 i.2 Writer)) (sem 𝓛 (fex Counted (stands y l i)))) (H.⇛ (sem 𝓛 (owed l i)))
+  gives_up y l b w P i = qed 𝓛 (‵ (mark role_coded.code i.1 i.2 Writer) ∷ ‵ (fex Counted (stands y l i)) ∷ []) ∵ updating ! $ move ! (1 ∷ []) $ fpick ! (λ s. fsplit ! $ move ! (1 ∷ []) $ fpick ! (λ so. drop ! $
+      let s' : Counted = subtracted s i.2 Ended i.3 in let Ended_at = raw (upd 𝓤 (sep 𝓤 (sem 𝓛 (roster role_coded.code i.1 0 (roles s'.holders))) (sem 𝓛 (mark role_coded.code i.1 i.2 Gone)))) in
+      use2 𝓛 (given (role (holder_at s.holders i.2) ≡ Writer) Ended_at) (marked 𝓛 (whose y i.3) (limit l) P b w 0 i.1 (low l) s i.2 Writer Ended) $ learn ! (λ _.
+      use1 𝓛 (later (‵ (roster role_coded.code i.1 0 (roles s'.holders)) ⊛ ‵ (mark role_coded.code i.1 i.2 Gone))) (basic 𝓛 (sep 𝓤 (sem 𝓛 (roster role_coded.code i.1 0 (roles s'.holders))) (sem 𝓛 (mark role_coded.code i.1 i.2 Gone)))) $ await ! tt $ split ! $
+      move ! (1 ∷ []) $ drop ! $ nothing ! $ fpack ! (IsGivenUp (limit l) s' i.3) (λ _. ftrue) (given_up (whose y i.3) (limit l) (low l) s i.2 i.3 so.0 so.2 so.1) $ move ! (1 ∷ 0 ∷ []) $ fjoin ! $
+      fpack ! Counted (λ t. fsep (roster role_coded.code i.1 0 (roles t.holders)) (fact (IsGivenUp (limit l) t i.3))) s' $ now ! $ done !)))
 
   -- who has the duty frees
   pub frees : (l : ℕ) → ent 𝓤 (sem 𝓛 (fex Id (owed l))) (sem 𝓛 (fex Id (freed l)))
   frees l = qed 𝓛 (‵ (fex Id (owed l)) ∷ []) ∵ fpick ! (λ i. fpick ! (λ s. fsplit ! $ move ! (1 ∷ []) $ fpick ! (λ so. drop ! $
       nothing ! $ fpack ! (IsFreed (limit l) (reached.freed s)) (λ _. ftrue) (is_freed (limit l) s i.3 so) $ move ! (1 ∷ 0 ∷ []) $ fjoin ! $
-      fpack ! Counted (λ t. fsep (roster holder_coded.code i.1 0 t.holders) (fact (IsFreed (limit l) t))) (reached.freed s) $ fpack ! Id (freed l) i $ done !)))
+      fpack ! Counted (λ t. fsep (roster role_coded.code i.1 0 (roles t.holders)) (fact (IsFreed (limit l) t))) (reached.freed s) $ fpack ! Id (freed l) i $ done !)))
 
   -- with any list in its place, what was lent is the handle again
   pub back : (d : SharedHandle) (b o nb na : ℕ) (h : Val) (i : Id) → d.node ≡ block_ptr nb na → (w : BodyIn)
-      → ent 𝓤 (sep 𝓤 (sem 𝓛 ((mem BodyRow).own_at w nb (na + body_at))) (sem 𝓛 (fsep (all_but_body d.limit d.alloc d.inner nb na i) (fsep (Z.own_val d.alloc (h ∷ [])) (cell_at full_share block.the_row.mir (both (vptr nb na) h ∷ []) b o)))))
+      → ent 𝓤 (sep 𝓤 (sem 𝓛 ((mem BodyRow).own_at w nb (na + body_at))) (sem 𝓛 (fsep (all_but_body true d.limit d.alloc d.inner nb na i) (fsep (Z.own_val d.alloc (h ∷ [])) (cell_at full_share block.the_row.mir (both (vptr nb na) h ∷ []) b o)))))
       (sem 𝓛 ((mem block.the_row).own_at (with_body d w) b o))
   unfolding part_of
   back d b o nb na h i e w = let v : Val = both (vptr nb na) h in
-      qed 𝓛 (‵ (part_at BodyRow full_share w nb (na + body_at)) ∷ ‵ (fsep (all_but_body d.limit d.alloc d.inner nb na i) (fsep (Z.own_val d.alloc (h ∷ [])) (cell_at full_share block.the_row.mir (v ∷ []) b o))) ∷ []) ∵
+      qed 𝓛 (‵ (part_at BodyRow full_share w nb (na + body_at)) ∷ ‵ (fsep (all_but_body true d.limit d.alloc d.inner nb na i) (fsep (Z.own_val d.alloc (h ∷ [])) (cell_at full_share block.the_row.mir (v ∷ []) b o))) ∷ []) ∵
       move ! (1 ∷ []) $ fsplit3 ! $ fsplit3 ! $ move ! (2 ∷ []) $ fsplit ! $
       -- [the machine; the right to free; the mark; the word; the handle; the cell; the list]
       move ! (6 ∷ 1 ∷ []) $ fjoin ! $ move ! (1 ∷ 0 ∷ []) $ fjoin ! $ move ! (2 ∷ 0 ∷ []) $ fjoin ! $ move ! (1 ∷ 0 ∷ []) $ fjoin ! $
-      fpack ! Id (writer d.limit d.alloc w nb na) i $ fpack ! Bool (sole_or_counted (fex Id (writer d.limit d.alloc w nb na)) (fex Id (reader true d.limit d.alloc w nb na))) true $
+      fpack ! Id (writer true d.limit d.alloc w nb na) i $ fpack ! Bool (sole_or_counted (fex Id (writer true d.limit d.alloc w nb na)) (fex Id (reader true d.limit d.alloc w nb na))) true $
       block_in ! d.limit nb na h d.alloc w $ rewrite ! 0 (λ (p : Ptr). ‵ (block.the_row.own_val (record { node = p; alloc = d.alloc; limit = d.limit; inner = w }) (v ∷ []))) (sym e) refl $
       move ! (1 ∷ 0 ∷ []) $ fjoin ! $ fpack ! (List Val) (λ us. fsep (cell_at full_share block.the_row.mir us b o) (block.the_row.own_val (with_body d w) us)) (v ∷ []) $ done !
 
   -- who adds where the word was still the same has a new holder
-  pub joined : (l : ℕ) (P : Fml) (b w a γ t old n : ℕ) → n ≡ old → ent 𝓤 (sem 𝓛 (fex Bool (join_gives holder_coded.code l P b w a γ t old n))) (sem 𝓛 (fsep (fex ℕ (λ j. mark holder_coded.code γ j (Reads t))) (part 63 a)))
-  joined l P b w a γ t old n same = qed 𝓛 (‵ (fex Bool (join_gives holder_coded.code l P b w a γ t old n)) ∷ []) ∵ fpick ! (λ y. by ! (at y))
+  pub joined : (of : Threads) (l : ℕ) (P : Fml) (b w a γ old n : ℕ) → n ≡ old → ent 𝓤 (sem 𝓛 (fex Bool (join_gives role_coded.code of l P b w a γ old n))) (sem 𝓛 (fsep (fex ℕ (λ j. mark role_coded.code γ j Reader)) (part 63 a)))
+  joined of l P b w a γ old n same = qed 𝓛 (‵ (fex Bool (join_gives role_coded.code of l P b w a γ old n)) ∷ []) ∵ fpick ! (λ z. by ! (at z))
     where
-      at : (y : Bool) → ent 𝓤 (sem 𝓛 (join_gives holder_coded.code l P b w a γ t old n y)) (sem 𝓛 (fsep (fex ℕ (λ j. mark holder_coded.code γ j (Reads t))) (part 63 a)))
-      at true = qed 𝓛 (‵ (join_gives holder_coded.code l P b w a γ t old n true) ∷ []) ∵ fsplit ! $ drop ! $ done !
-      at false = qed 𝓛 (‵ (join_gives holder_coded.code l P b w a γ t old n false) ∷ []) ∵ fpick ! (λ no. absurd (no same))
+      at : (z : Bool) → ent 𝓤 (sem 𝓛 (join_gives role_coded.code of l P b w a γ old n z)) (sem 𝓛 (fsep (fex ℕ (λ j. mark role_coded.code γ j Reader)) (part 63 a)))
+      at true = qed 𝓛 (‵ (join_gives role_coded.code of l P b w a γ old n true) ∷ []) ∵ fsplit ! $ drop ! $ done !
+      at false = qed 𝓛 (‵ (join_gives role_coded.code of l P b w a γ old n false) ∷ []) ∵ fpick ! (λ no. absurd (no same))

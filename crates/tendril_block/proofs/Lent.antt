@@ -15,22 +15,21 @@ use denote.SharingLaws.{contraction, some_shr_laws, beside_shr_laws, one_shr_law
 use denote.Moves.{moves_from}
 use denote.Steps.{nothing}
 use denote.Struct.Lending.{Lends}
-use Rattle.tendril_count.specs.Machine.{Reads}
 use base.Share.{three_quarters}
 use Rattle.atomic_table.specs.Seated.{seen}
-use Rattle.tendril_count.specs.Rule.{holder_coded, mark}
+use Rattle.tendril_count.specs.Rule.{role_coded, Reader, mark}
 
--- the lifetime, the name, the holder and its thread
+-- the lifetime, the name, the holder and the thread that takes its steps
 abbrev pub Id : Type 0
 Id = ℕ × ℕ × ℕ × ℕ
 
 -- R i says that holder i's rule is kept
 module _ (R : Id → Fml) (dup : (i : Id) (W : Type 1) (𝓤 : Ura W) (𝓛 : Logic 𝓤) → ent 𝓤 (sem 𝓛 (R i)) (sep 𝓤 (sem 𝓛 (R i)) (sem 𝓛 (R i)))) (s : Lft → Fml) (L : ShrLaws s) where
   abbrev M : Id → Fml
-  M i = mark holder_coded.code i.1 i.2 (Reads i.3)
+  M i = mark role_coded.code i.1 i.2 Reader
 
   abbrev M_of : Id → Share → Fml
-  M_of i q = seen holder_coded.code i.1 i.2 q (Reads i.3)
+  M_of i q = seen role_coded.code i.1 i.2 q Reader
 
   abbrev pub holder_owns : Id → Fml
   holder_owns i = fsep (part 63 i.0) (fsep (R i) (fsep (M i) (s (i.0 ∷ []))))

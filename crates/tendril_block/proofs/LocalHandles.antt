@@ -56,14 +56,14 @@ module _ {M : Type 1} {𝓤 : Ura M} (𝓛 : Logic 𝓤) where
 
   -- with any list in its place, what was lent is the handle again
   pub back : (d : LocalHandle) (b o nb na : ℕ) (h : Val) (i : Id) → d.node ≡ block_ptr nb na → (w : BodyIn)
-      → ent 𝓤 (sep 𝓤 (sem 𝓛 ((mem BodyRow).own_at w nb (na + body_at))) (sem 𝓛 (fsep (all_but_body d.limit d.alloc d.inner nb na i) (fsep (Z.own_val d.alloc (h ∷ [])) (cell_at full_share block.the_row.mir (both (vptr nb na) h ∷ []) b o)))))
+      → ent 𝓤 (sep 𝓤 (sem 𝓛 ((mem BodyRow).own_at w nb (na + body_at))) (sem 𝓛 (fsep (all_but_body false d.limit d.alloc d.inner nb na i) (fsep (Z.own_val d.alloc (h ∷ [])) (cell_at full_share block.the_row.mir (both (vptr nb na) h ∷ []) b o)))))
       (sem 𝓛 ((mem block.the_row).own_at (with_body d w) b o))
   unfolding part_of
   back d b o nb na h i e w = let v : Val = both (vptr nb na) h in
-      qed 𝓛 (‵ (part_at BodyRow full_share w nb (na + body_at)) ∷ ‵ (fsep (all_but_body d.limit d.alloc d.inner nb na i) (fsep (Z.own_val d.alloc (h ∷ [])) (cell_at full_share block.the_row.mir (v ∷ []) b o))) ∷ []) ∵
+      qed 𝓛 (‵ (part_at BodyRow full_share w nb (na + body_at)) ∷ ‵ (fsep (all_but_body false d.limit d.alloc d.inner nb na i) (fsep (Z.own_val d.alloc (h ∷ [])) (cell_at full_share block.the_row.mir (v ∷ []) b o))) ∷ []) ∵
       move ! (1 ∷ []) $ fsplit3 ! $ fsplit3 ! $ move ! (2 ∷ []) $ fsplit ! $
       -- [the machine; the right to free; the mark; the word; the handle; the cell; the list]
       move ! (6 ∷ 1 ∷ []) $ fjoin ! $ move ! (1 ∷ 0 ∷ []) $ fjoin ! $ move ! (2 ∷ 0 ∷ []) $ fjoin ! $ move ! (1 ∷ 0 ∷ []) $ fjoin ! $
-      fpack ! Id (writer d.limit d.alloc w nb na) i $ fpack ! Bool (sole_or_counted (fex Id (writer d.limit d.alloc w nb na)) (fex Id (reader false d.limit d.alloc w nb na))) true $
+      fpack ! Id (writer false d.limit d.alloc w nb na) i $ fpack ! Bool (sole_or_counted (fex Id (writer false d.limit d.alloc w nb na)) (fex Id (reader false d.limit d.alloc w nb na))) true $
       local_in ! d.limit nb na h d.alloc w $ rewrite ! 0 (λ (p : Ptr). ‵ (block.the_row.own_val (record { node = p; alloc = d.alloc; limit = d.limit; inner = w }) (v ∷ []))) (sym e) refl $
       move ! (1 ∷ 0 ∷ []) $ fjoin ! $ fpack ! (List Val) (λ us. fsep (cell_at full_share block.the_row.mir us b o) (block.the_row.own_val (with_body d w) us)) (v ∷ []) $ done !

@@ -22,8 +22,8 @@ use Rattle.tendril_block.specs.contracts.body.Body as body
 use Rattle.std_alloc.specs.Owners.{sole_or_counted}
 use Rattle.std_alloc.specs.Box.Ownership.{box_owns}
 use Rattle.atomic_table.specs.Seated.{word, fact, seen, roster}
-use Rattle.tendril_count.specs.Machine.{Reads, Writes, Block, held as holders_left, holder_at}
-use Rattle.tendril_count.specs.Rule.{holder_coded, mark, Inv, IsReached, join_gives, alone_gives, subtract_gives}
+use Rattle.tendril_count.specs.Machine.{Writes, Block, held as holders_left, holder_at}
+use Rattle.tendril_count.specs.Rule.{role_coded, Reader, Writer, roles, Threads, Any, Only, mark, Inv, IsReached, join_gives, alone_gives, subtract_gives}
 use Rattle.tendril_block.specs.contracts.node.Node.{the_row as NodeRow}
 
 -- the limit of holders that a number stands for
@@ -46,13 +46,18 @@ members = record { row = u64; ty = ty_int w64 } ∷ record { row = BodyRow; ty =
 abbrev pub body_at : ℕ
 body_at = up (align (lone BodyRow.mir)) 8
 
--- the lifetime, the name, the holder and its thread
+-- the lifetime, the name, the holder and the thread that takes its steps
 abbrev pub Id : Type 0
 Id = ℕ × ℕ × ℕ × ℕ
 
+-- whose steps the rule allows: all threads', or those of one
+abbrev pub whose : Bool → ℕ → Threads
+whose true t = Any
+whose false t = Only t
+
 -- the machine, where this holder writes
-abbrev pub stands : ℕ → Id → Block → Fml
-stands l i s = fsep (roster holder_coded.code i.1 0 s.holders) (fact (IsReached (limit l) s × (s.word ≡ 1) × (holder_at s.holders i.2 ≡ Writes i.3)))
+abbrev pub stands : Bool → ℕ → Id → Block → Fml
+stands y l i s = fsep (roster role_coded.code i.1 0 (roles s.holders)) (fact (IsReached (whose y i.3) (limit l) s × (s.word ≡ 1) × (holder_at s.holders i.2 ≡ Writes i.3)))
 
 -- how the rule of the word at b, w is kept: for all threads, or for one
 abbrev pub kept : Bool → ℕ → ℕ → Fml → Fml
@@ -68,32 +73,28 @@ module _ (h : Global) (x : BodyIn) (b o : ℕ) where
   abbrev pub shown : Lft → Fml
   shown = lent_at BodyRow (block_ptr b (o + body_at)) x
 
-module _ (l : ℕ) (h : Global) (x : BodyIn) (b o : ℕ) where
-  abbrev pub rule : Id → Fml
-  rule i = Inv holder_coded.code (limit l) (content h x b o) b (o + 0) i.0 i.1
-
 module _ (y : Bool) (l : ℕ) (h : Global) (x : BodyIn) (b o : ℕ) where
+  abbrev pub rule : Id → Fml
+  rule i = Inv role_coded.code (whose y i.3) (limit l) (content h x b o) b (o + 0) i.0 i.1
+
   -- a holder that reads
   abbrev pub reader : Id → Fml
-  reader i = fsep (part 63 i.0) (fsep (kept y b (o + 0) (rule l h x b o i)) (fsep (mark holder_coded.code i.1 i.2 (Reads i.3)) (shown h x b o (i.0 ∷ []))))
+  reader i = fsep (part 63 i.0) (fsep (kept y b (o + 0) (rule i)) (fsep (mark role_coded.code i.1 i.2 Reader) (shown h x b o (i.0 ∷ []))))
 
-module _ (l : ℕ) (h : Global) (x : BodyIn) (b o : ℕ) where
   -- a holder that was found alone: it has the word, the content and the machine
   abbrev pub writer : Id → Fml
-  writer i = fsep (mark holder_coded.code i.1 i.2 (Writes i.3)) (fsep (word b (o + 0) 1) (fsep (fex Block (stands l i)) (content h x b o)))
+  writer i = fsep (mark role_coded.code i.1 i.2 Writer) (fsep (word b (o + 0) 1) (fsep (fex Block (stands y l i)) (content h x b o)))
 
   -- all of that but the list
   abbrev pub all_but_body : Id → Fml
-  all_but_body i = fsep (mark holder_coded.code i.1 i.2 (Writes i.3)) (fsep (word b (o + 0) 1) (fsep (fex Block (stands l i)) (fsep (ghosts.dealloc_token h (bare (lone NodeRow.mir)) (block_ptr b o)) (fleft full_share (ty_struct [] (raw_tys members)) (raw_tys members) b o))))
+  all_but_body i = fsep (mark role_coded.code i.1 i.2 Writer) (fsep (word b (o + 0) 1) (fsep (fex Block (stands y l i)) (fsep (ghosts.dealloc_token h (bare (lone NodeRow.mir)) (block_ptr b o)) (fleft full_share (ty_struct [] (raw_tys members)) (raw_tys members) b o))))
 
-module _ (y : Bool) (l : ℕ) (h : Global) (x : BodyIn) (b o : ℕ) where
   abbrev pub held_at : Fml
-  held_at = fex Bool (sole_or_counted (fex Id (writer l h x b o)) (fex Id (reader y l h x b o)))
+  held_at = fex Bool (sole_or_counted (fex Id writer) (fex Id reader))
 
-module _ (y : Bool) (l : ℕ) (h : Global) (x : BodyIn) (b o : ℕ) where
   -- what a `&` to a holder has: shares of its lifetime's token and of its mark, the rule and what is shared
   abbrev pub lends : Id → Lft → Fml
-  lends i = beside (one (λ q. flft (i.0 ∷ []) q)) (beside (one (λ q. seen holder_coded.code i.1 i.2 q (Reads i.3))) (beside (λ _. kept y b (o + 0) (rule l h x b o i)) (held (i.0 ∷ []) (shown h x b o))))
+  lends i = beside (one (λ q. flft (i.0 ∷ []) q)) (beside (one (λ q. seen role_coded.code i.1 i.2 q Reader)) (beside (λ _. kept y b (o + 0) (rule i)) (held (i.0 ∷ []) (shown h x b o))))
 
 abbrev pub ptr_in_block : Ptr → Fml
 ptr_in_block p = fex (InBlock p) (λ _. ftrue)
@@ -107,11 +108,11 @@ block_owns y l null_ptr h x = ffalse
 
 -- the machine of a block without holders, which this thread has the duty to free
 abbrev pub owed : ℕ → Id → Fml
-owed l i = fex Block (λ s. fsep (roster holder_coded.code i.1 0 s.holders) (fact (IsReached (limit l) s × (s.word ≡ 0) × ((holders_left s ≡ 0) × (s.frees ≡ 0) × (s.duties ≡ i.3 ∷ [])))))
+owed l i = fex Block (λ s. fsep (roster role_coded.code i.1 0 (roles s.holders)) (fact (IsReached Any (limit l) s × (s.word ≡ 0) × ((holders_left s ≡ 0) × (s.frees ≡ 0) × (s.duties ≡ i.3 ∷ [])))))
 
 -- the machine of a block that was freed
 abbrev pub freed : ℕ → Id → Fml
-freed l i = fex Block (λ s. fsep (roster holder_coded.code i.1 0 s.holders) (fact (IsReached (limit l) s × (s.frees ≡ 1) × (s.duties ≡ []))))
+freed l i = fex Block (λ s. fsep (roster role_coded.code i.1 0 (roles s.holders)) (fact (IsReached Any (limit l) s × (s.frees ≡ 1) × (s.duties ≡ []))))
 
 -- the node at b, o of such a block
 module _ (l : ℕ) (h : Global) (x : BodyIn) (b o : ℕ) where
@@ -128,20 +129,20 @@ Step = ℕ × Global × BodyIn × ℕ × Id
 
 module _ (g : Step) (b w : ℕ) where
   abbrev pub node_rule : Fml
-  node_rule = Inv holder_coded.code (limit g.0) (content g.1 g.2 b g.3) b w g.4.0 g.4.1
+  node_rule = Inv role_coded.code Any (limit g.0) (content g.1 g.2 b g.3) b w g.4.0 g.4.1
 
   abbrev pub steps : Fml
-  steps = fsep (finv node_rule) (fsep (mark holder_coded.code g.4.1 g.4.2 (Reads g.4.3)) (part 63 g.4.0))
+  steps = fsep (finv node_rule) (fsep (mark role_coded.code g.4.1 g.4.2 Reader) (part 63 g.4.0))
 
+module _ (y : Bool) (g : Step) (b w : ℕ) where
   abbrev pub leaves_with : ℕ → Fml
-  leaves_with n = fex Bool (subtract_gives holder_coded.code (limit g.0) (content g.1 g.2 b g.3) b w g.4.0 g.4.1 g.4.3 n)
+  leaves_with n = fex Bool (subtract_gives role_coded.code (whose y g.4.3) (limit g.0) (content g.1 g.2 b g.3) b w g.4.0 g.4.1 g.4.3 n)
 
-module _ (g : Step) (b w : ℕ) where
   abbrev pub sees : ℕ → Fml
-  sees n = fex Bool (alone_gives holder_coded.code (limit g.0) (content g.1 g.2 b g.3) b w g.4.0 g.4.1 g.4.2 g.4.3 n)
+  sees n = fex Bool (alone_gives role_coded.code (whose y g.4.3) (limit g.0) (content g.1 g.2 b g.3) b w g.4.0 g.4.1 g.4.2 g.4.3 n)
 
 abbrev pub seen_by : Step → Ptr → ℕ → Fml
-seen_by g (block_ptr b w) n = sees g b w n
+seen_by g (block_ptr b w) n = sees true g b w n
 seen_by g null_ptr n = ffalse
 
 abbrev pub holds : Step → Ptr → Fml
@@ -149,7 +150,7 @@ holds g (block_ptr b w) = steps g b w
 holds g null_ptr = ffalse
 
 abbrev pub left : Step → Ptr → ℕ → Fml
-left g (block_ptr b w) n = leaves_with g b w n
+left g (block_ptr b w) n = leaves_with true g b w n
 left g null_ptr n = ffalse
 
 -- a step through a `&`, by shares of the lifetime's token and of the mark
@@ -158,13 +159,13 @@ Joining = Step × Share × Share
 
 module _ (g : Joining) (b w : ℕ) where
   abbrev pub part_of_mark : Fml
-  part_of_mark = seen holder_coded.code g.0.4.1 g.0.4.2 g.2 (Reads g.0.4.3)
+  part_of_mark = seen role_coded.code g.0.4.1 g.0.4.2 g.2 Reader
 
   abbrev pub by_parts : Fml
   by_parts = fsep (finv (node_rule g.0 b w)) (fsep part_of_mark (flft (g.0.4.0 ∷ []) g.1))
 
   abbrev pub joins_with : ℕ → ℕ → Fml
-  joins_with old n = fsep part_of_mark (fsep (flft (g.0.4.0 ∷ []) g.1) (fex Bool (join_gives holder_coded.code (limit g.0.0) (content g.0.1 g.0.2 b g.0.3) b w g.0.4.0 g.0.4.1 g.0.4.3 old n)))
+  joins_with old n = fsep part_of_mark (fsep (flft (g.0.4.0 ∷ []) g.1) (fex Bool (join_gives role_coded.code Any (limit g.0.0) (content g.0.1 g.0.2 b g.0.3) b w g.0.4.0 g.0.4.1 old n)))
 
 abbrev pub joins : Joining → Ptr → Fml
 joins g (block_ptr b w) = by_parts g b w

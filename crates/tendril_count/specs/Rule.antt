@@ -1,51 +1,91 @@
 -- What an invariant holds of a counted block's word, and what a holder owns.
--- The word lies at b, o. The holders share P for the lifetime a, and each has one part in 2 ^ 63 of a's token. The name γ has each holder's state.
+-- The word lies at b, o. The holders share P for the lifetime a, and each has one part in 2 ^ 63 of a's token. The name γ has each holder's role.
 use mathlib.Core.Path.{sym, ap, ◌∙◌}
-use Rattle.std.specs.Prelude.{◌≡◌, ◌≢◌, refl, ℕ, zero, suc, ◌<◌, Bool, true, false, List, [], ◌∷◌}
-use base.Stored.{Gv, Coded, coded×, coded_ℕ, coded_via}
+use Rattle.std.specs.Prelude.{◌≡◌, ◌≢◌, refl, ℕ, zero, suc, ◌<◌, Bool, true, false, if◌then◌else◌, ⊤, List, [], ◌∷◌}
+use base.Stored.{Gv, Coded, coded_ℕ, coded_via}
 use base.Share.{three_quarters}
 use base.Fml.{Fml, fsep, fex, fdead, flent}
 use types.RcWeak.{part, rest}
 use Rattle.atomic_table.specs.Seated.{word, fact, seen, roster}
-use Rattle.tendril_count.specs.Machine.{Holder, Ended, Reads, Writes, Surplus, Block, Step, held, after, holder_at}
+use Rattle.tendril_count.specs.Machine.{Holder, Ended, Reads, Writes, Surplus, Block, Step, Make, Add, Alone, Done, Subtract, Free, Pass, held, after, holder_at}
 
-abbrev pub number : Holder → ℕ × ℕ
-number Ended = (0, 0)
-number (Reads t) = (1, t)
-number (Writes t) = (2, t)
-number (Surplus t) = (3, t)
+-- what a mark says of a holder: what it does, on whatever thread
+pub data Role : Type 0 where
+  Gone : Role
+  Reader : Role
+  Writer : Role
+  -- a surplus holder stands beside it
+  Owing : Role
 
-abbrev holder_by : ℕ → ℕ → Holder
-holder_by zero t = Ended
-holder_by (suc zero) t = Reads t
-holder_by (suc (suc zero)) t = Writes t
-holder_by (suc (suc (suc k))) t = Surplus t
+abbrev pub role : Holder → Role
+role Ended = Gone
+role (Reads t) = Reader
+role (Writes t) = Writer
+role (Surplus t) = Owing
 
-abbrev pub holder : ℕ × ℕ → Holder
-holder p = holder_by p.0 p.1
+abbrev pub roles : List Holder → List Role
+roles [] = []
+roles (h ∷ hs) = role h ∷ roles hs
 
-back : (h : Holder) → holder (number h) ≡ h
-back Ended = refl
-back (Reads t) = refl
-back (Writes t) = refl
-back (Surplus t) = refl
+abbrev pub number : Role → ℕ
+number Gone = 0
+number Reader = 1
+number Writer = 2
+number Owing = 3
 
--- how the ghost name says a state
-pub holder_coded : Coded Holder
-holder_coded = coded_via (coded× coded_ℕ coded_ℕ) number (λ x y e. sym (back x) ∙ ap holder e ∙ back y)
+abbrev role_by : ℕ → Role
+role_by zero = Gone
+role_by (suc zero) = Reader
+role_by (suc (suc zero)) = Writer
+role_by (suc (suc (suc n))) = Owing
 
--- a block that some list of steps leads to
-abbrev pub IsReached : ℕ → Block → Type 0
-IsReached limit s = (thread : ℕ) × (steps : List Step) × (s ≡ after limit thread steps)
+back : (r : Role) → role_by (number r) ≡ r
+back Gone = refl
+back Reader = refl
+back Writer = refl
+back Owing = refl
 
-module _ (c : Holder → Gv) where
-  -- the right to the steps of holder k, whose state is h
-  abbrev pub mark : ℕ → ℕ → Holder → Fml
-  mark γ k h = seen c γ k three_quarters h
+-- how the ghost name says a role
+pub role_coded : Coded Role
+role_coded = coded_via coded_ℕ number (λ x y e. sym (back x) ∙ ap role_by e ∙ back y)
 
-  module _ (limit : ℕ) (P : Fml) (b o a γ : ℕ) where
+-- whose steps a rule allows: any thread's, to which holders pass, or those of one thread
+pub data Threads : Type 0 where
+  Any : Threads
+  Only : (thread : ℕ) → Threads
+
+-- whether a step leaves each holder with its thread
+abbrev pub stays : Step → Bool
+stays (Make t) = true
+stays (Add k) = true
+stays (Alone k) = true
+stays (Done k) = true
+stays (Subtract k) = true
+stays (Free t) = true
+stays (Pass k t) = false
+
+abbrev pub all_stay : List Step → Bool
+all_stay [] = true
+all_stay (s ∷ steps) = if stays s then all_stay steps else false
+
+-- a block that some list of these threads' steps leads to
+abbrev pub IsReached : Threads → ℕ → Block → Type 0
+IsReached Any limit s = (thread : ℕ) × (steps : List Step) × (s ≡ after limit thread steps)
+IsReached (Only thread) limit s = (steps : List Step) × (all_stay steps ≡ true) × (s ≡ after limit thread steps)
+
+-- whether a thread may take steps
+abbrev pub IsTurn : Threads → ℕ → Type 0
+IsTurn Any t = ⊤
+IsTurn (Only thread) t = thread ≡ t
+
+module _ (c : Role → Gv) where
+  -- the right to the steps of holder k
+  abbrev pub mark : ℕ → ℕ → Role → Fml
+  mark γ k r = seen c γ k three_quarters r
+
+  module _ (whose : Threads) (limit : ℕ) (P : Fml) (b o a γ : ℕ) where
     abbrev pub beside : Block → Fml
-    beside s = fsep (roster c γ 0 s.holders) (fsep (fact (IsReached limit s × (0 < held s))) (fsep (rest 63 a (held s)) (flent (a ∷ []) P)))
+    beside s = fsep (roster c γ 0 (roles s.holders)) (fsep (fact (IsReached whose limit s × (0 < held s))) (fsep (rest 63 a (held s)) (flent (a ∷ []) P)))
 
     abbrev pub live : Block → Fml
     live s = fsep (word b o s.word) (beside s)
@@ -60,17 +100,17 @@ module _ (c : Holder → Gv) where
 
     -- what who leaves with the word has: the word and P, and the machine as it stands
     abbrev pub out : (Block → Type 0) → ℕ → Fml
-    out Is n = fsep (word b o n) (fsep (fdead (a ∷ [])) (fsep (flent (a ∷ []) P) (fex Block (λ s. fsep (roster c γ 0 s.holders) (fact (IsReached limit s × (s.word ≡ n) × Is s))))))
+    out Is n = fsep (word b o n) (fsep (fdead (a ∷ [])) (fsep (flent (a ∷ []) P) (fex Block (λ s. fsep (roster c γ 0 (roles s.holders)) (fact (IsReached whose limit s × (s.word ≡ n) × Is s))))))
 
     -- what an add gives that goes on only where the word is still old: a new holder where it found that
-    abbrev pub join_gives : ℕ → ℕ → ℕ → Bool → Fml
-    join_gives t old n true = fsep (fact (n ≡ old)) (fsep (fex ℕ (λ j. mark γ j (Reads t))) (part 63 a))
-    join_gives t old n false = fact (n ≢ old)
+    abbrev pub join_gives : ℕ → ℕ → Bool → Fml
+    join_gives old n true = fsep (fact (n ≡ old)) (fsep (fex ℕ (λ j. mark γ j Reader)) (part 63 a))
+    join_gives old n false = fact (n ≢ old)
 
     -- what a load that found n gives: alone at 1, else nothing new
     abbrev pub alone_gives : ℕ → ℕ → ℕ → Bool → Fml
-    alone_gives k t n true = fsep (fact (n ≡ 1)) (fsep (mark γ k (Writes t)) (out (λ s. holder_at s.holders k ≡ Writes t) 1))
-    alone_gives k t n false = fsep (fact (n ≢ 1)) (fsep (mark γ k (Reads t)) (part 63 a))
+    alone_gives k t n true = fsep (fact (n ≡ 1)) (fsep (mark γ k Writer) (out (λ s. holder_at s.holders k ≡ Writes t) 1))
+    alone_gives k t n false = fsep (fact (n ≢ 1)) (fsep (mark γ k Reader) (part 63 a))
 
     -- what a subtract that found n gives: at 1 the duty to free, and all that is freed
     abbrev pub subtract_gives : ℕ → ℕ → Bool → Fml

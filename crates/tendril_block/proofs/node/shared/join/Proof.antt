@@ -23,6 +23,7 @@ use denote.Triple.Walked.{Stays, walk_of, stay_dropped, Goes-dropped, ends_at}
 use Rattle.core.proofs.atomic.Steps.{tail}
 use Rattle.core.specs.Sync.RawAtomic.{asks, always}
 use Rattle.atomic_table.proofs.Calls.{fm, found, finds, exchanges}
+use Rattle.tendril_count.specs.Rule.{Any}
 use Rattle.tendril_block.specs.Held.{limit, content, joins, by_parts, joined_to}
 use Rattle.tendril_block.proofs.Carved.{low}
 use Rattle.tendril_count.proofs.Steps.{joins_at}
@@ -47,7 +48,7 @@ join_spec 𝓤 𝓛 𝓜 𝓡 wired =
     let after : ℕ → Fml = joined_to g old (block_ptr b o) in let Post = W.post (y (block_ptr b o)) in
     use1 𝓛 (raw (𝓣.C _ (vptr b o ∷ vint w64 old ∷ vint w64 new ∷ []) (λ r. mean 𝓛 (found after r))))
     (via 𝓤 _ (subst (λ (m : ℕ). ent 𝓤 (sem 𝓛 (by_parts g b o)) (asks 𝓛 (block_ptr b o) (λ n. either (eqb n old) m n) always after)) (sym next)
-    (joins_at 𝓛 (limit g.0.0) (content g.0.1 g.0.2 b g.0.3) b o g.0.4.0 g.0.4.1 (low g.0.0) g.0.4.2 g.0.4.3 g.2 g.1 old below))
+    (joins_at 𝓛 Any (limit g.0.0) (content g.0.1 g.0.2 b g.0.3) b o g.0.4.0 g.0.4.1 (low g.0.0) g.0.4.2 g.0.4.3 tt g.2 g.1 old below))
     (exchanges 𝓛 𝓜 𝓡 (code.calls-atomic_table::exchange 𝓡.env wired) (block_ptr b o) old new are.1.0.1 are.1.1.0.1 after)) $
     enter ! _ _ _ _ _ $ alloc_all ! (λ l. pass_all ! refl ((tt, tt), ((tt, record { fits = are.1.0.1 }), ((tt, record { fits = are.1.1.0.1 }), tt))) $ let Ev = env code.function.locals l in
     first ! $ blocks ! $

@@ -18,6 +18,7 @@ use denote.Triple.Entry.{on_entry}
 use denote.Triple.Walked.{Stays, walk_of, stay_dropped, Goes-dropped, ends_at}
 use Rattle.core.proofs.atomic.Steps.{tail}
 use Rattle.atomic_table.proofs.Calls.{fm, seq_cst, found, finds, subs}
+use Rattle.tendril_count.specs.Rule.{Any}
 use Rattle.tendril_block.specs.Held.{limit, content, holds, left}
 use Rattle.tendril_block.proofs.Carved.{low}
 use Rattle.tendril_count.proofs.Steps.{subtracts}
@@ -40,7 +41,7 @@ subtract_spec 𝓤 𝓛 𝓜 𝓡 wired =
     regoal ! (λ p. prop (WpFn 𝓤 𝓛.H 𝓣.C 𝓣.Λ code.function (rawptr_vals p) (W.post (y p)))) e refl $
     let after : ℕ → Fml = left g (block_ptr b o) in let Post = W.post (y (block_ptr b o)) in
     use1 𝓛 (raw (𝓣.C _ (vptr b o ∷ vint w64 1 ∷ seq_cst ∷ []) (λ r. mean 𝓛 (found after r))))
-    (via 𝓤 _ (subtracts 𝓛 (limit g.0) (content g.1 g.2 b g.3) b o g.4.0 g.4.1 (low g.0) g.4.2 g.4.3) (subs 𝓛 𝓜 𝓡 (code.calls-core::raw_atomic::fetch_sub 𝓡.env wired) (block_ptr b o) 1 (lit< tt) after)) $
+    (via 𝓤 _ (subtracts 𝓛 Any (limit g.0) (content g.1 g.2 b g.3) b o g.4.0 g.4.1 (low g.0) g.4.2 g.4.3 tt) (subs 𝓛 𝓜 𝓡 (code.calls-core::raw_atomic::fetch_sub 𝓡.env wired) (block_ptr b o) 1 (lit< tt) after)) $
     enter ! _ _ _ _ _ $ alloc_all ! (λ l. pass_all ! refl ((tt, tt), tt) $ let Ev = env code.function.locals l in
     first ! $ blocks ! $ sets ! (agg ! (and_then ! (lit ! tt) (no_more !))) refl (tt, (record { fits = lit< tt }, tt)) $
     Calls-last ! (fm 𝓛 𝓜 𝓡) (found after) (and_then ! (get ! refl) (and_then ! (lit ! tt) (and_then ! (get ! refl) (no_more !)))) (λ r. finds ! after (λ n fits.

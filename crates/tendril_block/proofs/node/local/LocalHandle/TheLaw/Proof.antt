@@ -26,7 +26,7 @@ use Rattle.tendril_block.proofs.node.local.LocalHandle.TheLaw.Statement.{stateme
 
 laws : (l : ℕ) (p : Ptr) (h : Global) (x : BodyIn) → ShrLaws (block_shares false l p h x)
 laws l p h x = beside_shr_laws (said (ptr_in_block p)) (some Id (lends false l h x (block_of p) (count_of p))) (said_shr_laws (ptr_in_block p) (λ _. tt))
-    (holder_shr_laws (λ i. kept false (block_of p) (count_of p + 0) (rule l h x (block_of p) (count_of p) i)) (λ i W 𝓤 𝓛. kept_twice 𝓛 false (block_of p) (count_of p + 0) (rule l h x (block_of p) (count_of p) i)) (shown h x (block_of p) (count_of p)) (shown_laws h x (block_of p) (count_of p)))
+    (holder_shr_laws (λ i. kept false (block_of p) (count_of p + 0) (rule false l h x (block_of p) (count_of p) i)) (λ i W 𝓤 𝓛. kept_twice 𝓛 false (block_of p) (count_of p + 0) (rule false l h x (block_of p) (count_of p) i)) (shown h x (block_of p) (count_of p)) (shown_laws h x (block_of p) (count_of p)))
 
 module _ {M : Type 1} {𝓤 : Ura M} (𝓛 : Logic 𝓤) (n : ℕ) (h : Global) (x : BodyIn) where
   open 𝓛 use {H, A}
@@ -43,12 +43,12 @@ module _ {M : Type 1} {𝓤 : Ura M} (𝓛 : Logic 𝓤) (n : ℕ) (h : Global) 
         nothing ! $ fpack ! (InBlock p) (λ _. ftrue) tt $ fjoin ! $ now ! $ done !
 
     back : ent 𝓤 (sem 𝓛 Q) (sem 𝓛 (held_at false n h x b o))
-    back = qed 𝓛 (‵ Q ∷ []) ∵ fsplit ! $ drop ! $ fpack ! Bool (sole_or_counted (fex Id (writer n h x b o)) (fex Id (reader false n h x b o))) false $ done !
+    back = qed 𝓛 (‵ Q ∷ []) ∵ fsplit ! $ drop ! $ fpack ! Bool (sole_or_counted (fex Id (writer false n h x b o)) (fex Id (reader false n h x b o))) false $ done !
 
     at_block : (l : Lft) → Lends 𝓛 (held_at false n h x b o) (block_shares false n p h x) l
     at_block l = Lends-settled 𝓛 (held_at false n h x b o) Q l (settles l) (block_shares false n p h x) back
         (Lends-both 𝓛 (ptr_in_block p) (fex Id (reader false n h x b o)) (said (ptr_in_block p)) (some Id (lends false n h x b o)) l (Lends-said 𝓛 (ptr_in_block p) (λ _. tt) l)
-        (Lends-holder (λ i. kept false b (o + 0) (rule n h x b o i)) (λ i W 𝓤' 𝓛'. kept_twice 𝓛' false b (o + 0) (rule n h x b o i)) (shown h x b o) (shown_laws h x b o) 𝓛 l))
+        (Lends-holder (λ i. kept false b (o + 0) (rule false n h x b o i)) (λ i W 𝓤' 𝓛'. kept_twice 𝓛' false b (o + 0) (rule false n h x b o i)) (shown h x b o) (shown_laws h x b o) 𝓛 l))
 
   law : (p : Ptr) (l : Lft) → Lends 𝓛 (block_owns false n p h x) (block_shares false n p h x) l
   law null_ptr l = Lends-false 𝓛 (block_shares false n null_ptr h x) l

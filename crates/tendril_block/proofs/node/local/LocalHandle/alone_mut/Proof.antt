@@ -33,9 +33,8 @@ use Rattle.std.proofs.raw_atomic.Walks.{leaves}
 use Rattle.std_alloc.proofs.RcSteps.{is_not, is_so}
 use Rattle.std_alloc.specs.Owners.{sole_or_counted}
 use Rattle.atomic_table.specs.Seated.{word}
-use Rattle.tendril_count.specs.Machine.{Reads}
 use Rattle.tendril_count.specs.Machine.{Block as Counted}
-use Rattle.tendril_count.specs.Rule.{holder_coded, mark, beside}
+use Rattle.tendril_count.specs.Rule.{Only, role_coded, Reader, mark, beside}
 use Rattle.tendril_block.proofs.Values.{both}
 use Rattle.tendril_block.proofs.Carved.{counted, kept_twice, low}
 use Rattle.tendril_block.proofs.Handles.{Z, granted, refused}
@@ -73,24 +72,24 @@ alone_mut_spec 𝓤 𝓛 𝓜 𝓡 wired =
     split ! $ split ! $ move ! (2 ∷ []) $ fsplit ! $ fsplit3 ! $ drop ! $ move ! (0 ∷ 1 ∷ 3 ∷ []) $ opens ! tt Self {h = me} b o (λ vs.
     move ! (1 ∷ []) $ local_out ! me vs (λ pb po u ep ws fits. let v : Val = both (vptr pb po) u in let there = po + body_at in
     rewrite ! 2 (λ (us : List Val). ‵ (cell_at full_share Self.mir us b o)) ws refl $
-    use1 𝓛 (later (‵ (fex Id (reader false l₀ h x pb po)))) (counted 𝓛 false l₀ h x pb po) $ await ! tt $ fpick ! (λ i. let P : Fml = rule l₀ h x pb po i in let K : Fml = kept false pb (po + 0) P in let g : Step = (l₀, h, x, po, i) in
-    let Mk : Fml = mark holder_coded.code i.1 i.2 (Reads i.3) in let Cn : Fml = content h x pb po in
+    use1 𝓛 (later (‵ (fex Id (reader false l₀ h x pb po)))) (counted 𝓛 false l₀ h x pb po) $ await ! tt $ fpick ! (λ i. let P : Fml = rule false l₀ h x pb po i in let K : Fml = kept false pb (po + 0) P in let g : Step = (l₀, h, x, po, i) in
+    let Mk : Fml = mark role_coded.code i.1 i.2 Reader in let Cn : Fml = content h x pb po in
     fsplit ! $ move ! (1 ∷ []) $ fsplit ! $ use1 𝓛 (‵ K ⊛ ‵ K) (kept_twice 𝓛 false pb (po + 0) P) $ split ! $ move ! (2 ∷ []) $ fsplit ! $
     -- [mark; shown; rule; rule; part; the handle; the cell; the open borrow; obs; auth; nothing; nothing; the thread's token and nothing]
     sets ! (of_opd ! (load ! (through ! refl (fld ! refl (stop !))) (look_in ! 6 (sub ! 0 refl (whole !))))) refl (tt, tt) $
     move ! (12 ∷ []) $ split ! $ move ! (4 ∷ 0 ∷ []) $ use2 𝓛 (later (‵ P ⊛ raw (wand 𝓤 (sem 𝓛 P) (H.⇛ (A.tok every))))) (opens_rule 𝓛 (pb, po + 0) P) $ await ! tt $ split ! $
     -- [what the rule says; its way back; nothing; mark; shown; rule; part; the handle; the cell; the open borrow; obs; auth; nothing; nothing]
-    move ! (0 ∷ 3 ∷ 6 ∷ []) $ use3 𝓛 (some (λ (s : Counted). given (s.word < 2 ^ 64) (‵ (word pb (po + 0) s.word) ⊛ ‵ (beside holder_coded.code (limit l₀) Cn pb (po + 0) i.0 i.1 s) ⊛ ‵ Mk ⊛ ‵ (part 63 i.0))))
-    (found_live 𝓛 (limit l₀) Cn pb (po + 0) i.0 i.1 (low l₀) (sep 𝓤 (sem 𝓛 Mk) (sem 𝓛 (part 63 i.0))) (part_alive 𝓛 (limit l₀) Cn pb (po + 0) i.0 i.1 (low l₀) (sem 𝓛 Mk))) $ pick ! (λ s. learn ! (λ small. split3 ! $ let n = s.word in
+    move ! (0 ∷ 3 ∷ 6 ∷ []) $ use3 𝓛 (some (λ (s : Counted). given (s.word < 2 ^ 64) (‵ (word pb (po + 0) s.word) ⊛ ‵ (beside role_coded.code (Only i.3) (limit l₀) Cn pb (po + 0) i.0 i.1 s) ⊛ ‵ Mk ⊛ ‵ (part 63 i.0))))
+    (found_live 𝓛 (Only i.3) (limit l₀) Cn pb (po + 0) i.0 i.1 (low l₀) (sep 𝓤 (sem 𝓛 Mk) (sem 𝓛 (part 63 i.0))) (part_alive 𝓛 (Only i.3) (limit l₀) Cn pb (po + 0) i.0 i.1 (low l₀) (sem 𝓛 Mk))) $ pick ! (λ s. learn ! (λ small. split3 ! $ let n = s.word in
     first ! $ blocks ! $ sets_last ! (of_opd ! (load ! (through ! refl (fld ! refl (stop !))) (look ! 0 refl))) refl (tt, record { fits = small }) $
     exec ! C Λ Ev (after 2 fn.body) (at_ret Ev Post) $ sets ! (of_opd ! (get ! refl)) refl (tt, record { fits = small }) $
-    use3 𝓛 (later (‵ P ⊛ ‵ (sees g pb (po + 0) n))) (looks_plainly 𝓛 (limit l₀) Cn pb (po + 0) i.0 i.1 (low l₀) i.2 i.3 s) $ await ! tt $ split ! $ move ! (0 ∷ 2 ∷ []) $
+    use3 𝓛 (later (‵ P ⊛ ‵ (sees false g pb (po + 0) n))) (looks_plainly 𝓛 (Only i.3) (limit l₀) Cn pb (po + 0) i.0 i.1 (low l₀) i.2 i.3 refl s) $ await ! tt $ split ! $ move ! (0 ∷ 2 ∷ []) $
     use2 𝓛 (later (‵ (ftok every))) (apply∗ 𝓤 (sem 𝓛 P) (H.⇛ (A.tok every))) $ await ! tt $ move ! (1 ∷ []) $
     -- [what the look gives; the thread's token; nothing; shown; rule; the handle; the cell; the open borrow; obs; auth; nothing; nothing]
     sets ! (bin ! (get ! refl) (lit ! tt) tt) refl (tt, tt) $ first ! $ branches ! (get ! refl)
     (λ more. sets ! (agg ! (and_then ! (lit ! tt) (no_more !))) refl (tt, (record { fits = lit< tt }, tt)) $
-    use1 𝓛 (‵ Mk ⊛ ‵ (part 63 i.0)) (refused 𝓛 g pb (po + 0) n (is_not n 1 more)) $ split ! $
-    move ! (0 ∷ 4 ∷ []) $ fjoin ! $ move ! (1 ∷ 4 ∷ 0 ∷ []) $ fjoin3 ! $ fpack ! Id (reader false l₀ h x pb po) i $ fpack ! Bool (sole_or_counted (fex Id (writer l₀ h x pb po)) (fex Id (reader false l₀ h x pb po))) false $
+    use1 𝓛 (‵ Mk ⊛ ‵ (part 63 i.0)) (refused 𝓛 false g pb (po + 0) n (is_not n 1 more)) $ split ! $
+    move ! (0 ∷ 4 ∷ []) $ fjoin ! $ move ! (1 ∷ 4 ∷ 0 ∷ []) $ fjoin3 ! $ fpack ! Id (reader false l₀ h x pb po) i $ fpack ! Bool (sole_or_counted (fex Id (writer false l₀ h x pb po)) (fex Id (reader false l₀ h x pb po))) false $
     move ! (0 ∷ 3 ∷ []) $ local_in ! l₀ pb po u h x $ rewrite ! 0 (λ (r' : Ptr). ‵ (Self.own_val (record { node = r'; alloc = h; limit = l₀; inner = x }) (v ∷ []))) (sym ep) refl $
     move ! (3 ∷ 0 ∷ 4 ∷ 5 ∷ 6 ∷ []) $ closes ! tt Self me (v ∷ []) b o $ use1 𝓛 (‵ (fres γ (Self.coded.code me))) (𝓛.names.obs-res γ (Self.coded.code me)) $
     use0 𝓛 (raw (fact 𝓤 (Unit {0}))) (fact_i 𝓤 (Unit {0}) (emp 𝓤) tt) $ move ! (1 ∷ 0 ∷ []) $ join ! $ move ! (3 ∷ 0 ∷ []) $ join ! $
@@ -100,10 +99,10 @@ alone_mut_spec 𝓤 𝓛 𝓜 𝓡 wired =
     first ! $ blocks ! $ sets ! (is ! (addr ! (through ! refl (fld ! refl (stop !)))) (ap (λ (j : ℕ). vptr pb (po + j)) eight)) refl (tt, tt) $
     sets_last ! (agg ! (and_then ! (lit ! tt) (and_then ! (get ! refl) (no_more !)))) refl (tt, (record { fits = lit< tt }, (tt, tt))) $
     exec ! C Λ Ev (after 6 fn.body) (at_ret Ev Post) $ sets ! (of_opd ! (get ! refl)) refl (tt, (record { fits = lit< tt }, (tt, tt))) $
-    use1 𝓛 (later (‵ (part_at BodyRow full_share x pb there) ⊛ ‵ (all_but_body l₀ h x pb po i))) (granted 𝓛 g pb n (is_so n 1 last)) $ await ! tt $ split ! $
+    use1 𝓛 (later (‵ (part_at BodyRow full_share x pb there) ⊛ ‵ (all_but_body false l₀ h x pb po i))) (granted 𝓛 false g pb n (is_so n 1 last)) $ await ! tt $ split ! $
     -- [the list; the rest of the node; the thread's token; nothing; shown; rule; the handle; the cell; the open borrow; obs; auth]
     move ! (1 ∷ 6 ∷ 7 ∷ []) $ fjoin3 ! $ move ! (6 ∷ 7 ∷ 8 ∷ 1 ∷ 0 ∷ []) $ group ! 5 $
-    let Back : Fml = fsep (all_but_body l₀ h x pb po i) (fsep (Z.own_val h (u ∷ [])) (cell_at full_share Self.mir (v ∷ []) b o)) in
+    let Back : Fml = fsep (all_but_body false l₀ h x pb po i) (fsep (Z.own_val h (u ∷ [])) (cell_at full_share Self.mir (v ∷ []) b o)) in
     use1 𝓛 (later (some (λ (γ' : GName). ‵ (Lent.own_val (record { ref_ptr = (pb, there); ghost_name = γ'; now = x }) (at ∷ [])) ⊛ ‵ (flft κ q) ⊛ ‵ (follows Self BodyRow γ γ' (with_body me)))))
     (lends_Part 𝓛 Self BodyRow (with_body me) (named 0) κ q b o pb there γ (sem 𝓛 Back) (back 𝓛 me b o pb po u i ep) (Self.coded.code me) (Self.coded.code me) x) $ await ! tt $ pick ! (λ γ'.
     let lent : MutBor BodyIn = record { ref_ptr = (pb, there); ghost_name = γ'; now = x } in

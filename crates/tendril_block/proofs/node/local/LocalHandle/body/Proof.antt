@@ -57,7 +57,7 @@ body_spec 𝓤 𝓛 𝓜 𝓡 wired =
     split ! $ split ! $ move ! (2 ∷ []) $ fsplit ! $ fsplit ! $ keep ! (1 ∷ 3 ∷ []) $
     use1 𝓛 (‵ (hidden_shr Words κ (to block.the_type d) b o) ⊛ ‵ (fhide (block_shares false d.limit p d.alloc x κ))) (lent_out 𝓛 block.struct (block.the_codes (heap.the_row).coded) block.the_heap block.the_lent κ d b o) $
     split ! $ move ! (1 ∷ []) $ unhide ! $ fsplit ! $ fpick ! (λ inb. drop ! $
-    use1 𝓛 (‵ (shown d.alloc x pb po κ)) (sees (λ i. kept false pb (po + 0) (rule d.limit d.alloc x pb po i)) (λ i W 𝓤' 𝓛'. kept_twice 𝓛' false pb (po + 0) (rule d.limit d.alloc x pb po i)) (shown d.alloc x pb po) (shown_laws d.alloc x pb po) 𝓛 κ) $ fsplit ! $ drop ! $ hide ! $
+    use1 𝓛 (‵ (shown d.alloc x pb po κ)) (sees (λ i. kept false pb (po + 0) (rule false d.limit d.alloc x pb po i)) (λ i W 𝓤' 𝓛'. kept_twice 𝓛' false pb (po + 0) (rule false d.limit d.alloc x pb po i)) (shown d.alloc x pb po) (shown_laws d.alloc x pb po) 𝓛 κ) $ fsplit ! $ drop ! $ hide ! $
     move ! (1 ∷ []) $ unhide ! $ fsplit ! $ fsplit ! $ hide ! $ move ! (0 ∷ 3 ∷ 4 ∷ []) $ use1 𝓛 (‵ (hidden_shr RawPtr κ p b (o + 0))) (id⊢ 𝓤 _) $
     -- [the pointer; the list; the token]
     enter ! 𝓣.C 𝓣.Λ fn (vptr b o ∷ []) Post $ alloc_all ! (λ l. pass_all ! refl ((tt, tt), tt) $ let Ev = env fn.locals l in

@@ -27,7 +27,7 @@ use denote.Triple.Walked.{Stays, stay_dropped, walk_of, Goes-dropped}
 use Rattle.core.proofs.alloc.Shapes.{after}
 use Rattle.std.specs.contracts.alloc.Global as heap
 use Rattle.std.proofs.raw_atomic.Walks.{leaves}
-use Rattle.tendril_count.specs.Rule.{holder_coded}
+use Rattle.tendril_count.specs.Rule.{Only, role_coded}
 use Rattle.tendril_block.specs.Held.{limit, content, rule, block_shares}
 use Rattle.tendril_block.specs.contracts.node.local.LocalHandle as block
 use Rattle.tendril_block.specs.contracts.node.local.LocalHandle.count.{ended, clauses}
@@ -65,7 +65,7 @@ count_spec 𝓤 𝓛 𝓜 𝓡 wired =
     regoal ! (λ (us : List Val). prop (WpFn 𝓤 H C Λ fn us Post)) (λ i. are.0.0 i ++ []) refl $
     split ! $ split ! $ move ! (2 ∷ []) $ fsplit ! $ fsplit ! $ keep ! (1 ∷ 3 ∷ 4 ∷ 5 ∷ []) $
     use1 𝓛 (‵ (hidden_shr Words κ (to block.the_type d) b o) ⊛ ‵ (fhide (block_shares false l₀ p d.alloc x κ))) (lent_out 𝓛 block.struct (block.the_codes (heap.the_row).coded) block.the_heap block.the_lent κ d b o) $
-    split ! $ move ! (1 ∷ []) $ unhide ! $ fsplit ! $ fpick ! (λ inb. drop ! $ fpick ! (λ i. let P : Fml = rule l₀ d.alloc x pb po i in fsplit3 ! $ move ! (2 ∷ []) $ fsplit ! $
+    split ! $ move ! (1 ∷ []) $ unhide ! $ fsplit ! $ fpick ! (λ inb. drop ! $ fpick ! (λ i. let P : Fml = rule false l₀ d.alloc x pb po i in fsplit3 ! $ move ! (2 ∷ []) $ fsplit ! $
     -- [rule; shown; tokens; marks; fields; the token; nothing; the thread's token and nothing]
     move ! (4 ∷ []) $ unhide ! $ fsplit ! $ fsplit ! $ hide ! $ use1 𝓛 (‵ (hidden_shr RawPtr κ p b (o + 0))) (id⊢ 𝓤 _) $ keep ! (0 ∷ 7 ∷ 3 ∷ 5 ∷ 8 ∷ 9 ∷ []) $
     enter ! C Λ fn (vptr b o ∷ []) Post $ alloc_all ! (λ l. pass_all ! refl ((tt, tt), tt) $ let Ev = env fn.locals l in
@@ -77,11 +77,11 @@ count_spec 𝓤 𝓛 𝓜 𝓡 wired =
     move ! (3 ∷ 0 ∷ []) $ shr_bor-open ! tt (tokens_halve 𝓛 (i.0 ∷ [])) (λ s. let Tk : Fml = flft (i.0 ∷ []) s in
     move ! (5 ∷ []) $ split ! $ move ! (5 ∷ 0 ∷ []) $ use2 𝓛 (later (‵ P ⊛ raw (wand 𝓤 (sem 𝓛 P) (H.⇛ (A.tok every))))) (opens_rule 𝓛 (pb, po + 0) P) $ await ! tt $ split ! $
     -- [what the rule says; its way back; nothing; the open token; its share; the pointer; nothing]
-    move ! (0 ∷ 4 ∷ []) $ use2 𝓛 (some (λ (t : Counted). given (t.word < 2 ^ 64) (‵ (word pb (po + 0) t.word) ⊛ ‵ (beside holder_coded.code (limit l₀) Cn pb (po + 0) i.0 i.1 t) ⊛ ‵ Tk)))
-    (found_live 𝓛 (limit l₀) Cn pb (po + 0) i.0 i.1 (low l₀) (sem 𝓛 Tk) (token_alive 𝓛 (limit l₀) Cn pb (po + 0) i.0 i.1 (low l₀) s)) $ pick ! (λ t. learn ! (λ small. split3 ! $ let n = t.word in
+    move ! (0 ∷ 4 ∷ []) $ use2 𝓛 (some (λ (t : Counted). given (t.word < 2 ^ 64) (‵ (word pb (po + 0) t.word) ⊛ ‵ (beside role_coded.code (Only i.3) (limit l₀) Cn pb (po + 0) i.0 i.1 t) ⊛ ‵ Tk)))
+    (found_live 𝓛 (Only i.3) (limit l₀) Cn pb (po + 0) i.0 i.1 (low l₀) (sem 𝓛 Tk) (token_alive 𝓛 (Only i.3) (limit l₀) Cn pb (po + 0) i.0 i.1 (low l₀) s)) $ pick ! (λ t. learn ! (λ small. split3 ! $ let n = t.word in
     first ! $ blocks ! $ sets_last ! (of_opd ! (load ! (through ! refl (fld ! refl (stop !))) (look ! 0 refl))) refl (tt, record { fits = small }) $
     exec ! C Λ Ev (after 2 fn.body) (at_ret Ev Post) $ sets ! (of_opd ! (get ! refl)) refl (tt, record { fits = small }) $
-    fjoin ! $ fpack ! Counted (live holder_coded.code (limit l₀) Cn pb (po + 0) i.0 i.1) t $ fpack ! Bool (state holder_coded.code (limit l₀) Cn pb (po + 0) i.0 i.1) true $ move ! (0 ∷ 2 ∷ []) $
+    fjoin ! $ fpack ! Counted (live role_coded.code (Only i.3) (limit l₀) Cn pb (po + 0) i.0 i.1) t $ fpack ! Bool (state role_coded.code (Only i.3) (limit l₀) Cn pb (po + 0) i.0 i.1) true $ move ! (0 ∷ 2 ∷ []) $
     use2 𝓛 (later (‵ (ftok every))) (apply∗ 𝓤 (sem 𝓛 P) (H.⇛ (A.tok every))) $ await ! tt $
     -- [the thread's token; the share; nothing; the open token; the pointer; nothing]
     move ! (3 ∷ 1 ∷ []) $ obor_close ! tt $ drop ! $ move ! (0 ∷ 4 ∷ []) $ join ! $

@@ -45,9 +45,8 @@ use Rattle.std.proofs.raw_atomic.Walks.{leaves}
 use Rattle.std_alloc.proofs.ResultValues.{and_tt}
 use Rattle.std_alloc.specs.Owners.{sole_or_counted}
 use Rattle.atomic_table.specs.Seated.{seen, word}
-use Rattle.tendril_count.specs.Machine.{Reads}
 use Rattle.tendril_count.specs.Machine.{Block as Counted}
-use Rattle.tendril_count.specs.Rule.{holder_coded, mark, beside, live, state, join_gives}
+use Rattle.tendril_count.specs.Rule.{Only, role_coded, Reader, mark, beside, live, state, join_gives}
 use Rattle.tendril_count.proofs.Parts.{mark_halves}
 use Rattle.tendril_block.proofs.Values.{both, loose_good}
 use Rattle.tendril_block.proofs.Handles.{Z, al, joined}
@@ -88,7 +87,7 @@ share_up_to_spec 𝓤 𝓛 𝓜 𝓡 wired =
     suffices ! (Run vs) (subst (λ (us : List Val). ent 𝓤 (Run vs) (Run us)) (sym (λ j. are.0.0 j ++ (ea j ++ (are.1.1.0.0 j ++ [])))) (id⊢ 𝓤 (Run vs))) $
     move ! (2 ∷ []) $ fsplit ! $ keep ! (1 ∷ 2 ∷ 4 ∷ 5 ∷ 6 ∷ []) $
     use1 𝓛 (‵ (hidden_shr Words κ (to block.the_type d) b o) ⊛ ‵ (fhide (block_shares false l₀ p d.alloc x κ))) (lent_out 𝓛 block.struct (block.the_codes (heap.the_row).coded) block.the_heap block.the_lent κ d b o) $
-    split ! $ move ! (1 ∷ []) $ unhide ! $ fsplit ! $ fpick ! (λ inb. drop ! $ fpick ! (λ i. let P : Fml = rule l₀ d.alloc x pb po i in let K : Fml = kept false pb (po + 0) P in fsplit3 ! $ move ! (2 ∷ []) $ fsplit ! $
+    split ! $ move ! (1 ∷ []) $ unhide ! $ fsplit ! $ fpick ! (λ inb. drop ! $ fpick ! (λ i. let P : Fml = rule false l₀ d.alloc x pb po i in let K : Fml = kept false pb (po + 0) P in fsplit3 ! $ move ! (2 ∷ []) $ fsplit ! $
     -- [rule; shown; tokens; marks; fields; the handle; the token; nothing; the thread's token]
     move ! (4 ∷ []) $ unhide ! $ fsplit ! $ fsplit ! $ hide ! $ use1 𝓛 (‵ (hidden_shr RawPtr κ p b (o + 0))) (id⊢ 𝓤 _) $ keep ! (0 ∷ 8 ∷ 3 ∷ 4 ∷ 5 ∷ 6 ∷ 7 ∷ 9 ∷ 10 ∷ []) $
     -- [the pointer; the token; rule; shown; tokens; marks; the handle; nothing; the thread's token]
@@ -99,19 +98,19 @@ share_up_to_spec 𝓤 𝓛 𝓜 𝓡 wired =
     feq_i ! (List Val) (vptr pb po ∷ []) (ptr_val p ∷ []) (ap (λ (r : Ptr). ptr_val r ∷ []) (sym (at_block p inb))) $ move ! (1 ∷ 0 ∷ []) $ shuts ! tt RawPtr q' p (vptr pb po ∷ []) b (o + 0) $
     -- [the token; the pointer; rule; shown; tokens; marks; the handle; nothing; the thread's token]
     use1 𝓛 (‵ (flft κ (Share.left q)) ⊛ ‵ (flft κ (Share.right q))) (𝓛.lfts.lft_split κ q) $ split ! $ move ! (5 ∷ 0 ∷ []) $ shr_bor-open ! tt (tokens_halve 𝓛 (i.0 ∷ [])) (λ s.
-    move ! (6 ∷ 2 ∷ []) $ shr_bor-open ! tt (mark_halves 𝓛 i.1 i.2 (Reads i.3)) (λ r. let Sn : Fml = seen holder_coded.code i.1 i.2 r (Reads i.3) in let Tk : Fml = flft (i.0 ∷ []) s in
+    move ! (6 ∷ 2 ∷ []) $ shr_bor-open ! tt (mark_halves 𝓛 i.1 i.2 Reader) (λ r. let Sn : Fml = seen role_coded.code i.1 i.2 r Reader in let Tk : Fml = flft (i.0 ∷ []) s in
     -- [the open mark; its share; the open token; its share; the pointer; rule; shown; the handle; nothing; the thread's token]
     move ! (5 ∷ []) $ use1 𝓛 (‵ K ⊛ ‵ K) (kept_twice 𝓛 false pb (po + 0) P) $ split ! $ move ! (0 ∷ 10 ∷ []) $
     use2 𝓛 (later (‵ P ⊛ raw (wand 𝓤 (sem 𝓛 P) (H.⇛ (A.tok every))))) (opens_rule 𝓛 (pb, po + 0) P) $ await ! tt $ split ! $
     -- [what the rule says; its way back; rule; the open mark; its share; the open token; its share; the pointer; shown; the handle; nothing]
-    move ! (0 ∷ 4 ∷ 6 ∷ []) $ use3 𝓛 (some (λ (t : Counted). given (t.word < 2 ^ 64) (‵ (word pb (po + 0) t.word) ⊛ ‵ (beside holder_coded.code (limit l₀) Cn pb (po + 0) i.0 i.1 t) ⊛ ‵ Sn ⊛ ‵ Tk)))
-    (found_live 𝓛 (limit l₀) Cn pb (po + 0) i.0 i.1 (low l₀) (sep 𝓤 (sem 𝓛 Sn) (sem 𝓛 Tk)) (share_alive 𝓛 (limit l₀) Cn pb (po + 0) i.0 i.1 (low l₀) (sem 𝓛 Sn) s)) $ pick ! (λ t. learn ! (λ small. split3 ! $ let n = t.word in
+    move ! (0 ∷ 4 ∷ 6 ∷ []) $ use3 𝓛 (some (λ (t : Counted). given (t.word < 2 ^ 64) (‵ (word pb (po + 0) t.word) ⊛ ‵ (beside role_coded.code (Only i.3) (limit l₀) Cn pb (po + 0) i.0 i.1 t) ⊛ ‵ Sn ⊛ ‵ Tk)))
+    (found_live 𝓛 (Only i.3) (limit l₀) Cn pb (po + 0) i.0 i.1 (low l₀) (sep 𝓤 (sem 𝓛 Sn) (sem 𝓛 Tk)) (share_alive 𝓛 (Only i.3) (limit l₀) Cn pb (po + 0) i.0 i.1 (low l₀) (sem 𝓛 Sn) s)) $ pick ! (λ t. learn ! (λ small. split3 ! $ let n = t.word in
     -- [the word; the machine; the shares; the way back; rule; the open mark; the open token; the pointer; shown; the handle; nothing]
     first ! $ blocks ! $ sets_last ! (of_opd ! (load ! (through ! refl (fld ! refl (stop !))) (look ! 0 refl))) refl (tt, record { fits = small }) $
     exec ! C Λ Ev (after 2 fn.body) (at_ret Ev Post) $ sets ! (of_opd ! (get ! refl)) refl (tt, record { fits = small }) $
     sets ! (bin ! (get ! refl) (get ! refl) tt) refl (tt, tt) $ first ! $ branches ! (get ! refl)
     (λ over. sets ! (agg ! (and_then ! (lit ! tt) (no_more !))) refl (tt, (record { fits = lit< tt }, tt)) $
-    fjoin ! $ fpack ! Counted (live holder_coded.code (limit l₀) Cn pb (po + 0) i.0 i.1) t $ fpack ! Bool (state holder_coded.code (limit l₀) Cn pb (po + 0) i.0 i.1) true $ move ! (0 ∷ 2 ∷ []) $
+    fjoin ! $ fpack ! Counted (live role_coded.code (Only i.3) (limit l₀) Cn pb (po + 0) i.0 i.1) t $ fpack ! Bool (state role_coded.code (Only i.3) (limit l₀) Cn pb (po + 0) i.0 i.1) true $ move ! (0 ∷ 2 ∷ []) $
     use2 𝓛 (later (‵ (ftok every))) (apply∗ 𝓤 (sem 𝓛 P) (H.⇛ (A.tok every))) $ await ! tt $ move ! (1 ∷ []) $ split ! $
     -- [the share of the mark; that of the token; the thread's token; rule; the open mark; the open token; the pointer; shown; the handle; nothing]
     move ! (4 ∷ 0 ∷ []) $ obor_close ! tt $ drop ! $ move ! (4 ∷ 1 ∷ []) $ obor_close ! tt $ drop ! $ use2 𝓛 (‵ (flft κ q)) (𝓛.lfts.lft_join κ q) $ move ! (0 ∷ 6 ∷ []) $ join ! $
@@ -122,13 +121,13 @@ share_up_to_spec 𝓤 𝓛 𝓜 𝓡 wired =
     let good : Good (layout Out) v₁ = (and_tt _ good_hv.0, (record { fits = lit< tt }, (good_hv.1, tt))) in let made : Self.Denot = record { node = block_ptr pb po; alloc = a; limit = l₀; inner = x } in let more : n + 1 < 2 ^ 64 = let lim = low l₀ in omega (arith, below, lim.1) in
     skips ! $ exec ! C Λ Ev (after 5 fn.body) (at_ret Ev Post) $ first ! $ blocks ! $ sets ! (bin ! (get ! refl) (lit ! tt) (record { fits = more })) refl (tt, record { fits = more }) $
     assigns_last ! (of_opd ! (get ! refl)) (through ! refl (fld ! refl (stop !))) (store ! 0 refl (tt, record { fits = more })) $ exec ! C Λ Ev (after 6 fn.body) (at_ret Ev Post) $
-    use3 𝓛 (later (‵ P ⊛ ‵ (fsep Sn (fsep Tk (fex Bool (join_gives holder_coded.code (limit l₀) Cn pb (po + 0) i.0 i.1 i.3 n n)))))) (joins_plainly 𝓛 (limit l₀) Cn pb (po + 0) i.0 i.1 (low l₀) i.2 i.3 r s n below t refl) $ await ! tt $ split ! $
+    use3 𝓛 (later (‵ P ⊛ ‵ (fsep Sn (fsep Tk (fex Bool (join_gives role_coded.code (Only i.3) (limit l₀) Cn pb (po + 0) i.0 i.1 n n)))))) (joins_plainly 𝓛 (Only i.3) (limit l₀) Cn pb (po + 0) i.0 i.1 (low l₀) i.2 i.3 refl r s n below t refl) $ await ! tt $ split ! $
     move ! (0 ∷ 2 ∷ []) $ use2 𝓛 (later (‵ (ftok every))) (apply∗ 𝓤 (sem 𝓛 P) (H.⇛ (A.tok every))) $ await ! tt $ move ! (1 ∷ []) $ fsplit3 ! $
     -- [the share of the mark; that of the token; what the add gives; the thread's token; rule; the open mark; the open token; the pointer; shown; the handle; nothing]
     move ! (5 ∷ 0 ∷ []) $ obor_close ! tt $ drop ! $ move ! (5 ∷ 1 ∷ []) $ obor_close ! tt $ drop ! $ use2 𝓛 (‵ (flft κ q)) (𝓛.lfts.lft_join κ q) $ move ! (0 ∷ 7 ∷ []) $ join ! $
     -- [the tokens; what the add gives; the thread's token; rule; the pointer; shown; the handle]
-    move ! (1 ∷ []) $ use1 𝓛 (‵ (fsep (fex ℕ (λ j. mark holder_coded.code i.1 j (Reads i.3))) (part 63 i.0))) (joined 𝓛 (limit l₀) Cn pb (po + 0) i.0 i.1 i.3 n n refl) $ fsplit ! $ fpick ! (λ j.
-    move ! (0 ∷ 6 ∷ []) $ fjoin ! $ move ! (1 ∷ 4 ∷ 0 ∷ []) $ fjoin3 ! $ fpack ! Id (reader false l₀ a x pb po) (i.0, i.1, j, i.3) $ fpack ! Bool (sole_or_counted (fex Id (writer l₀ a x pb po)) (fex Id (reader false l₀ a x pb po))) false $
+    move ! (1 ∷ []) $ use1 𝓛 (‵ (fsep (fex ℕ (λ j. mark role_coded.code i.1 j Reader)) (part 63 i.0))) (joined 𝓛 (Only i.3) (limit l₀) Cn pb (po + 0) i.0 i.1 n n refl) $ fsplit ! $ fpick ! (λ j.
+    move ! (0 ∷ 6 ∷ []) $ fjoin ! $ move ! (1 ∷ 4 ∷ 0 ∷ []) $ fjoin3 ! $ fpack ! Id (reader false l₀ a x pb po) (i.0, i.1, j, i.3) $ fpack ! Bool (sole_or_counted (fex Id (writer false l₀ a x pb po)) (fex Id (reader false l₀ a x pb po))) false $
     move ! (0 ∷ 4 ∷ []) $ local_in ! l₀ pb po h a x $
     sets ! (agg ! (and_then ! (get ! refl) (and_then ! (get ! refl) (no_more !)))) refl good_hv $ sets ! (agg ! (and_then ! (lit ! tt) (and_then ! (get ! refl) (no_more !)))) refl good $
     use1 𝓛 (‵ (Out.own_val (Some made) (v₁ ∷ []))) (Some-of 𝓛 Self made hv) $

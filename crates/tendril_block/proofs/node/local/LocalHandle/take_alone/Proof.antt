@@ -35,9 +35,8 @@ use Rattle.tendril_block.proofs.Handles.{Z, granted, refused, gives_up}
 use Rattle.tendril_block.proofs.LocalHandles.{local_out, local_in}
 use Rattle.tendril_block.proofs.NodeWalks.{with_token, proved_with_token, opens_rule}
 use Rattle.tendril_count.proofs.Steps.{part_alive, found_live, looks_plainly}
-use Rattle.tendril_count.specs.Machine.{Reads}
 use Rattle.tendril_count.specs.Machine.{Block as Counted}
-use Rattle.tendril_count.specs.Rule.{holder_coded, mark, beside}
+use Rattle.tendril_count.specs.Rule.{Only, role_coded, Reader, mark, beside}
 use types.RcWeak.{part}
 use types.Logic.{sem}
 use base.Mask.{every}
@@ -73,23 +72,23 @@ take_alone_spec 𝓤 𝓛 𝓜 𝓡 wired =
     suffices ! (Run (w ∷ [])) (subst (λ (us : List Val). ent 𝓤 (Run (w ∷ [])) (Run us)) (sym (λ j. ws j ++ [])) (id⊢ 𝓤 (Run (w ∷ [])))) $
     enter ! C Λ fn (w ∷ []) Post $ alloc_all ! (λ l. pass_all ! refl (good_w, tt) $ let Ev = env fn.locals l in
     sets ! (of_opd ! (get_in ! (fld ! refl (stop !)) (sub ! 0 refl (whole !)))) refl (tt, tt) $ sets ! (of_opd ! (get_in ! (fld ! refl (stop !)) (sub ! 1 refl (whole !)))) refl fits $
-    use1 𝓛 (later (‵ (fex Id (reader false l₀ a x b o)))) (counted 𝓛 false l₀ a x b o) $ await ! tt $ fpick ! (λ i. let P : Fml = rule l₀ a x b o i in let K : Fml = kept false b (o + 0) P in let g : Step = (l₀, a, x, o, i) in
-    let Mk : Fml = mark holder_coded.code i.1 i.2 (Reads i.3) in let Cn : Fml = content a x b o in
+    use1 𝓛 (later (‵ (fex Id (reader false l₀ a x b o)))) (counted 𝓛 false l₀ a x b o) $ await ! tt $ fpick ! (λ i. let P : Fml = rule false l₀ a x b o i in let K : Fml = kept false b (o + 0) P in let g : Step = (l₀, a, x, o, i) in
+    let Mk : Fml = mark role_coded.code i.1 i.2 Reader in let Cn : Fml = content a x b o in
     fsplit ! $ move ! (1 ∷ []) $ fsplit ! $ use1 𝓛 (‵ K ⊛ ‵ K) (kept_twice 𝓛 false b (o + 0) P) $ split ! $ move ! (2 ∷ []) $ fsplit ! $
     -- [mark; shown; rule; rule; part; the handle; the end of the parameters; nothing; the thread's token and nothing]
     move ! (8 ∷ []) $ split ! $ move ! (4 ∷ 0 ∷ []) $ use2 𝓛 (later (‵ P ⊛ raw (wand 𝓤 (sem 𝓛 P) (H.⇛ (A.tok every))))) (opens_rule 𝓛 (b, o + 0) P) $ await ! tt $ split ! $
     -- [what the rule says; its way back; nothing; mark; shown; rule; part; the handle; the end of the parameters; nothing]
-    move ! (0 ∷ 3 ∷ 6 ∷ []) $ use3 𝓛 (some (λ (s : Counted). given (s.word < 2 ^ 64) (‵ (word b (o + 0) s.word) ⊛ ‵ (beside holder_coded.code (limit l₀) Cn b (o + 0) i.0 i.1 s) ⊛ ‵ Mk ⊛ ‵ (part 63 i.0))))
-    (found_live 𝓛 (limit l₀) Cn b (o + 0) i.0 i.1 (low l₀) (sep 𝓤 (sem 𝓛 Mk) (sem 𝓛 (part 63 i.0))) (part_alive 𝓛 (limit l₀) Cn b (o + 0) i.0 i.1 (low l₀) (sem 𝓛 Mk))) $ pick ! (λ s. learn ! (λ small. split3 ! $ let n = s.word in
+    move ! (0 ∷ 3 ∷ 6 ∷ []) $ use3 𝓛 (some (λ (s : Counted). given (s.word < 2 ^ 64) (‵ (word b (o + 0) s.word) ⊛ ‵ (beside role_coded.code (Only i.3) (limit l₀) Cn b (o + 0) i.0 i.1 s) ⊛ ‵ Mk ⊛ ‵ (part 63 i.0))))
+    (found_live 𝓛 (Only i.3) (limit l₀) Cn b (o + 0) i.0 i.1 (low l₀) (sep 𝓤 (sem 𝓛 Mk) (sem 𝓛 (part 63 i.0))) (part_alive 𝓛 (Only i.3) (limit l₀) Cn b (o + 0) i.0 i.1 (low l₀) (sem 𝓛 Mk))) $ pick ! (λ s. learn ! (λ small. split3 ! $ let n = s.word in
     first ! $ blocks ! $ sets_last ! (of_opd ! (load ! (through ! refl (fld ! refl (stop !))) (look ! 0 refl))) refl (tt, record { fits = small }) $
     exec ! C Λ Ev (after 3 fn.body) (at_ret Ev Post) $ sets ! (of_opd ! (get ! refl)) refl (tt, record { fits = small }) $
-    use3 𝓛 (later (‵ P ⊛ ‵ (sees g b (o + 0) n))) (looks_plainly 𝓛 (limit l₀) Cn b (o + 0) i.0 i.1 (low l₀) i.2 i.3 s) $ await ! tt $ split ! $ move ! (0 ∷ 2 ∷ []) $
+    use3 𝓛 (later (‵ P ⊛ ‵ (sees false g b (o + 0) n))) (looks_plainly 𝓛 (Only i.3) (limit l₀) Cn b (o + 0) i.0 i.1 (low l₀) i.2 i.3 refl s) $ await ! tt $ split ! $ move ! (0 ∷ 2 ∷ []) $
     use2 𝓛 (later (‵ (ftok every))) (apply∗ 𝓤 (sem 𝓛 P) (H.⇛ (A.tok every))) $ await ! tt $ move ! (1 ∷ []) $
     -- [what the look gives; the thread's token; nothing; shown; rule; the handle; the end of the parameters; nothing]
     sets ! (bin ! (get ! refl) (lit ! tt) tt) refl (tt, tt) $ first ! $ branches ! (get ! refl)
     (λ more. let v₁ : Val = live 1 (vcons w vnil) in let good : Good (layout Out) v₁ = (and_tt _ good_w.0, (record { fits = lit< tt }, (good_w.1, tt))) in
-    use1 𝓛 (‵ Mk ⊛ ‵ (part 63 i.0)) (refused 𝓛 g b (o + 0) n (is_not n 1 more)) $ split ! $
-    move ! (0 ∷ 4 ∷ []) $ fjoin ! $ move ! (1 ∷ 4 ∷ 0 ∷ []) $ fjoin3 ! $ fpack ! Id (reader false l₀ a x b o) i $ fpack ! Bool (sole_or_counted (fex Id (writer l₀ a x b o)) (fex Id (reader false l₀ a x b o))) false $
+    use1 𝓛 (‵ Mk ⊛ ‵ (part 63 i.0)) (refused 𝓛 false g b (o + 0) n (is_not n 1 more)) $ split ! $
+    move ! (0 ∷ 4 ∷ []) $ fjoin ! $ move ! (1 ∷ 4 ∷ 0 ∷ []) $ fjoin3 ! $ fpack ! Id (reader false l₀ a x b o) i $ fpack ! Bool (sole_or_counted (fex Id (writer false l₀ a x b o)) (fex Id (reader false l₀ a x b o))) false $
     move ! (0 ∷ 3 ∷ []) $ local_in ! l₀ b o h a x $ rewrite ! 0 (λ (r : Ptr). ‵ (Self.own_val (record { node = r; alloc = a; limit = l₀; inner = x }) (w ∷ []))) (sym e) refl $
     sets ! (agg ! (and_then ! (get ! refl) (and_then ! (get ! refl) (no_more !)))) refl good_w $ sets ! (agg ! (and_then ! (lit ! tt) (and_then ! (get ! refl) (no_more !)))) refl good $
     use1 𝓛 (‵ (Out.own_val (Err v) (v₁ ∷ []))) (Err-of 𝓛 L Self v w) $
@@ -97,10 +96,10 @@ take_alone_spec 𝓤 𝓛 𝓜 𝓡 wired =
     returns_within ! Post refl (look_at ! 0 refl) $ free_all ! refl $ keep ! (5 ∷ 0 ∷ 2 ∷ 1 ∷ []) $ by ! (leaves 𝓛 ended stayed c z v₁ (Err v) _ (tt, tt)))
     (λ last. let d : Node = record { count = 0; body = x } in let lr : L.Denot = record { node = block_ptr b o; alloc = a; limit = l₀; inner = x } in let v₀ : Val = live 0 (vcons w vnil) in
     let good : Good (layout Out) v₀ = (and_tt _ good_w.0, (record { fits = lit< tt }, (good_w.1, tt))) in skips ! $ exec ! C Λ Ev (after 6 fn.body) (at_ret Ev Post) $
-    use1 𝓛 (later (‵ (part_at BodyRow full_share x b (o + body_at)) ⊛ ‵ (all_but_body l₀ a x b o i))) (granted 𝓛 g b n (is_so n 1 last)) $ await ! tt $ split ! $ move ! (1 ∷ []) $ fsplit3 ! $ move ! (2 ∷ []) $ fsplit3 ! $
+    use1 𝓛 (later (‵ (part_at BodyRow full_share x b (o + body_at)) ⊛ ‵ (all_but_body false l₀ a x b o i))) (granted 𝓛 false g b n (is_so n 1 last)) $ await ! tt $ split ! $ move ! (1 ∷ []) $ fsplit3 ! $ move ! (2 ∷ []) $ fsplit3 ! $
     -- [the machine; the right to free; apart; mark; word; list; the thread's token; nothing; shown; rule; the handle; the end of the parameters; nothing]
     move ! (4 ∷ []) $ first ! $ blocks ! $ assigns_last ! (of_opd ! (lit ! tt)) (through ! refl (fld ! refl (stop !))) (store ! 0 refl (tt, record { fits = lit< tt })) $ exec ! C Λ Ev (after 7 fn.body) (at_ret Ev Post) $
-    move ! (4 ∷ 1 ∷ []) $ use2 𝓛 (later (‵ (owed l₀ i))) (gives_up 𝓛 l₀ b (o + 0) Cn i) $ await ! tt $ fpack ! Id (owed l₀) i $
+    move ! (4 ∷ 1 ∷ []) $ use2 𝓛 (later (‵ (owed l₀ i))) (gives_up 𝓛 false l₀ b (o + 0) Cn i) $ await ! tt $ fpack ! Id (owed l₀) i $
     -- [the duty; word; the right to free; apart; list; the thread's token; nothing; shown; rule; the handle; the end of the parameters; nothing]
     move ! (1 ∷ 4 ∷ 3 ∷ []) $ use3 𝓛 (‵ (part_at node.the_row full_share d b o)) (rejoin 𝓛 d b o) $ move ! (0 ∷ 2 ∷ []) $ fjoin ! $ fjoin ! $ move ! (0 ∷ 5 ∷ []) $ last_in ! l₀ b o h a x $
     sets ! (agg ! (and_then ! (get ! refl) (and_then ! (get ! refl) (no_more !)))) refl good_w $ sets ! (agg ! (and_then ! (lit ! tt) (and_then ! (get ! refl) (no_more !)))) refl good $

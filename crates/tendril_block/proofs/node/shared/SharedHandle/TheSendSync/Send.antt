@@ -16,7 +16,7 @@ use types.Keyed.{entry_keyless}
 use Rattle.atomic_table.specs.Seated.{halved}
 use Rattle.std.proofs.Crossing.{frees}
 use Rattle.atomic_table.proofs.Sent.{roster_keyless}
-use Rattle.tendril_count.specs.Rule.{holder_coded, state}
+use Rattle.tendril_count.specs.Rule.{role_coded, roles, Any, state}
 use Rattle.tendril_block.specs.Held.{limit, BodyRow, BodyIn, body_at, content, Id, reader, writer, block_owns}
 use Rattle.tendril_block.proofs.body.Body.TheSendSync as body_crosses
 use Rattle.tendril_block.specs.contracts.node.shared.SharedHandle as C
@@ -43,12 +43,12 @@ module _ (l : ℕ) (h : Global) (x : BodyIn) (b o : ℕ) where
   content_keyless : Keyless (content h x b o)
   content_keyless = (part_keyless BodyRow vec_send full_share x b (o + body_at), (frees.frees h _ _, tt))
 
-  state_keyless : (i : Id) (y : Bool) → Keyless (state holder_coded.code (limit l) (content h x b o) b (o + 0) i.0 i.1 y)
-  state_keyless i true = λ s. (tt, (roster_keyless holder_coded.code i.1 0 s.holders, ((λ _. tt), ((λ _ _. tt), content_keyless))))
+  state_keyless : (i : Id) (y : Bool) → Keyless (state role_coded.code Any (limit l) (content h x b o) b (o + 0) i.0 i.1 y)
+  state_keyless i true = λ s. (tt, (roster_keyless role_coded.code i.1 0 (roles s.holders), ((λ _. tt), ((λ _ _. tt), content_keyless))))
   state_keyless i false = tt
 
-  held_keyless : (y : Bool) → Keyless (sole_or_counted (fex Id (writer l h x b o)) (fex Id (reader true l h x b o)) y)
-  held_keyless true = λ i. (entry_keyless halved i.1 i.2 _, (tt, ((λ s. (roster_keyless holder_coded.code i.1 0 s.holders, (λ _. tt))), content_keyless)))
+  held_keyless : (y : Bool) → Keyless (sole_or_counted (fex Id (writer true l h x b o)) (fex Id (reader true l h x b o)) y)
+  held_keyless true = λ i. (entry_keyless halved i.1 i.2 _, (tt, ((λ s. (roster_keyless role_coded.code i.1 0 (roles s.holders), (λ _. tt))), content_keyless)))
   held_keyless false = λ i. ((λ _ _. tt), (state_keyless i, (entry_keyless halved i.1 i.2 _, seen BodyRow vec_sync (block_ptr b (o + body_at)) x (i.0 ∷ []))))
 
 owned : (l : ℕ) (p : Ptr) (h : Global) (x : BodyIn) → Keyless (block_owns true l p h x)

@@ -35,8 +35,7 @@ use Rattle.core.proofs.option.Made.{Some-of, none_of}
 use Rattle.std.proofs.raw_atomic.Walks.{proved, leaves}
 use Rattle.std_alloc.proofs.RcSteps.{is_not, is_so}
 use Rattle.std_alloc.specs.Owners.{sole_or_counted}
-use Rattle.tendril_count.specs.Machine.{Reads}
-use Rattle.tendril_count.specs.Rule.{holder_coded, mark}
+use Rattle.tendril_count.specs.Rule.{role_coded, Reader, mark}
 use Rattle.tendril_block.proofs.Values.{both}
 use Rattle.tendril_block.proofs.Carved.{counted}
 use Rattle.tendril_block.proofs.Handles.{Z, block_out, block_in, granted, refused, back}
@@ -74,7 +73,7 @@ alone_mut_spec 𝓤 𝓛 𝓜 𝓡 wired =
     move ! (1 ∷ []) $ block_out ! me vs (λ pb po u ep ws fits. let v : Val = both (vptr pb po) u in let p : Ptr = block_ptr pb (po + 0) in let there = po + body_at in
     rewrite ! 2 (λ (us : List Val). ‵ (cell_at full_share Self.mir us b o)) ws refl $
     use1 𝓛 (later (‵ (fex Id (reader true me.limit h x pb po)))) (counted 𝓛 true me.limit h x pb po) $ await ! tt $ fpick ! (λ i. fsplit ! $ move ! (1 ∷ []) $ fsplit ! $
-    use1 𝓛 (‵ (finv (rule me.limit h x pb po i)) ⊛ ‵ (finv (rule me.limit h x pb po i))) (𝓛.invs.inv_dup (rule me.limit h x pb po i)) $ split ! $ move ! (2 ∷ []) $ fsplit ! $
+    use1 𝓛 (‵ (finv (rule true me.limit h x pb po i)) ⊛ ‵ (finv (rule true me.limit h x pb po i))) (𝓛.invs.inv_dup (rule true me.limit h x pb po i)) $ split ! $ move ! (2 ∷ []) $ fsplit ! $
     -- [mark; shown; invariant; invariant; part; the handle; the cell; the open borrow; obs; auth]
     move ! (0 ∷ 4 ∷ []) $ fjoin ! $ move ! (2 ∷ 0 ∷ []) $ fjoin ! $
     let s : Step = (me.limit, h, x, po, i) in let y : k.Ghost = ((tt, tt, tt, (p, tt), (ptr_val p ∷ [], tt)), s) in
@@ -88,8 +87,8 @@ alone_mut_spec 𝓤 𝓛 𝓜 𝓡 wired =
     -- [what the load gives; shown; invariant; the handle; the cell; the open borrow; obs; auth]
     sets ! (is ! (of_opd ! (get ! refl)) (ap only er)) refl (tt, record { fits = small }) $ sets ! (bin ! (get ! refl) (lit ! tt) tt) refl (tt, tt) $ first ! $ branches ! (get ! refl)
     (λ more. sets ! (agg ! (and_then ! (lit ! tt) (no_more !))) refl (tt, (record { fits = lit< tt }, tt)) $
-    use1 𝓛 (‵ (mark holder_coded.code i.1 i.2 (Reads i.3)) ⊛ ‵ (part 63 i.0)) (refused 𝓛 s pb (po + 0) n (is_not n 1 more)) $ split ! $
-    move ! (0 ∷ 2 ∷ []) $ fjoin ! $ move ! (1 ∷ 2 ∷ 0 ∷ []) $ fjoin3 ! $ fpack ! Id (reader true me.limit h x pb po) i $ fpack ! Bool (sole_or_counted (fex Id (writer me.limit h x pb po)) (fex Id (reader true me.limit h x pb po))) false $
+    use1 𝓛 (‵ (mark role_coded.code i.1 i.2 Reader) ⊛ ‵ (part 63 i.0)) (refused 𝓛 true s pb (po + 0) n (is_not n 1 more)) $ split ! $
+    move ! (0 ∷ 2 ∷ []) $ fjoin ! $ move ! (1 ∷ 2 ∷ 0 ∷ []) $ fjoin3 ! $ fpack ! Id (reader true me.limit h x pb po) i $ fpack ! Bool (sole_or_counted (fex Id (writer true me.limit h x pb po)) (fex Id (reader true me.limit h x pb po))) false $
     block_in ! me.limit pb po u h x $ rewrite ! 0 (λ (r' : Ptr). ‵ (Self.own_val (record { node = r'; alloc = h; limit = me.limit; inner = x }) (v ∷ []))) (sym ep) refl $
     move ! (1 ∷ 0 ∷ 2 ∷ 3 ∷ 4 ∷ []) $ closes ! tt Self me (v ∷ []) b o $ use1 𝓛 (‵ (fres γ (Self.coded.code me))) (𝓛.names.obs-res γ (Self.coded.code me)) $
     use0 𝓛 (raw (fact 𝓤 (Unit {0}))) (fact_i 𝓤 (Unit {0}) (emp 𝓤) tt) $ move ! (1 ∷ 0 ∷ []) $ join ! $
@@ -99,10 +98,10 @@ alone_mut_spec 𝓤 𝓛 𝓜 𝓡 wired =
     first ! $ blocks ! $ sets ! (is ! (addr ! (through ! refl (fld ! refl (stop !)))) (ap (λ (j : ℕ). vptr pb (po + j)) eight)) refl (tt, tt) $
     sets_last ! (agg ! (and_then ! (lit ! tt) (and_then ! (get ! refl) (no_more !)))) refl (tt, (record { fits = lit< tt }, (tt, tt))) $
     exec ! 𝓣.C 𝓣.Λ Ev (after 6 fn.body) (at_ret Ev Post) $ sets ! (of_opd ! (get ! refl)) refl (tt, (record { fits = lit< tt }, (tt, tt))) $
-    use1 𝓛 (later (‵ (part_at BodyRow full_share x pb there) ⊛ ‵ (all_but_body me.limit h x pb po i))) (granted 𝓛 s pb n (is_so n 1 last)) $ await ! tt $ split ! $
+    use1 𝓛 (later (‵ (part_at BodyRow full_share x pb there) ⊛ ‵ (all_but_body true me.limit h x pb po i))) (granted 𝓛 true s pb n (is_so n 1 last)) $ await ! tt $ split ! $
     -- [the list; the rest of the node; shown; invariant; the handle; the cell; the open borrow; obs; auth]
     move ! (1 ∷ 4 ∷ 5 ∷ []) $ fjoin3 ! $ move ! (4 ∷ 5 ∷ 6 ∷ 1 ∷ 0 ∷ []) $ group ! 5 $
-    let Back : Fml = fsep (all_but_body me.limit h x pb po i) (fsep (Z.own_val h (u ∷ [])) (cell_at full_share Self.mir (v ∷ []) b o)) in
+    let Back : Fml = fsep (all_but_body true me.limit h x pb po i) (fsep (Z.own_val h (u ∷ [])) (cell_at full_share Self.mir (v ∷ []) b o)) in
     use1 𝓛 (later (some (λ (γ' : GName). ‵ (Lent.own_val (record { ref_ptr = (pb, there); ghost_name = γ'; now = x }) (at ∷ [])) ⊛ ‵ (flft κ q) ⊛ ‵ (follows Self BodyRow γ γ' (with_body me)))))
     (lends_Part 𝓛 Self BodyRow (with_body me) (named 0) κ q b o pb there γ (sem 𝓛 Back) (back 𝓛 me b o pb po u i ep) (Self.coded.code me) (Self.coded.code me) x) $ await ! tt $ pick ! (λ γ'.
     let lent : MutBor BodyIn = record { ref_ptr = (pb, there); ghost_name = γ'; now = x } in

@@ -47,8 +47,7 @@ use Rattle.std.specs.contracts.impls.GlobalAllocator.TheImpl.{ghosts}
 use Rattle.std.proofs.raw_atomic.Walks.{proved_at, leaves}
 use Rattle.std_alloc.proofs.ResultValues.{and_tt}
 use Rattle.std_alloc.specs.Owners.{sole_or_counted}
-use Rattle.tendril_count.specs.Machine.{Reads}
-use Rattle.tendril_count.specs.Rule.{holder_coded, mark}
+use Rattle.tendril_count.specs.Rule.{role_coded, Reader, Any, mark}
 use Rattle.tendril_count.proofs.Parts.{mark_halves}
 use Rattle.tendril_block.proofs.Values.{both, loose_good}
 use Rattle.tendril_block.proofs.Handles.{Z, al, block_in, joined}
@@ -97,9 +96,9 @@ join_at_spec 𝓤 𝓛 𝓜 𝓡 wired =
     -- [the token; the pointer; invariant; shown; tokens; marks; the handle; nothing]
     use1 𝓛 (‵ (flft κ (Share.left q)) ⊛ ‵ (flft κ (Share.right q))) (𝓛.lfts.lft_split κ q) $ split ! $ move ! (5 ∷ 0 ∷ []) $ shr_bor-open ! tt (tokens_halve 𝓛 (i.0 ∷ [])) (λ s.
     -- [the open token; its share; the other half; the pointer; invariant; shown; marks; the handle; nothing]
-    move ! (6 ∷ 2 ∷ []) $ shr_bor-open ! tt (mark_halves 𝓛 i.1 i.2 (Reads i.3)) (λ r.
+    move ! (6 ∷ 2 ∷ []) $ shr_bor-open ! tt (mark_halves 𝓛 i.1 i.2 Reader) (λ r.
     -- [the open mark; its share; the open token; its share; the pointer; invariant; shown; the handle; nothing]
-    move ! (5 ∷ []) $ use1 𝓛 (‵ (finv (rule l₀ d.alloc x pb po i)) ⊛ ‵ (finv (rule l₀ d.alloc x pb po i))) (𝓛.invs.inv_dup (rule l₀ d.alloc x pb po i)) $ split ! $ move ! (3 ∷ 5 ∷ []) $ fjoin ! $ move ! (1 ∷ 0 ∷ []) $ fjoin ! $
+    move ! (5 ∷ []) $ use1 𝓛 (‵ (finv (rule true l₀ d.alloc x pb po i)) ⊛ ‵ (finv (rule true l₀ d.alloc x pb po i))) (𝓛.invs.inv_dup (rule true l₀ d.alloc x pb po i)) $ split ! $ move ! (3 ∷ 5 ∷ []) $ fjoin ! $ move ! (1 ∷ 0 ∷ []) $ fjoin ! $
     -- [what the step asks; invariant; the open mark; the open token; the pointer; shown; the handle; nothing]
     let w : Ptr = block_ptr pb (po + 0) in let g : Joining = ((l₀, d.alloc, x, po, i), s, r) in let y : k.Ghost = ((tt, tt, tt, (w, (old, (new, tt))), (ptr_val w ∷ [], (vint w64 old ∷ [], (vint w64 new ∷ [], tt)))), g) in
     use0 𝓛 (raw (fact 𝓤 (new ≡ old + 1))) (fact_i 𝓤 (new ≡ old + 1) (emp 𝓤) next) $ join ! $ use0 𝓛 (raw (fact 𝓤 (old < limit l₀))) (fact_i 𝓤 (old < limit l₀) (emp 𝓤) below) $ join ! $
@@ -117,9 +116,9 @@ join_at_spec 𝓤 𝓛 𝓜 𝓡 wired =
     sets ! (is ! (of_opd ! (get ! refl)) (ap only eu)) refl (tt, record { fits = small }) $ sets ! (bin ! (get ! refl) (get ! refl) tt) refl (tt, tt) $ first ! $ branches ! (get ! refl)
     (λ same. let hv : Val = both (vptr pb po) h in let good_hv = loose_good node.the_row Z heap_laws.the_row_laws ghosts pb po h fits in let v₀ : Val = live 0 (vcons hv vnil) in
     let good : Good (layout Out) v₀ = (and_tt _ good_hv.0, (record { fits = lit< tt }, (good_hv.1, tt))) in let made : Self.Denot = record { node = block_ptr pb po; alloc = a; limit = l₀; inner = x } in
-    move ! (1 ∷ []) $ use1 𝓛 (‵ (fsep (fex ℕ (λ j. mark holder_coded.code i.1 j (Reads i.3))) (part 63 i.0))) (joined 𝓛 (limit l₀) (content d.alloc x pb po) pb (po + 0) i.0 i.1 i.3 old n (eqb→eq n old same)) $ fsplit ! $ fpick ! (λ j.
+    move ! (1 ∷ []) $ use1 𝓛 (‵ (fsep (fex ℕ (λ j. mark role_coded.code i.1 j Reader)) (part 63 i.0))) (joined 𝓛 Any (limit l₀) (content d.alloc x pb po) pb (po + 0) i.0 i.1 old n (eqb→eq n old same)) $ fsplit ! $ fpick ! (λ j.
     -- [mark; part; the tokens; invariant; the pointer; shown; the handle]
-    move ! (0 ∷ 5 ∷ []) $ fjoin ! $ move ! (1 ∷ 3 ∷ 0 ∷ []) $ fjoin3 ! $ fpack ! Id (reader true l₀ a x pb po) (i.0, i.1, j, i.3) $ fpack ! Bool (sole_or_counted (fex Id (writer l₀ a x pb po)) (fex Id (reader true l₀ a x pb po))) false $
+    move ! (0 ∷ 5 ∷ []) $ fjoin ! $ move ! (1 ∷ 3 ∷ 0 ∷ []) $ fjoin3 ! $ fpack ! Id (reader true l₀ a x pb po) (i.0, i.1, j, i.3) $ fpack ! Bool (sole_or_counted (fex Id (writer true l₀ a x pb po)) (fex Id (reader true l₀ a x pb po))) false $
     move ! (0 ∷ 3 ∷ []) $ block_in ! l₀ pb po h a x $
     sets ! (agg ! (and_then ! (get ! refl) (and_then ! (get ! refl) (no_more !)))) refl good_hv $ sets_last ! (agg ! (and_then ! (lit ! tt) (and_then ! (get ! refl) (no_more !)))) refl good $
     exec ! 𝓣.C 𝓣.Λ Ev (after 5 fn.body) (at_ret Ev Post) $ sets ! (of_opd ! (get ! refl)) refl good $

@@ -60,7 +60,7 @@ of_spec 𝓤 𝓛 𝓜 𝓡 wired =
     rewrite ! 0 (λ (n : ℕ). ‵ (word b (o + 0) n)) one refl $ move ! (1 ∷ 3 ∷ 2 ∷ []) $ fjoin3 ! $ move ! (1 ∷ 0 ∷ []) $
     suffices ! (Run (w ∷ u ∷ [])) (subst (λ (us : List Val). ent 𝓤 (Run (w ∷ u ∷ [])) (Run us)) (sym (λ i. ws i ++ (are.1.0.0 i ++ []))) (id⊢ 𝓤 (Run (w ∷ u ∷ [])))) $
     enter ! 𝓣.C 𝓣.Λ code.function (w ∷ u ∷ []) Post $ alloc_all ! (λ l. pass_all ! refl (typed, ((tt, record { fits = are.1.0.1 }), tt)) $
-    use2 𝓛 (later (‵ (fex Id (reader true n a x b o)))) (begin 𝓛 true n a x b o) $ await ! tt $ fpack ! Bool (sole_or_counted (fex Id (writer n a x b o)) (fex Id (reader true n a x b o))) false $
+    use2 𝓛 (later (‵ (fex Id (reader true n a x b o)))) (begin 𝓛 true n a x b o) $ await ! tt $ fpack ! Bool (sole_or_counted (fex Id (writer true n a x b o)) (fex Id (reader true n a x b o))) false $
     -- [the holder; the handle; the end of the parameters; the tokens]
     sets ! (of_opd ! (get_in ! (fld ! refl (stop !)) (sub ! 0 refl (whole !)))) refl (tt, tt) $ sets ! (of_opd ! (get_in ! (fld ! refl (stop !)) (sub ! 1 refl (whole !)))) refl fits $
     sets ! (agg ! (and_then ! (get ! refl) (and_then ! (get ! refl) (no_more !)))) refl typed $

@@ -36,8 +36,7 @@ use Rattle.std_alloc.proofs.ResultValues.{and_tt}
 use types.RcWeak.{part}
 use Rattle.std_alloc.proofs.RcSteps.{is_not, is_so}
 use Rattle.std_alloc.specs.Owners.{sole_or_counted}
-use Rattle.tendril_count.specs.Machine.{Reads}
-use Rattle.tendril_count.specs.Rule.{holder_coded, mark}
+use Rattle.tendril_count.specs.Rule.{role_coded, Reader, mark}
 use Rattle.tendril_block.proofs.Values.{both, loose_good}
 use Rattle.tendril_block.proofs.Lasts.{L, last_in}
 use Rattle.tendril_block.proofs.Carved.{rejoin, counted}
@@ -71,7 +70,7 @@ take_alone_spec 𝓤 𝓛 𝓜 𝓡 wired =
     suffices ! (Run (w ∷ [])) (subst (λ (us : List Val). ent 𝓤 (Run (w ∷ [])) (Run us)) (sym (λ j. ws j ++ [])) (id⊢ 𝓤 (Run (w ∷ [])))) $
     enter ! 𝓣.C 𝓣.Λ fn (w ∷ []) Post $ alloc_all ! (λ l. pass_all ! refl (good_w, tt) $ let Ev = env fn.locals l in
     use1 𝓛 (later (‵ (fex Id (reader true v.limit a x b o)))) (counted 𝓛 true v.limit a x b o) $ await ! tt $ fpick ! (λ i. fsplit ! $ move ! (1 ∷ []) $ fsplit ! $
-    use1 𝓛 (‵ (finv (rule v.limit a x b o i)) ⊛ ‵ (finv (rule v.limit a x b o i))) (𝓛.invs.inv_dup (rule v.limit a x b o i)) $ split ! $ move ! (2 ∷ []) $ fsplit ! $
+    use1 𝓛 (‵ (finv (rule true v.limit a x b o i)) ⊛ ‵ (finv (rule true v.limit a x b o i))) (𝓛.invs.inv_dup (rule true v.limit a x b o i)) $ split ! $ move ! (2 ∷ []) $ fsplit ! $
     -- [mark; shown; invariant; invariant; part; the handle; the end of the parameters; the tokens]
     move ! (0 ∷ 4 ∷ []) $ fjoin ! $ move ! (2 ∷ 0 ∷ []) $ fjoin ! $
     sets ! (of_opd ! (get_in ! (fld ! refl (stop !)) (sub ! 0 refl (whole !)))) refl (tt, tt) $ sets ! (of_opd ! (get_in ! (fld ! refl (stop !)) (sub ! 1 refl (whole !)))) refl fits $
@@ -85,8 +84,8 @@ take_alone_spec 𝓤 𝓛 𝓜 𝓡 wired =
     -- [what the load gives; shown; invariant; the handle; the end of the parameters; the tokens]
     sets ! (is ! (of_opd ! (get ! refl)) (ap only eu)) refl (tt, record { fits = small }) $ sets ! (bin ! (get ! refl) (lit ! tt) tt) refl (tt, tt) $ first ! $ branches ! (get ! refl)
     (λ more. let v₁ : Val = live 1 (vcons w vnil) in let good : Good (layout Out) v₁ = (and_tt _ good_w.0, (record { fits = lit< tt }, (good_w.1, tt))) in
-    use1 𝓛 (‵ (mark holder_coded.code i.1 i.2 (Reads i.3)) ⊛ ‵ (part 63 i.0)) (refused 𝓛 g b (o + 0) n (is_not n 1 more)) $ split ! $
-    move ! (0 ∷ 2 ∷ []) $ fjoin ! $ move ! (1 ∷ 2 ∷ 0 ∷ []) $ fjoin3 ! $ fpack ! Id (reader true v.limit a x b o) i $ fpack ! Bool (sole_or_counted (fex Id (writer v.limit a x b o)) (fex Id (reader true v.limit a x b o))) false $
+    use1 𝓛 (‵ (mark role_coded.code i.1 i.2 Reader) ⊛ ‵ (part 63 i.0)) (refused 𝓛 true g b (o + 0) n (is_not n 1 more)) $ split ! $
+    move ! (0 ∷ 2 ∷ []) $ fjoin ! $ move ! (1 ∷ 2 ∷ 0 ∷ []) $ fjoin3 ! $ fpack ! Id (reader true v.limit a x b o) i $ fpack ! Bool (sole_or_counted (fex Id (writer true v.limit a x b o)) (fex Id (reader true v.limit a x b o))) false $
     block_in ! v.limit b o h a x $ rewrite ! 0 (λ (r : Ptr). ‵ (Self.own_val (record { node = r; alloc = a; limit = v.limit; inner = x }) (w ∷ []))) (sym e) refl $
     sets ! (agg ! (and_then ! (get ! refl) (and_then ! (get ! refl) (no_more !)))) refl good_w $ sets ! (agg ! (and_then ! (lit ! tt) (and_then ! (get ! refl) (no_more !)))) refl good $
     use1 𝓛 (‵ (Out.own_val (Err v) (v₁ ∷ []))) (Err-of 𝓛 L Self v w) $
@@ -94,11 +93,11 @@ take_alone_spec 𝓤 𝓛 𝓜 𝓡 wired =
     returns_within ! Post refl (look_at ! 0 refl) $ free_all ! refl $ keep ! (4 ∷ 0 ∷ 2 ∷ 1 ∷ []) $ by ! (leaves 𝓛 ended stayed c z v₁ (Err v) _ (tt, tt)))
     (λ last. let d : Node = record { count = 0; body = x } in let lr : L.Denot = record { node = block_ptr b o; alloc = a; limit = v.limit; inner = x } in let v₀ : Val = live 0 (vcons w vnil) in
     let good : Good (layout Out) v₀ = (and_tt _ good_w.0, (record { fits = lit< tt }, (good_w.1, tt))) in skips ! $ exec ! 𝓣.C 𝓣.Λ Ev (after 6 fn.body) (at_ret Ev Post) $
-    use1 𝓛 (later (‵ (part_at BodyRow full_share x b (o + body_at)) ⊛ ‵ (all_but_body v.limit a x b o i))) (granted 𝓛 g b n (is_so n 1 last)) $ await ! tt $ split ! $ move ! (1 ∷ []) $ fsplit3 ! $ move ! (2 ∷ []) $ fsplit3 ! $
+    use1 𝓛 (later (‵ (part_at BodyRow full_share x b (o + body_at)) ⊛ ‵ (all_but_body true v.limit a x b o i))) (granted 𝓛 true g b n (is_so n 1 last)) $ await ! tt $ split ! $ move ! (1 ∷ []) $ fsplit3 ! $ move ! (2 ∷ []) $ fsplit3 ! $
     -- [the machine; the right to free; apart; mark; word; list; shown; invariant; the handle; the end of the parameters; the tokens]
     move ! (4 ∷ []) $ first ! $ blocks ! $ assigns_last ! (of_opd ! (lit ! tt)) (through ! refl (fld ! refl (stop !))) (store ! 0 refl (tt, record { fits = lit< tt })) $ exec ! 𝓣.C 𝓣.Λ Ev (after 7 fn.body) (at_ret Ev Post) $
     -- [word; the machine; the right to free; apart; mark; list; shown; invariant; the handle; the end of the parameters; the tokens]
-    move ! (4 ∷ 1 ∷ []) $ use2 𝓛 (later (‵ (owed v.limit i))) (gives_up 𝓛 v.limit b (o + 0) (content a x b o) i) $ await ! tt $ fpack ! Id (owed v.limit) i $
+    move ! (4 ∷ 1 ∷ []) $ use2 𝓛 (later (‵ (owed v.limit i))) (gives_up 𝓛 true v.limit b (o + 0) (content a x b o) i) $ await ! tt $ fpack ! Id (owed v.limit) i $
     -- [the duty; word; the right to free; apart; list; shown; invariant; the handle; the end of the parameters; the tokens]
     move ! (1 ∷ 4 ∷ 3 ∷ []) $ use3 𝓛 (‵ (part_at node.the_row full_share d b o)) (rejoin 𝓛 d b o) $ move ! (0 ∷ 2 ∷ []) $ fjoin ! $ fjoin ! $ move ! (0 ∷ 3 ∷ []) $ last_in ! v.limit b o h a x $
     sets ! (agg ! (and_then ! (get ! refl) (and_then ! (get ! refl) (no_more !)))) refl good_w $ sets ! (agg ! (and_then ! (lit ! tt) (and_then ! (get ! refl) (no_more !)))) refl good $
