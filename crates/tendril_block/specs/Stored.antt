@@ -4,7 +4,7 @@ use Rattle.tendril_block.specs.declared.stored.Stored.TheVariants.{Small, Large}
 
 -- the bytes that are stored
 abbrev pub stored_bytes : Stored → List ℕ
-stored_bytes (Small few) = few.items
+stored_bytes (Small few) = few
 stored_bytes (Large bytes) = bytes.items
 
 -- so many bytes in all take no memory

@@ -65,6 +65,7 @@ pub trait Atomicity {
 
     /// The body, to change it. Where others hold the block, a copy that is made of it takes its place first.
     fn make_mut(block: &mut Self::Block) -> Result<&mut Body, Refusal>
+        // As for `alone_mut`, where a copy counts as its length. Refused, the bytes are as before.
         ensures* lends { sem 𝓛 (LendsSoOk Self.Block.row body_row block.entry result
             (λ n w. IfOk result (λ b. (bytes_of n ≡ w.bytes)
             × ((copied n ≡ copied block.old + (w.took - b.now.took))

@@ -7,6 +7,7 @@
 mod atomicity;
 mod body;
 mod copied;
+mod few;
 mod holder;
 mod local;
 mod node;
@@ -17,12 +18,12 @@ mod stored;
 
 pub use atomicity::{Atomicity, MAX_HOLDERS, MAX_LEN, MIN_CAP};
 pub use body::Body;
+pub use few::FEW;
 pub use holder::{Counted, CountedBy, Holder};
 pub use local::{LocalBlock, LocalPointer, NonAtomic};
 pub use refusal::Refusal;
 pub use shared::{Atomic, AtomicUpTo, SharedBlock, SharedPointer};
 pub use sole::Sole;
-pub use stored::FEW;
 pub use tendril_count::interleavings;
 
 #[cfg(test)]

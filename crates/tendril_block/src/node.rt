@@ -15,3 +15,5 @@ pub(crate) struct Node {
     pub(crate) count: u64,
     pub(crate) body: Body,
 }
+
+const _: () = prove!(size_of::<Node>() == 56);

@@ -2,18 +2,17 @@
 ghost use Rattle.std.specs.Prelude.{◌≡◌, ◌+◌, ◌≤◌, ◌++◌, length, take, replicate, min, IfOk, IfErr, OnOk, OnErr, vec_len, vec_capacity};
 ghost use Rattle.tendril_block.specs.Stored.{stored_bytes, HasRoom};
 
+use crate::few::{FEW, Few};
 use crate::refusal::Refusal;
-use arrayvec::ArrayVec;
 use std::alloc::Global;
-
-/// The most bytes that stand in the counted node itself, so that it and they are one request for memory.
-pub const FEW: usize = 40;
 
 #[derive(Drop)]
 pub(crate) enum Stored {
-    Small(ArrayVec<u8, 40, Global>),
+    Small(Few),
     Large(Vec<u8>),
 }
+
+const _: () = prove!(size_of::<Stored>() == 48);
 
 impl Stored {
     /// A copy of few bytes.
@@ -21,8 +20,8 @@ impl Stored {
         requires { length bytes.now ≤ 40 }
         ensures { stored_bytes result ≡ bytes.now }
     {
-        let mut few = ArrayVec::new_in(alloc);
-        put(&mut few, bytes);
+        let mut few = Few::new(alloc);
+        few.push(bytes);
         Stored::Small(few)
     }
 
@@ -51,7 +50,7 @@ impl Stored {
 
     pub(crate) fn allocator(&self) -> Global {
         match self {
-            Stored::Small(few) => *few.allocator(),
+            Stored::Small(few) => few.allocator(),
             Stored::Large(bytes) => *bytes.allocator(),
         }
     }
@@ -80,7 +79,7 @@ impl Stored {
         ensures err { OnErr result (stored_bytes self.new ≡ stored_bytes self.old) }
     {
         match self {
-            Stored::Small(few) if more.len() <= FEW - few.len() => put(few, more),
+            Stored::Small(few) if more.len() <= FEW - few.len() => few.push(more),
             Stored::Small(few) => {
                 let count = few.len().checked_add(more.len()).ok_or(Refusal::Memory)?;
                 let mut bytes = spilled(few, count)?;
@@ -105,7 +104,7 @@ impl Stored {
             .ok_or(Refusal::Memory)?;
         self.make_room(len)?;
         match self {
-            Stored::Small(few) => put(few, &[0; FEW][..count]),
+            Stored::Small(few) => few.push(&[0; FEW][..count]),
             Stored::Large(bytes) => bytes.resize(len, 0)?,
         }
         Ok(())
@@ -119,8 +118,8 @@ impl Stored {
         match self {
             Stored::Small(few) => {
                 few.truncate(keep);
-                put(few, middle);
-                put(few, more);
+                few.push(middle);
+                few.push(more);
             }
             Stored::Large(bytes) => {
                 bytes.truncate(keep);
@@ -141,22 +140,13 @@ impl Stored {
 }
 
 // A vector of few bytes with room for so many.
-fn spilled(few: &ArrayVec<u8, 40, Global>, count: usize) -> Result<Vec<u8>, Refusal>
-    ensures bytes { IfOk result (λ v. (v.items ≡ few.now.items) × (count ≤ vec_capacity v)) }
+fn spilled(few: &Few, count: usize) -> Result<Vec<u8>, Refusal>
+    ensures bytes { IfOk result (λ v. (v.items ≡ few.now) × (count ≤ vec_capacity v)) }
     ensures refusal { IfErr result (λ r. r ≡ Refusal.Memory) }
 {
-    let mut bytes = Vec::with_capacity(*few.allocator(), count.max(2 * FEW))?;
+    let mut bytes = Vec::with_capacity(few.allocator(), count.max(2 * FEW))?;
     append_reserved(&mut bytes, few.as_slice());
     Ok(bytes)
-}
-
-// Puts bytes behind few, where they stay few.
-fn put(few: &mut ArrayVec<u8, 40, Global>, more: &[u8])
-    requires { length few.old.items + length more.now ≤ 40 }
-    ensures { few.new.items ≡ few.old.items ++ more.now }
-{
-    let appended = few.try_extend_from_slice(more);
-    prove!(appended.is_ok());
 }
 
 // Puts bytes where there is room for them.

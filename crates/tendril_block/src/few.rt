@@ -1,0 +1,117 @@
+//! Few bytes, in the value itself, with their number in one byte.
+ghost use Rattle.std.specs.Prelude.{◌≡◌, ◌+◌, ◌≤◌, ◌++◌, [], length, take};
+ghost use Rattle.std.specs.List.{refill};
+ghost use Rattle.std.specs.Borrow.{Lends, Array, u8 as byte, sem};
+
+use std::alloc::Global;
+use std::marker::Model;
+
+/// The most bytes that stand in the counted node itself, so that it and they are one request for memory.
+pub const FEW: usize = 40;
+
+/// At most `FEW` bytes. What the array holds behind them is nobody's.
+#[derive(Drop)]
+pub(crate) struct Few {
+    len: u8,
+    cells: Cells,
+    alloc: Global,
+}
+
+impl Model for Few {
+    ghost use Rattle.std.specs.Prelude.{◌≡◌, ◌≤◌, ℕ, List, length, take};
+
+    ghost Value = { List ℕ };
+
+    ghost view = { λ f. take f.len f.cells.bytes };
+
+    ghost invariant = { λ f. (f.len ≤ 40) × (length f.cells.bytes ≡ 40) };
+}
+
+// An array in a struct of its own, so that a contract can say what a loan of its first bytes leaves.
+#[derive(Drop)]
+struct Cells {
+    bytes: [u8; 40],
+}
+
+impl Cells {
+    ghost use Rattle.tendril_block.specs.contracts.few.Cells.{the_row};
+    ghost use Rattle.tendril_block.specs.Cells.{with_front};
+
+    // The first `len` bytes.
+    fn front_mut(&mut self, len: usize) -> &mut [u8]
+        requires { len ≤ 40 }
+        ensures* lends { sem 𝓛 (Lends the_row (Array byte 0) self.entry result (with_front self.old)) }
+        ensures bytes { result.now ≡ take len self.old.bytes }
+    {
+        &mut self.bytes[..len]
+    }
+
+    // Writes bytes over those from `start` on.
+    fn write(&mut self, start: usize, bytes: &[u8])
+        requires { start + length bytes.now ≤ 40 }
+        ensures front { take (start + length bytes.now) self.new.bytes ≡ take start self.old.bytes ++ bytes.now }
+        ensures len { length self.new.bytes ≡ 40 }
+    {
+        self.front_mut(start + bytes.len())[start..].copy_from_slice(bytes);
+    }
+}
+
+impl Few {
+    ghost use Rattle.tendril_block.specs.contracts.few.Few.{the_row};
+
+    /// No bytes.
+    pub(crate) fn new(alloc: Global) -> Self
+        ensures { result ≡ [] }
+    {
+        Few {
+            len: 0,
+            cells: Cells { bytes: [0; 40] },
+            alloc,
+        }
+    }
+
+    pub(crate) fn len(&self) -> usize
+        ensures len { result ≡ length self.now }
+        ensures fits { result ≤ 40 }
+    {
+        self.len as usize
+    }
+
+    pub(crate) fn allocator(&self) -> Global {
+        self.alloc
+    }
+
+    pub(crate) fn as_slice(&self) -> &[u8]
+        ensures bytes { result.now ≡ self.now }
+        ensures fits { length result.now ≤ 40 }
+    {
+        &self.cells.bytes[..self.len as usize]
+    }
+
+    pub(crate) fn as_mut_slice(&mut self) -> &mut [u8]
+        ensures* lends { sem 𝓛 (Lends the_row (Array byte 0) self.entry result (refill (length self.old) self.old)) }
+        ensures bytes { result.now ≡ self.old }
+    {
+        self.cells.front_mut(self.len as usize)
+    }
+
+    /// Puts bytes at the end.
+    pub(crate) fn push(&mut self, more: &[u8])
+        requires { length self.old + length more.now ≤ 40 }
+        ensures { self.new ≡ self.old ++ more.now }
+    {
+        let len = self.len as usize;
+        self.cells.write(len, more);
+        self.len = (len + more.len()) as u8;
+    }
+
+    pub(crate) fn truncate(&mut self, len: usize)
+        ensures { self.new ≡ take len self.old }
+    {
+        if len < self.len as usize {
+            self.len = len as u8;
+        }
+    }
+}
+
+const _: () = prove!(size_of::<Few>() == 41);
