@@ -2,8 +2,8 @@
 
 use std::alloc::Global;
 use std::test::Fail;
-use tendril::block::Refusal;
-use tendril::{NonAtomic, slice_to_tendril};
+use tendril::block::{AtomicUpTo, Refusal};
+use tendril::{ByteTendril, NonAtomic, slice_to_tendril};
 use tendril_run::{
     ByteList, Classifier, Command, Kind, Reply, Slot, Table, parse_line, print_reply, run,
 };
@@ -183,6 +183,27 @@ fn lines_of_no_command(rt: HostRuntime) -> Result<(), Fail> {
         b"\xff\xfe",
     ] {
         assert!(rt; parse_line(rt.alloc(), line)?.is_none(), "{line:?}");
+    }
+    Ok(())
+}
+
+#[test]
+fn a_text_whose_block_is_full_is_not_joined_with_itself(rt: HostRuntime) -> Result<(), Fail> {
+    let alloc = rt.alloc();
+    let text: ByteTendril<AtomicUpTo<3>> = slice_to_tendril(alloc, b"aaaaaaaaaa bbbbbbbbb")?;
+    let _first = text.clone()?;
+    let _second = text.clone()?;
+    let mut table = Table::<AtomicUpTo<3>>::new(alloc);
+    assert!(rt; table.push(Slot::Bytes(text)).is_ok());
+    let commands = [Command::PushTendril(0, 0), Command::Text(0)];
+    let replies = run(&mut table, &commands, &OneClass)?;
+    let lines = [
+        "refused 3 Count",
+        "bytes 6161616161616161616120626262626262626262",
+    ];
+    assert_eq!(rt; replies.len(), lines.len());
+    for (reply, line) in replies.iter().zip(lines) {
+        assert_eq!(rt; print_reply(alloc, reply)?.as_str(), line);
     }
     Ok(())
 }

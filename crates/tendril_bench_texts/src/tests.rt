@@ -1,6 +1,7 @@
 //! Each file tests one subject. What is expected comes from Unicode's table of well-formed UTF-8, from std, or from
 //! rows written by hand, and never from what the calls answered.
 
+mod full;
 mod runs;
 mod slices;
 mod texts;

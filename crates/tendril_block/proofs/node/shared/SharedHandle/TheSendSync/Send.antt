@@ -24,14 +24,8 @@ use Rattle.tendril_block.specs.contracts.node.shared.SharedHandle as C
 ptr_send : IsSend RawPtr
 ptr_send = search sendable
 
-heap_send : IsSend heap.the_row
-heap_send = search (sendable, crosses)
-
 field_send : IsSend (heap.the_field).row
 field_send = search (sendable, crosses)
-
-heap_sync : IsSync heap.the_row
-heap_sync = search sendable depth 20
 
 vec_send : IsSend BodyRow
 vec_send = body_crosses.the_send
