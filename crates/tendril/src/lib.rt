@@ -9,9 +9,11 @@ mod tendril;
 mod view;
 
 pub use crate::error::SubtendrilError;
-pub use crate::tendril::{ByteTendril, StrTendril, Tendril, slice_to_tendril, str_to_tendril};
+pub use crate::tendril::{
+    ByteTendril, SendTendril, StrTendril, Tendril, slice_to_tendril, str_to_tendril,
+};
 pub use crate::view::View;
 pub use tendril_block as block;
-pub use tendril_block::{Atomicity, NonAtomic};
+pub use tendril_block::{Atomic, Atomicity, NonAtomic};
 pub use tendril_fmt::fmt::{CharFormat, Format};
 pub use tendril_fmt::{fmt, futf};

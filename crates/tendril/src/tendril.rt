@@ -10,11 +10,13 @@ mod part;
 mod print;
 mod push;
 mod read;
+mod send;
 mod write;
 
 pub(crate) use make::share;
 pub use make::{slice_to_tendril, str_to_tendril};
 pub(crate) use part::try_part;
+pub use send::SendTendril;
 use std::marker::{Model, PhantomData};
 use tendril_block::{Atomicity, NonAtomic};
 use tendril_fmt::fmt::{Bytes, Format, UTF8};

@@ -1,3 +1,4 @@
+pub mod Aparts
 pub mod Texts
 pub mod Partings
 pub mod Storages

@@ -1,4 +1,4 @@
-use Rattle.std.specs.Prelude.{ℕ, List, ◌+◌, ◌≤◌, ◌<◌, ◌^◌, length, take, drop}
+use Rattle.std.specs.Prelude.{◌≡◌, ℕ, List, ◌+◌, ◌≤◌, ◌<◌, ◌^◌, length, take, drop}
 use Rattle.tendril_storage.specs.declared.storage.Held.{Held}
 use Rattle.tendril_storage.specs.declared.storage.Held.TheVariants.{Inline, View}
 
@@ -17,3 +17,8 @@ module _ {B : Type 0} where
   abbrev pub IsHeld : (B → List ℕ) → Held B → Type 0
   IsHeld bytes_of (Inline len buffer) = len ≤ 8
   IsHeld bytes_of (View shared block offset len) = (offset + len ≤ length (bytes_of block)) × (offset + len < 2 ^ 32)
+
+  -- the block, the offset and the length of a view
+  abbrev pub IsView : {C : Type 0} → Held B → C × B × ℕ × ℕ → Type 0
+  IsView (Inline len buffer) v = ⊥
+  IsView (View shared block offset len) v = (v.1 ≡ block) × (v.2 ≡ offset) × (v.3 ≡ len)

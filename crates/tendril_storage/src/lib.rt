@@ -4,6 +4,8 @@
 //! any bytes may be stored, and parted anywhere.
 #![tactic(auto)]
 
+mod apart;
 mod storage;
 
+pub use crate::apart::Apart;
 pub use crate::storage::Storage;

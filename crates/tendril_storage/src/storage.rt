@@ -17,7 +17,7 @@ use tendril_block::{Atomicity, LocalBlock, MAX_LEN};
 pub(crate) const INLINE: usize = 8;
 
 // Three words: the inline bytes begin on a border of 8, so that a copy moves whole words.
-enum Held<B> {
+pub(crate) enum Held<B> {
     Inline {
         len: u64,
         buffer: [u8; 8],
@@ -47,6 +47,26 @@ impl<B: Drop> Drop for Held<B> {
     }
 }
 
+impl<B: Drop> Held<B> {
+    ghost use Rattle.std.specs.Prelude.{MatchResult};
+    ghost use Rattle.tendril_storage.specs.Storages.{IsView};
+
+    // What a view has, or inline bytes as they were.
+    pub(crate) fn into_view(self) -> Result<(Cell<bool>, B, u32, u32), Self>
+        ensures { MatchResult result (IsView self) (λ h. h ≡ self) }
+    {
+        match self {
+            Held::View {
+                shared,
+                block,
+                offset,
+                len,
+            } => Ok((shared, block, offset, len)),
+            Held::Inline { len, buffer } => Err(Held::Inline { len, buffer }),
+        }
+    }
+}
+
 const _: () = prove!(size_of::<Held<LocalBlock>>() == 24);
 
 const _: () = prove!(align_of::<Held<LocalBlock>>() == 8);
@@ -54,8 +74,8 @@ const _: () = prove!(align_of::<Held<LocalBlock>>() == 8);
 /// The bytes of a text, of whatever format.
 #[derive(Drop)]
 pub struct Storage<A: Atomicity> {
-    held: Held<A::Block>,
-    alloc: Global,
+    pub(crate) held: Held<A::Block>,
+    pub(crate) alloc: Global,
 }
 
 impl<A: Atomicity> Model for Storage<A> {
@@ -138,7 +158,7 @@ impl<A: Atomicity> Storage<A> {
 // Few bytes as the lowest ones of a word. Each number of bytes has loads of its own, so that nothing reads as a word what
 // was just written in pieces: the processor would wait for that.
 #[inline(always)]
-fn word_of(bytes: &[u8]) -> u64
+pub(crate) fn word_of(bytes: &[u8]) -> u64
     requires { length bytes.now ≤ 8 }
     ensures { take (length bytes.now) (to_le_bytes w64 result) ≡ bytes.now }
 {

@@ -2,7 +2,7 @@
 //! and meets the refusal only in the requests that it makes behind that. So the other test's calls made fewer.
 
 use super::few::change_few;
-use super::long::{cut_long_text, write_long_text};
+use super::long::{cut_long_text, send_long_text, write_long_text};
 use super::make_requests;
 use super::short::change_short_texts;
 use super::strings::take_strings;
@@ -19,6 +19,13 @@ fn cuts(rt: HostRuntime) -> Result<(), Fail> {
 fn a_byte_written(rt: HostRuntime) -> Result<(), Fail> {
     write_long_text(&rt, 5)?;
     make_requests(rt.alloc(), 5)?;
+    Ok(())
+}
+
+#[test]
+fn a_text_sent(rt: HostRuntime) -> Result<(), Fail> {
+    send_long_text(&rt, 6)?;
+    make_requests(rt.alloc(), 6)?;
     Ok(())
 }
 

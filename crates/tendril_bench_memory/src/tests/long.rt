@@ -1,10 +1,12 @@
-//! Cutting a text of a million bytes, and writing into one that has its block alone, asks for no memory.
+//! Cutting a text of a million bytes, and writing into or sending one that has its block alone, asks for no memory.
 
 use super::refuse_request;
 use std::alloc::Global;
 use std::process::Abort;
 use std::test::Fail;
-use tendril::{StrTendril, Tendril};
+use tendril::block::Refusal;
+use tendril::fmt::UTF8;
+use tendril::{SendTendril, StrTendril, Tendril};
 
 const LEN: usize = 1000000;
 
@@ -72,6 +74,30 @@ pub(super) fn write_long_text(rt: &(impl Abort + AllocGlobal), number: usize) ->
     Ok(())
 }
 
+/// Sends a long text that has its block alone, where the request of this number is refused. Unless the text itself was
+/// refused, it leaves its block without a request, and comes back in one with one request.
+pub(super) fn send_long_text(rt: &(impl Abort + AllocGlobal), number: usize) -> Result<(), Fail> {
+    refuse_request(rt.alloc(), number)?;
+    let Some(text) = long_text(rt.alloc()) else {
+        return Ok(());
+    };
+    let sent = text.into_send().ok().ok_or("into_send")?;
+    let text = receive(rt, sent)?;
+    assert_eq!(rt; text.len32() as usize, LEN);
+    assert!(rt; text.as_byte_slice().get(499999..500001).ok_or("a slice")? == b"a ".as_slice());
+    Ok(())
+}
+
+// A text that was sent, asked for again where it was refused.
+fn receive(rt: &impl Abort, sent: SendTendril<UTF8>) -> Result<StrTendril, Fail> {
+    let (refusal, sent) = match Tendril::from_send(sent) {
+        Ok(text) => return Ok(text),
+        Err(refused) => refused,
+    };
+    assert_eq!(rt; refusal, Refusal::Memory);
+    Ok(Tendril::from_send(sent).ok().ok_or("from_send")?)
+}
+
 #[test]
 fn cuts_where_the_first_request_is_refused(rt: HostRuntime) -> Result<(), Fail> {
     cut_long_text(&rt, 1)
@@ -107,4 +133,9 @@ fn a_byte_written_where_the_first_request_behind_the_text_is_refused(
     rt: HostRuntime,
 ) -> Result<(), Fail> {
     write_long_text(&rt, 5)
+}
+
+#[test]
+fn a_text_sent_where_the_first_request_behind_it_is_refused(rt: HostRuntime) -> Result<(), Fail> {
+    send_long_text(&rt, 5)
 }

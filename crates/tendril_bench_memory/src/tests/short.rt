@@ -7,12 +7,13 @@ use tendril::{ByteTendril, StrTendril, Tendril};
 
 const DIGITS: &[u8] = b"01234567";
 
-/// Makes, clones, cuts, joins and writes texts of at most 8 bytes, where the first request is refused.
+/// Makes, clones, cuts, joins, writes and sends texts of at most 8 bytes, where the first request is refused.
 pub(super) fn change_short_texts(rt: &(impl Abort + AllocGlobal)) -> Result<(), Fail> {
     refuse_request(rt.alloc(), 1)?;
     for len in 0..=8u32 {
         let mut text = join_short_texts(rt, len)?;
         change_short_text(rt, &mut text, len)?;
+        send_short_text(rt, text)?;
     }
     push_characters(rt)
 }
@@ -35,6 +36,15 @@ fn change_short_text(rt: &impl Abort, text: &mut ByteTendril, len: u32) -> Resul
     text.try_pop_front(len)?;
     text.push_uninitialized(len)?;
     assert_eq!(rt; text.len32(), 8);
+    Ok(())
+}
+
+fn send_short_text(rt: &impl Abort, text: ByteTendril) -> Result<(), Fail> {
+    let expected = text.clone()?;
+    let sent = text.into_send().ok().ok_or("into_send")?;
+    let clone: ByteTendril = Tendril::from_send(sent.clone()?).ok().ok_or("from_send")?;
+    let back: ByteTendril = Tendril::from_send(sent).ok().ok_or("from_send")?;
+    assert!(rt; clone == expected && back == expected);
     Ok(())
 }
 

@@ -117,7 +117,7 @@ impl<A: Atomicity> Storage<A> {
     }
 
     /// The bytes of a block that no other holds.
-    pub(super) fn viewed(alloc: Global, block: A::Block) -> Self
+    pub(crate) fn viewed(alloc: Global, block: A::Block) -> Self
         requires { length (A.bytes_of block) ≤ MAX_LEN }
         ensures bytes { result.bytes ≡ A.bytes_of block }
         ensures copied { result.copied ≡ A.copied block }

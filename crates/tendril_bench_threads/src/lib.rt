@@ -1,0 +1,5 @@
+//! Tests of what no contract says of texts in several threads.
+#![tactic(auto)]
+
+#[cfg(test)]
+mod tests;

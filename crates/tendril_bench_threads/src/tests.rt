@@ -1,0 +1,3 @@
+//! Each file tests one subject. What is expected is written by hand, and never what the calls answered.
+
+mod sent;

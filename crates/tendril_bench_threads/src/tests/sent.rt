@@ -1,0 +1,148 @@
+//! Texts that go to another thread, and come back.
+
+use std::marker::Send;
+use std::process::Abort;
+use std::test::Fail;
+use std::thread;
+use std::thread::Promise;
+use tendril::block::Refusal;
+use tendril::fmt::{Bytes, UTF8, WTF8};
+use tendril::{
+    Atomic, Atomicity, ByteTendril, Format, NonAtomic, SendTendril, StrTendril, Tendril,
+    slice_to_tendril, str_to_tendril,
+};
+
+const LETTERS: &str = "abcdefghijklmnopqrstuvwxyzabcdefghijklmnopqrstuvwxyz";
+
+// Nothing is promised of what a thread answers.
+#[derive(Clone, Copy)]
+struct Anything;
+
+impl<T> Promise<T> for Anything {
+    ghost kept_by = { λ _ _. Unit {0} };
+}
+
+fn takes_what_is_send<T: Send>(_value: &T) {}
+
+// Sends a text and makes one over the other kind of block of it.
+fn sent<F: Format, A: Atomicity, B: Atomicity>(text: Tendril<F, A>) -> Result<Tendril<F, B>, Fail> {
+    let text = text.into_send().ok().ok_or("into_send")?;
+    Ok(Tendril::from_send(text).ok().ok_or("from_send")?)
+}
+
+fn check_that_texts_of_each_size_come_back<A: Atomicity, B: Atomicity>(
+    rt: &(impl Abort + AllocGlobal),
+) -> Result<(), Fail> {
+    for len in [0usize, 1, 7, 8, 9, 16, 40, 41, 52] {
+        let letters = &LETTERS.as_bytes()[..len];
+        let text: ByteTendril<A> = slice_to_tendril(rt.alloc(), letters)?;
+        let back: ByteTendril<B> = sent(text)?;
+        assert_eq!(rt; back.as_byte_slice(), letters);
+        assert!(rt; !back.is_shared());
+    }
+    Ok(())
+}
+
+#[test]
+fn texts_of_each_size_come_back(rt: HostRuntime) -> Result<(), Fail> {
+    check_that_texts_of_each_size_come_back::<NonAtomic, NonAtomic>(&rt)?;
+    check_that_texts_of_each_size_come_back::<NonAtomic, Atomic>(&rt)?;
+    check_that_texts_of_each_size_come_back::<Atomic, NonAtomic>(&rt)?;
+    check_that_texts_of_each_size_come_back::<Atomic, Atomic>(&rt)
+}
+
+fn check_that_clones_and_parts_keep_their_text<A: Atomicity>(
+    rt: &(impl Abort + AllocGlobal),
+) -> Result<(), Fail> {
+    let text: StrTendril<A> = str_to_tendril(rt.alloc(), LETTERS)?;
+    let part = text.try_subtendril(3, 20)?;
+    let mut popped = text.clone()?;
+    popped.try_pop_front(1)?;
+    let whole: StrTendril<Atomic> = sent(text.clone()?)?;
+    let part: StrTendril<Atomic> = sent(part)?;
+    let popped: StrTendril<Atomic> = sent(popped)?;
+    assert_eq!(rt; text.as_byte_slice(), LETTERS.as_bytes());
+    assert_eq!(rt; whole.as_byte_slice(), LETTERS.as_bytes());
+    assert_eq!(rt; part.as_byte_slice(), &LETTERS.as_bytes()[3..23]);
+    assert_eq!(rt; popped.as_byte_slice(), &LETTERS.as_bytes()[1..]);
+    Ok(())
+}
+
+#[test]
+fn clones_and_parts_keep_their_text(rt: HostRuntime) -> Result<(), Fail> {
+    check_that_clones_and_parts_keep_their_text::<NonAtomic>(&rt)?;
+    check_that_clones_and_parts_keep_their_text::<Atomic>(&rt)
+}
+
+#[test]
+fn a_clone_of_what_is_sent(rt: HostRuntime) -> Result<(), Fail> {
+    for text in ["short", LETTERS] {
+        let text: StrTendril = str_to_tendril(rt.alloc(), text)?;
+        let expected: StrTendril = text.clone()?;
+        let first = text.into_send().ok().ok_or("into_send")?;
+        let second = first.clone()?;
+        let first: StrTendril = Tendril::from_send(first).ok().ok_or("from_send")?;
+        let second: StrTendril = Tendril::from_send(second).ok().ok_or("from_send")?;
+        assert_eq!(rt; first.as_byte_slice(), expected.as_byte_slice());
+        assert_eq!(rt; second.as_byte_slice(), expected.as_byte_slice());
+    }
+    Ok(())
+}
+
+#[test]
+fn what_may_be_sent(rt: HostRuntime) -> Result<(), Fail> {
+    let text: Tendril<UTF8, Atomic> = str_to_tendril(rt.alloc(), LETTERS)?;
+    takes_what_is_send(&text);
+    let text: SendTendril<UTF8> = text.into_send().ok().ok_or("into_send")?;
+    takes_what_is_send(&text);
+    Ok(())
+}
+
+// Pushes an exclamation mark in the thread that it runs in.
+fn louder(text: SendTendril<UTF8>) -> Result<SendTendril<UTF8>, Refusal> {
+    let mut text: StrTendril = Tendril::from_send(text).map_err(|(refusal, _)| refusal)?;
+    text.push_slice("!")?;
+    text.into_send().map_err(|(refusal, _)| refusal)
+}
+
+#[test]
+fn a_worker_changes_a_text(rt: HostRuntime) -> Result<(), Fail> {
+    for (text, expected) in [("hello", "hello!"), ("hello, worker", "hello, worker!")] {
+        let text: StrTendril = str_to_tendril(rt.alloc(), text)?;
+        let text = text.into_send().ok().ok_or("into_send")?;
+        let worker = thread::spawn_with(&rt, Anything, move || louder(text))?;
+        let text: StrTendril = Tendril::from_send(worker.join(&rt)?)
+            .ok()
+            .ok_or("from_send")?;
+        assert_eq!(rt; text.as_byte_slice(), expected.as_bytes());
+    }
+    Ok(())
+}
+
+#[test]
+fn a_text_over_atomic_blocks_is_cloned_in_two_threads(rt: HostRuntime) -> Result<(), Fail> {
+    let text: Tendril<Bytes, Atomic> = slice_to_tendril(rt.alloc(), LETTERS.as_bytes())?;
+    let mine = text.clone()?;
+    let worker = thread::spawn_with(&rt, Anything, move || {
+        (0..1000).all(|_| mine.clone().is_ok())
+    })?;
+    let here = (0..1000).all(|_| text.clone().is_ok());
+    let there = worker.join(&rt);
+    assert!(rt; here && there);
+    assert_eq!(rt; text.as_byte_slice(), LETTERS.as_bytes());
+    Ok(())
+}
+
+#[test]
+fn halves_of_a_pair_cross_and_meet(rt: HostRuntime) -> Result<(), Fail> {
+    let lead: Tendril<WTF8, NonAtomic> = Tendril::try_from_byte_slice(rt.alloc(), b"\xED\xA0\xBD")?;
+    let trail: Tendril<WTF8, NonAtomic> = Tendril::try_from_byte_slice(
+        rt.alloc(),
+        b"\xED\xB2\xA9",
+    )?;
+    let mut lead: Tendril<WTF8, Atomic> = sent(lead)?;
+    let trail: Tendril<WTF8, Atomic> = sent(trail)?;
+    lead.push_tendril(&trail)?;
+    assert_eq!(rt; lead.as_byte_slice(), b"\xF0\x9F\x92\xA9".as_slice());
+    Ok(())
+}
