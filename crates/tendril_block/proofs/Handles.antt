@@ -1,8 +1,10 @@
--- The machine values of a `SharedHandle`. Assumes `Logic`.
+-- The machine values of a `Handle`, of either kind. Assumes `Logic`.
 use Rattle.std.proofs.Common.{◌≡◌, ℕ, ◌+◌, ◌≢◌, Bool, true, false, List, [], ◌∷◌, ◌++◌, refl, sym, subst}
 use seplogic.Ra.Ura.{Ura}
 use mir.Syntax.{impl, tnil, dnil}
-use mir.Val.{Val, vptr, vstruct, of_list}
+use mathlib.Core.Bool.{◌&&◌}
+use lib.Dec.{T}
+use mir.Val.{Val, vptr, vstruct, vcons, vnil, of_list, has_ty, WT}
 use base.Fraction.{full_share}
 use base.Logic.{ent, sep, upd, id⊢}
 use base.Fml.{Fml, ftrue, fsep, fex}
@@ -19,6 +21,9 @@ use denote.Steps.{nothing}
 use denote.Param.{layout}
 use denote.Struct.Struct.{within}
 use denote.Struct.Owning.{shape}
+use denote.Struct.Declared as declared
+use mir.Syntax.{Args, Dict, a_type, dcons}
+use denote.Param.{bounded}
 use Rattle.core.proofs.alloc.Calls.{Al, handle_tells}
 use Rattle.core.proofs.cell.Inside.{Good}
 use Rattle.std.specs.declared.alloc.Global.{Global}
@@ -33,11 +38,12 @@ use Rattle.tendril_count.proofs.Reached.{IsGivenUp, IsFreed, given_up, is_freed,
 use Rattle.tendril_count.proofs.Steps.{marked}
 use Rattle.std_alloc.specs.Owners.{sole_or_counted}
 use Rattle.tendril_block.proofs.Carved.{low}
-use Rattle.tendril_block.proofs.Values.{both}
-use Rattle.tendril_block.specs.declared.node.shared.SharedHandle.{SharedHandle}
-use Rattle.tendril_block.specs.contracts.node.shared.SharedHandle as block
+use Rattle.std_alloc.proofs.ResultValues.{and_tt}
+use Rattle.core.specs.contracts.marker.PhantomData as marker
+use Rattle.tendril_block.specs.declared.node.kind.Kind.{Ghosts}
+use Rattle.tendril_block.specs.contracts.node.handle.Handle as block
 use Rattle.tendril_block.specs.Written.{with_body}
-use Rattle.tendril_block.specs.Held.{limit, whose, BodyRow, BodyIn, body_at, content, Id, all_but_body, owed, freed, stands, reader, writer, held_at, block_owns, Step as Stepped, leaves_with, sees}
+use Rattle.tendril_block.specs.Held.{Crosses, limit, whose, BodyRow, BodyIn, body_at, content, Id, all_but_body, owed, freed, stands, reader, writer, held_at, block_owns, Step as Stepped, leaves_with, sees}
 
 abbrev pub Z : RattleType
 Z = heap.the_row
@@ -45,21 +51,42 @@ Z = heap.the_row
 abbrev pub al : Al
 al = record { row = Z; laws = heap_laws.the_row_laws; g = ghosts; d = impl [] tnil dnil; drops = impl [] tnil dnil }
 
-module _ {M : Type 1} {𝓤 : Ura M} {𝓛 : Logic 𝓤} {K : Type 0} {Γ : List (Item 𝓤)} {G : Goal 𝓤 𝓛.H} where
-  pub block_out : K → (d : SharedHandle) (vs : List Val)
-      → ((b o : ℕ) (h : Val) → d.node ≡ block_ptr b o → vs ≡ both (vptr b o) h ∷ [] → Good (layout Z) h → Seq K 𝓛 (‵ (held_at true d.limit d.alloc d.inner b o) ∷ ‵ (Z.own_val d.alloc (h ∷ [])) ∷ Γ) G)
-      → Seq K 𝓛 (‵ (block.the_row.own_val d vs) ∷ Γ) G
-  block_out t d vs k =
-      fsplit t $ fpick t (λ vss. fsplit t $ feq_l t (λ ev. fsplit t $ feq_l t (λ ep. fsplit t $ handle_tells al t d.alloc vss.1.0 (λ h ea fits. move t (1 ∷ []) $ drop t $ move t (1 ∷ []) $
-      in_a_block t d.node (λ p. block_owns true d.limit p d.alloc d.inner) (id⊢ 𝓤 _) (λ b o e. k b o h e
-      (subst (λ (p : Ptr). vs ≡ vstruct (of_list (ptr_val p ∷ h ∷ [])) ∷ []) e
-      (subst (λ (ws : List Val). vs ≡ vstruct (of_list (ptr_val d.node ∷ (ws ++ []))) ∷ []) ea (subst (λ (ps : List Val). vs ≡ vstruct (of_list (ps ++ (vss.1.0 ++ []))) ∷ []) ep ev))) fits)))))
+abbrev pub mark_val : Val
+mark_val = vstruct vnil
 
-  pub block_in : K → (l b o : ℕ) (h : Val) (a : Global) (x : BodyIn)
-      → Step K 𝓛 (‵ (block.the_row.own_val (record { node = block_ptr b o; alloc = a; limit = l; inner = x }) (both (vptr b o) h ∷ [])) ∷ Γ) G (‵ (held_at true l a x b o) ∷ ‵ (Z.own_val a (h ∷ [])) ∷ Γ) G
-  block_in t l b o h a x = step (λ s. let v : Val = both (vptr b o) h in
-      nothing t $ move t (2 ∷ 0 ∷ []) $ fjoin t $ feq_i t (List Val) (vptr b o ∷ []) (vptr b o ∷ []) refl $ fjoin t $ feq_i t (List Val) (v ∷ []) (v ∷ []) refl $ fjoin t $
-      fpack t (Valss (RawPtr ∷ (heap.the_field).row ∷ [])) (within (shape block.the_type) (block_ptr b o, ((heap.the_field).into a, tt)) (v ∷ [])) (vptr b o ∷ [], (h ∷ [], tt)) $ fjoin t $ s)
+-- a pointer, an allocator's handle and the kind, which has no bytes
+abbrev pub handle_val : Val → Val → Val
+handle_val v w = vstruct (vcons v (vcons w (vcons mark_val vnil)))
+
+pub handle_good : (b o : ℕ) (h : Val) → Good (layout Z) h → T (has_ty (layout Z) h && true) × WT (handle_val (vptr b o) h)
+handle_good b o h fits = (and_tt (has_ty (layout Z) h) fits.0, (tt, (fits.1, (tt, tt))))
+
+-- a function of a kind, at this kind
+abbrev pub args : RattleType → Dict → Args
+args K d = bounded (a_type ∷ []) (K, tt) (dcons d dnil)
+
+module _ (K : RattleType) (k : Ghosts K.Denot) where
+  abbrev pub Self : RattleType
+  Self = block.the_row K k
+
+  module _ {M : Type 1} {𝓤 : Ura M} {𝓛 : Logic 𝓤} {W : Type 0} {Γ : List (Item 𝓤)} {G : Goal 𝓤 𝓛.H} where
+    pub handle_out : W → (d : Self.Denot) (vs : List Val)
+        → ((b o : ℕ) (h : Val) → d.node ≡ block_ptr b o → vs ≡ handle_val (vptr b o) h ∷ [] → Good (layout Z) h → Seq W 𝓛 (‵ (held_at k.shared d.limit d.alloc d.inner b o) ∷ ‵ (Z.own_val d.alloc (h ∷ [])) ∷ Γ) G)
+        → Seq W 𝓛 (‵ (Self.own_val d vs) ∷ Γ) G
+    handle_out t d vs next =
+        fsplit t $ fpick t (λ vss. fsplit t $ feq_l t (λ ev. fsplit t $ feq_l t (λ ep. fsplit t $ handle_tells al t d.alloc vss.1.0 (λ h ea fits. move t (1 ∷ []) $ fsplit t $
+        fpick t (λ us. fsplit t $ feq_l t (λ em. drop t $ drop t $ move t (1 ∷ []) $
+        in_a_block t d.node (λ p. block_owns (Crosses K k.shared) k.shared d.limit p d.alloc d.inner) (id⊢ 𝓤 _) (λ b o e. fpick t (λ _. next b o h e
+        (subst (λ (p : Ptr). vs ≡ vstruct (of_list (ptr_val p ∷ h ∷ mark_val ∷ [])) ∷ []) e
+        (subst (λ (ms : List Val). vs ≡ vstruct (of_list (ptr_val d.node ∷ h ∷ (ms ++ []))) ∷ []) em
+        (subst (λ (ws : List Val). vs ≡ vstruct (of_list (ptr_val d.node ∷ (ws ++ (vss.1.1.0 ++ [])))) ∷ []) ea (subst (λ (ps : List Val). vs ≡ vstruct (of_list (ps ++ (vss.1.0 ++ (vss.1.1.0 ++ [])))) ∷ []) ep ev)))) fits))))))))
+
+    pub handle_in : W → Crosses K k.shared → (l b o : ℕ) (h : Val) (a : Global) (x : BodyIn)
+        → Step W 𝓛 (‵ (Self.own_val (record { node = block_ptr b o; alloc = a; kind = record {}; limit = l; inner = x }) (handle_val (vptr b o) h ∷ [])) ∷ Γ) G (‵ (held_at k.shared l a x b o) ∷ ‵ (Z.own_val a (h ∷ [])) ∷ Γ) G
+    handle_in t c l b o h a x = step (λ s. let v : Val = handle_val (vptr b o) h in
+        fpack t (Crosses K k.shared) (λ _. held_at k.shared l a x b o) c $ nothing t $ nothing t $ feq_i t (List Val) (mark_val ∷ []) (mark_val ∷ []) refl $ fjoin t $ fpack t (Valss []) (within (declared.shape (marker.the_type K)) tt (mark_val ∷ [])) tt $ fjoin t $
+        move t (2 ∷ 0 ∷ []) $ fjoin t $ feq_i t (List Val) (vptr b o ∷ []) (vptr b o ∷ []) refl $ fjoin t $ feq_i t (List Val) (v ∷ []) (v ∷ []) refl $ fjoin t $
+        fpack t (Valss (RawPtr ∷ (heap.the_field).row ∷ (marker.the_field K).row ∷ [])) (within (shape (block.the_type K k)) (block_ptr b o, ((heap.the_field).into a, ((marker.the_field K).into (record {}), tt))) (v ∷ [])) (vptr b o ∷ [], (h ∷ [], (mark_val ∷ [], tt))) $ fjoin t $ s)
 
 module _ {M : Type 1} {𝓤 : Ura M} (𝓛 : Logic 𝓤) where
   open 𝓛 use {H}
@@ -118,18 +145,18 @@ module _ {M : Type 1} {𝓤 : Ura M} (𝓛 : Logic 𝓤) where
       fpack ! Counted (λ t. fsep (roster role_coded.code i.1 0 (roles t.holders)) (fact (IsFreed (limit l) t))) (reached.freed s) $ fpack ! Id (freed l) i $ done !)))
 
   -- with any list in its place, what was lent is the handle again
-  pub back : (d : SharedHandle) (b o nb na : ℕ) (h : Val) (i : Id) → d.node ≡ block_ptr nb na → (w : BodyIn)
-      → ent 𝓤 (sep 𝓤 (sem 𝓛 ((mem BodyRow).own_at w nb (na + body_at))) (sem 𝓛 (fsep (all_but_body true d.limit d.alloc d.inner nb na i) (fsep (Z.own_val d.alloc (h ∷ [])) (cell_at full_share block.the_row.mir (both (vptr nb na) h ∷ []) b o)))))
-      (sem 𝓛 ((mem block.the_row).own_at (with_body d w) b o))
+  pub back : (K : RattleType) (k : Ghosts K.Denot) (d : (Self K k).Denot) (b o nb na : ℕ) (h : Val) (i : Id) → d.node ≡ block_ptr nb na → Crosses K k.shared → (w : BodyIn)
+      → ent 𝓤 (sep 𝓤 (sem 𝓛 ((mem BodyRow).own_at w nb (na + body_at))) (sem 𝓛 (fsep (all_but_body k.shared d.limit d.alloc d.inner nb na i) (fsep (Z.own_val d.alloc (h ∷ [])) (cell_at full_share (Self K k).mir (handle_val (vptr nb na) h ∷ []) b o)))))
+      (sem 𝓛 ((mem (Self K k)).own_at (with_body d w) b o))
   unfolding part_of
-  back d b o nb na h i e w = let v : Val = both (vptr nb na) h in
-      qed 𝓛 (‵ (part_at BodyRow full_share w nb (na + body_at)) ∷ ‵ (fsep (all_but_body true d.limit d.alloc d.inner nb na i) (fsep (Z.own_val d.alloc (h ∷ [])) (cell_at full_share block.the_row.mir (v ∷ []) b o))) ∷ []) ∵
+  back K k d b o nb na h i e c w = let v : Val = handle_val (vptr nb na) h in let y : Bool = k.shared in let R : RattleType = Self K k in
+      qed 𝓛 (‵ (part_at BodyRow full_share w nb (na + body_at)) ∷ ‵ (fsep (all_but_body y d.limit d.alloc d.inner nb na i) (fsep (Z.own_val d.alloc (h ∷ [])) (cell_at full_share R.mir (v ∷ []) b o))) ∷ []) ∵
       move ! (1 ∷ []) $ fsplit3 ! $ fsplit3 ! $ move ! (2 ∷ []) $ fsplit ! $
       -- [the machine; the right to free; the mark; the word; the handle; the cell; the list]
       move ! (6 ∷ 1 ∷ []) $ fjoin ! $ move ! (1 ∷ 0 ∷ []) $ fjoin ! $ move ! (2 ∷ 0 ∷ []) $ fjoin ! $ move ! (1 ∷ 0 ∷ []) $ fjoin ! $
-      fpack ! Id (writer true d.limit d.alloc w nb na) i $ fpack ! Bool (sole_or_counted (fex Id (writer true d.limit d.alloc w nb na)) (fex Id (reader true d.limit d.alloc w nb na))) true $
-      block_in ! d.limit nb na h d.alloc w $ rewrite ! 0 (λ (p : Ptr). ‵ (block.the_row.own_val (record { node = p; alloc = d.alloc; limit = d.limit; inner = w }) (v ∷ []))) (sym e) refl $
-      move ! (1 ∷ 0 ∷ []) $ fjoin ! $ fpack ! (List Val) (λ us. fsep (cell_at full_share block.the_row.mir us b o) (block.the_row.own_val (with_body d w) us)) (v ∷ []) $ done !
+      fpack ! Id (writer y d.limit d.alloc w nb na) i $ fpack ! Bool (sole_or_counted (fex Id (writer y d.limit d.alloc w nb na)) (fex Id (reader y d.limit d.alloc w nb na))) true $
+      handle_in K k ! c d.limit nb na h d.alloc w $ rewrite ! 0 (λ (p : Ptr). ‵ (R.own_val (record { node = p; alloc = d.alloc; kind = record {}; limit = d.limit; inner = w }) (v ∷ []))) (sym e) refl $
+      move ! (1 ∷ 0 ∷ []) $ fjoin ! $ fpack ! (List Val) (λ us. fsep (cell_at full_share R.mir us b o) (R.own_val (with_body d w) us)) (v ∷ []) $ done !
 
   -- who adds where the word was still the same has a new holder
   pub joined : (of : Threads) (l : ℕ) (P : Fml) (b w a γ old n : ℕ) → n ≡ old → ent 𝓤 (sem 𝓛 (fex Bool (join_gives role_coded.code of l P b w a γ old n))) (sem 𝓛 (fsep (fex ℕ (λ j. mark role_coded.code γ j Reader)) (part 63 a)))

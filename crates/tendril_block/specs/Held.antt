@@ -14,6 +14,8 @@ use denote.Memory.{lone, part_at}
 use denote.Builtin.{u64}
 use denote.RawPtr.{Ptr, InBlock, block_ptr, null_ptr, block_of, count_of}
 use denote.Sharing.{said, beside, some, one, held}
+use base.Shift.{Keyless}
+use mir.Val.{Val}
 use denote.Struct.Lending.{lent_at}
 use denote.Struct.Members.{Member, raw_tys}
 use Rattle.std.specs.declared.alloc.Global.{Global}
@@ -102,9 +104,13 @@ ptr_in_block p = fex (InBlock p) (λ _. ftrue)
 abbrev pub block_shares : Bool → ℕ → Ptr → Global → BodyIn → Lft → Fml
 block_shares y l p h x = beside (said (ptr_in_block p)) (some Id (lends y l h x (block_of p) (count_of p)))
 
-abbrev pub block_owns : Bool → ℕ → Ptr → Global → BodyIn → Fml
-block_owns y l (block_ptr b o) h x = held_at y l h x b o
-block_owns y l null_ptr h x = ffalse
+-- a kind whose values any thread may own is one whose holders may be in any threads
+abbrev pub Crosses : RattleType → Bool → Type 0
+Crosses R y = ((d : R.Denot) (vs : List Val) → Keyless (R.own_val d vs)) → y ≡ true
+
+abbrev pub block_owns : Type 0 → Bool → ℕ → Ptr → Global → BodyIn → Fml
+block_owns P y l (block_ptr b o) h x = fex P (λ _. held_at y l h x b o)
+block_owns P y l null_ptr h x = ffalse
 
 -- the machine of a block without holders, which this thread has the duty to free
 abbrev pub owed : ℕ → Id → Fml
@@ -127,62 +133,61 @@ last_owns l null_ptr h x = ffalse
 abbrev pub Step : Type 0
 Step = ℕ × Global × BodyIn × ℕ × Id
 
-module _ (g : Step) (b w : ℕ) where
+module _ (y : Bool) (g : Step) (b w : ℕ) where
   abbrev pub node_rule : Fml
-  node_rule = Inv role_coded.code Any (limit g.0) (content g.1 g.2 b g.3) b w g.4.0 g.4.1
+  node_rule = Inv role_coded.code (whose y g.4.3) (limit g.0) (content g.1 g.2 b g.3) b w g.4.0 g.4.1
 
   abbrev pub steps : Fml
-  steps = fsep (finv node_rule) (fsep (mark role_coded.code g.4.1 g.4.2 Reader) (part 63 g.4.0))
+  steps = fsep (kept y b w node_rule) (fsep (mark role_coded.code g.4.1 g.4.2 Reader) (part 63 g.4.0))
 
-module _ (y : Bool) (g : Step) (b w : ℕ) where
   abbrev pub leaves_with : ℕ → Fml
   leaves_with n = fex Bool (subtract_gives role_coded.code (whose y g.4.3) (limit g.0) (content g.1 g.2 b g.3) b w g.4.0 g.4.1 g.4.3 n)
 
   abbrev pub sees : ℕ → Fml
   sees n = fex Bool (alone_gives role_coded.code (whose y g.4.3) (limit g.0) (content g.1 g.2 b g.3) b w g.4.0 g.4.1 g.4.2 g.4.3 n)
 
-abbrev pub seen_by : Step → Ptr → ℕ → Fml
-seen_by g (block_ptr b w) n = sees true g b w n
-seen_by g null_ptr n = ffalse
+abbrev pub seen_by : Bool → Step → Ptr → ℕ → Fml
+seen_by y g (block_ptr b w) n = sees y g b w n
+seen_by y g null_ptr n = ffalse
 
-abbrev pub holds : Step → Ptr → Fml
-holds g (block_ptr b w) = steps g b w
-holds g null_ptr = ffalse
+abbrev pub holds : Bool → Step → Ptr → Fml
+holds y g (block_ptr b w) = steps y g b w
+holds y g null_ptr = ffalse
 
-abbrev pub left : Step → Ptr → ℕ → Fml
-left g (block_ptr b w) n = leaves_with true g b w n
-left g null_ptr n = ffalse
+abbrev pub left : Bool → Step → Ptr → ℕ → Fml
+left y g (block_ptr b w) n = leaves_with y g b w n
+left y g null_ptr n = ffalse
 
 -- a step through a `&`, by shares of the lifetime's token and of the mark
 abbrev pub Joining : Type 0
 Joining = Step × Share × Share
 
-module _ (g : Joining) (b w : ℕ) where
+module _ (y : Bool) (g : Joining) (b w : ℕ) where
   abbrev pub part_of_mark : Fml
   part_of_mark = seen role_coded.code g.0.4.1 g.0.4.2 g.2 Reader
 
   abbrev pub by_parts : Fml
-  by_parts = fsep (finv (node_rule g.0 b w)) (fsep part_of_mark (flft (g.0.4.0 ∷ []) g.1))
+  by_parts = fsep (kept y b w (node_rule y g.0 b w)) (fsep part_of_mark (flft (g.0.4.0 ∷ []) g.1))
 
   abbrev pub joins_with : ℕ → ℕ → Fml
-  joins_with old n = fsep part_of_mark (fsep (flft (g.0.4.0 ∷ []) g.1) (fex Bool (join_gives role_coded.code Any (limit g.0.0) (content g.0.1 g.0.2 b g.0.3) b w g.0.4.0 g.0.4.1 old n)))
+  joins_with old n = fsep part_of_mark (fsep (flft (g.0.4.0 ∷ []) g.1) (fex Bool (join_gives role_coded.code (whose y g.0.4.3) (limit g.0.0) (content g.0.1 g.0.2 b g.0.3) b w g.0.4.0 g.0.4.1 old n)))
 
-abbrev pub joins : Joining → Ptr → Fml
-joins g (block_ptr b w) = by_parts g b w
-joins g null_ptr = ffalse
+abbrev pub joins : Bool → Joining → Ptr → Fml
+joins y g (block_ptr b w) = by_parts y g b w
+joins y g null_ptr = ffalse
 
-abbrev pub joined_to : Joining → ℕ → Ptr → ℕ → Fml
-joined_to g old (block_ptr b w) n = joins_with g b w old n
-joined_to g old null_ptr n = ffalse
+abbrev pub joined_to : Bool → Joining → ℕ → Ptr → ℕ → Fml
+joined_to y g old (block_ptr b w) n = joins_with y g b w old n
+joined_to y g old null_ptr n = ffalse
 
 -- a load that is no step
-module _ (g : Step × Share) (b w : ℕ) where
+module _ (y : Bool) (g : Step × Share) (b w : ℕ) where
   abbrev pub by_token : Fml
-  by_token = fsep (finv (node_rule g.0 b w)) (flft (g.0.4.0 ∷ []) g.1)
+  by_token = fsep (kept y b w (node_rule y g.0 b w)) (flft (g.0.4.0 ∷ []) g.1)
 
-abbrev pub peeks : Step × Share → Ptr → Fml
-peeks g (block_ptr b w) = by_token g b w
-peeks g null_ptr = ffalse
+abbrev pub peeks : Bool → Step × Share → Ptr → Fml
+peeks y g (block_ptr b w) = by_token y g b w
+peeks y g null_ptr = ffalse
 
 abbrev pub token_of : Step × Share → Fml
 token_of g = flft (g.0.4.0 ∷ []) g.1

@@ -1,6 +1,6 @@
--- A block after its list was written over.
-use Rattle.tendril_block.specs.declared.node.shared.SharedHandle.{SharedHandle}
+-- A holder after its body was written over.
+use Rattle.tendril_block.specs.declared.node.handle.Handle.{Handle}
 use Rattle.tendril_block.specs.Held.{BodyIn}
 
-abbrev pub with_body : SharedHandle → BodyIn → SharedHandle
-with_body d w = record { node = d.node; alloc = d.alloc; limit = d.limit; inner = w }
+abbrev pub with_body : {K : Type 0} → Handle K → BodyIn → Handle K
+with_body d w = record { node = d.node; alloc = d.alloc; kind = d.kind; limit = d.limit; inner = w }

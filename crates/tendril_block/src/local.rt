@@ -4,13 +4,14 @@ ghost use Rattle.std.specs.Prelude.{◌≡◌};
 use crate::atomicity::MAX_HOLDERS;
 use crate::body::Body;
 use crate::holder::{Counted, CountedBy, Holder};
-use crate::node::local::LocalHandle;
+use crate::node::handle::Handle;
+use crate::node::local::OneThread;
 use std::alloc::Global;
 
 /// A counted pointer of one thread.
 #[derive(Drop)]
 pub struct LocalPointer {
-    node: LocalHandle,
+    node: Handle<OneThread>,
     ghost up_to: { node.limit ≡ 4294967295 },
 }
 
@@ -26,7 +27,7 @@ impl Counted for LocalPointer {
     ghost inner = { λ p. p.node.inner };
 
     fn make(alloc: Global, body: Body) -> Result<Self, Body> {
-        let node = LocalHandle::make(alloc, MAX_HOLDERS, body)?;
+        let node = Handle::make(alloc, MAX_HOLDERS, body)?;
         Ok(LocalPointer { node })
     }
 

@@ -3,6 +3,8 @@
 //! All functions with a raw pointer stand here. What a holder owns is said in `specs/Held`, by the machine of
 //! `tendril_count` and the rule in which a node's word is kept.
 
+pub(crate) mod handle;
+pub(crate) mod kind;
 pub(crate) mod last;
 pub(crate) mod local;
 pub(crate) mod loose;

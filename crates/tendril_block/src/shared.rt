@@ -5,13 +5,14 @@ ghost use Rattle.tendril_block.specs.Held.{limit};
 use crate::atomicity::MAX_HOLDERS;
 use crate::body::Body;
 use crate::holder::{Counted, CountedBy, Holder};
-use crate::node::shared::SharedHandle;
+use crate::node::handle::Handle;
+use crate::node::shared::AnyThread;
 use std::alloc::Global;
 
 /// A counted pointer of any thread, one of at most N, taken as 1 where N is 0 and as `MAX_HOLDERS` where N is more.
 #[derive(Drop)]
 pub struct SharedPointer<const N: u64> {
-    node: SharedHandle,
+    node: Handle<AnyThread>,
     ghost up_to: { node.limit ≡ N },
 }
 
@@ -38,7 +39,7 @@ impl<const N: u64> Counted for SharedPointer<N> {
     ghost inner = { λ p. p.node.inner };
 
     fn make(alloc: Global, body: Body) -> Result<Self, Body> {
-        let node = SharedHandle::make(alloc, N, body)?;
+        let node = Handle::make(alloc, N, body)?;
         Ok(SharedPointer { node })
     }
 

@@ -1,0 +1,179 @@
+//! One holder of a node, whose kind says in which threads the others may be.
+ghost use Rattle.std.specs.Prelude.{◌≡◌, ℕ, ◌+◌, ◌<◌, MatchResult, IfSome, IfOk};
+ghost use Rattle.std.specs.Borrow.{sem};
+ghost use Rattle.tendril_block.specs.Held.{Crosses, block_owns, block_shares, BodyIn, body_coded, limit};
+
+use crate::body::Body;
+use crate::node::Node;
+use crate::node::kind::Kind;
+use crate::node::last::Last;
+use crate::node::loose::Loose;
+use std::alloc::Global;
+use std::marker::{Model, PhantomData, Send};
+
+/// A holder, with the node's limit of holders and its body.
+pub(crate) struct Handle<K: Kind> {
+    node: *mut Node,
+    alloc: Global,
+    kind: PhantomData<K>,
+    pub(crate) ghost limit: { ℕ },
+    pub(crate) ghost inner: { BodyIn } by { body_coded },
+}
+
+impl<K: Kind> Model for Handle<K> {
+    ghost also_owns = { λ b. block_owns (Crosses K.row K.shared) K.shared b.limit b.node b.alloc b.inner };
+
+    ghost also_shares = { λ b _ κ. block_shares K.shared b.limit b.node b.alloc b.inner κ };
+}
+
+impl<K: Kind> Handle<K> {
+    ghost use Rattle.tendril_block.specs.contracts.node.handle.Handle.{the_row};
+    ghost use Rattle.tendril_block.specs.Held.{BodyRow};
+    ghost use Rattle.std.specs.Borrow.{LendsIf};
+    ghost use Rattle.tendril_block.specs.Written.{with_body};
+
+    /// The only holder of a new node, or the body back where memory is refused.
+    pub(crate) fn make(alloc: Global, limit: u64, body: Body) -> Result<Handle<K>, Body>
+        ensures { MatchResult result (λ b. (b.limit ≡ limit) × (b.inner ≡ body)) (λ v. v ≡ body) }
+    {
+        match Box::new(alloc, Node { count: 1, body }) {
+            Ok(node) => Ok(Handle::of(Loose::of(node), limit)),
+            Err(failed) => Err(failed.value.body),
+        }
+    }
+
+    // The first holder of a node whose word is 1.
+    fn of(loose: Loose<Node, Global>, _limit: u64) -> Handle<K>
+        requires { loose.value.count ≡ 1 }
+        ensures { (result.limit ≡ _limit) × (result.inner ≡ loose.value.body) }
+    {
+        let Loose { at, alloc } = loose;
+        Handle {
+            node: at,
+            alloc,
+            kind: PhantomData,
+        }
+    }
+
+    /// The body, which no other changes.
+    pub(crate) fn body(&self) -> &Body
+        ensures { result.now ≡ self.now.inner }
+    {
+        unsafe { &(*self.node).body }
+    }
+
+    // How many holders there were a moment ago.
+    fn count(&self) -> u64 {
+        let node = self.node;
+        unsafe { K::peek(&raw mut (*node).count) }
+    }
+
+    /// Whether there was no other holder a moment ago.
+    pub(crate) fn is_alone(&self) -> bool {
+        self.count() == 1
+    }
+
+    // One more holder, where the word is still the one that was seen. Else the word.
+    fn join_at(&self, alloc: Global, seen: u64, next: u64) -> Result<Handle<K>, u64>
+        requires below { seen < limit self.now.limit }
+        requires next { next ≡ seen + 1 }
+        ensures { IfOk result (λ b. (b.limit ≡ self.now.limit) × (b.inner ≡ self.now.inner)) }
+    {
+        let node = self.node;
+        let found = unsafe { K::join(&raw mut (*node).count, seen, next) };
+        if found == seen {
+            Ok(Handle {
+                node,
+                alloc,
+                kind: PhantomData,
+            })
+        } else {
+            Err(found)
+        }
+    }
+
+    /// One more holder, unless there are as many as there can be.
+    pub(crate) fn share(&self, most: u64) -> Option<Handle<K>>
+        requires { most ≡ limit self.now.limit }
+        ensures { IfSome result (λ b. (b.limit ≡ self.now.limit) × (b.inner ≡ self.now.inner)) }
+    {
+        let mut seen = self.count();
+        for _ in 0..u64::MAX {
+            if seen >= most {
+                return None;
+            }
+            let alloc = self.body().allocator();
+            match self.join_at(alloc, seen, seen + 1) {
+                Ok(block) => return Some(block),
+                Err(found) => seen = found,
+            }
+        }
+        None
+    }
+
+    /// The body, to change it, where there is no other holder.
+    pub(crate) fn alone_mut(&mut self) -> Option<&mut Body>
+        ensures* lends { sem 𝓛 (LendsIf (the_row K.row K.Kind) BodyRow self.entry result (with_body self.old) self.old) }
+        ensures bytes { IfSome result (λ v. v.now ≡ self.old.inner) }
+    {
+        let node = self.node;
+        let found = unsafe { K::alone(&raw mut (*node).count) };
+        if found != 1 {
+            return None;
+        }
+        unsafe { Some(&mut (*node).body) }
+    }
+
+    // Where the holder is alone it gives itself up, with a word of 0, or the holder back.
+    fn take_alone(self) -> Result<Last, Handle<K>>
+        ensures { MatchResult result (λ l. l.inner ≡ self.inner) (λ b. b ≡ self) }
+    {
+        let Handle { node, alloc, kind } = self;
+        let count = unsafe { K::alone(&raw mut (*node).count) };
+        if count != 1 {
+            return Err(Handle { node, alloc, kind });
+        }
+        unsafe {
+            (*node).count = 0;
+        }
+        Ok(Last { node, alloc })
+    }
+
+    /// The body alone, or the holder back where there are others.
+    pub(crate) fn into_body(self) -> Result<Body, Handle<K>>
+        ensures { MatchResult result (λ v. v ≡ self.inner) (λ b. b ≡ self) }
+    {
+        match self.take_alone() {
+            Ok(last) => Ok(Box::into_inner(last.free().into_box()).body),
+            Err(block) => Err(block),
+        }
+    }
+
+    // Gives the holder up. Who was the last one has the node, and the duty to free it.
+    fn release(self) -> Option<Last>
+        ensures { IfSome result (λ l. l.inner ≡ self.inner) }
+    {
+        let Handle {
+            node,
+            alloc,
+            kind: _,
+        } = self;
+        let found = unsafe { K::subtract(&raw mut (*node).count) };
+        if found == 1 {
+            Some(Last { node, alloc })
+        } else {
+            None
+        }
+    }
+}
+
+impl<K: Kind> Drop for Handle<K> {
+    fn drop(self) {
+        if let Some(last) = self.release() {
+            drop(last.free().into_box());
+        }
+    }
+}
+
+// Of a kind that crosses threads the rule is kept by atomic steps.
+unsafe impl<K: Kind + Send> Send for Handle<K> {}
