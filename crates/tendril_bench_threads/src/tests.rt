@@ -1,3 +1,5 @@
 //! Each file tests one subject. What is expected is written by hand, and never what the calls answered.
 
 mod sent;
+mod tables;
+mod through;

@@ -4,12 +4,12 @@ use Rattle.std.specs.List.{slice_split}
 use Rattle.std.specs.Io.KnownBytes.{Appends}
 use Rattle.tendril_block.specs.declared.refusal.Refusal.TheVariants.{Memory}
 use Rattle.tendril_run.specs.Cells.{Cell}
-use Rattle.tendril_run.specs.Lines.{IsLine}
-use Rattle.tendril_run.specs.Printed.{printed}
+use Rattle.tendril_lines.specs.Lines.{IsLine}
+use Rattle.tendril_lines.specs.Printed.{printed}
 use Rattle.tendril_run.specs.Steps.{Step}
-use Rattle.tendril_run.specs.declared.command.Command.{Command}
-use Rattle.tendril_run.specs.declared.command.Reply.{Reply}
-use Rattle.tendril_run.specs.declared.command.Reply.TheVariants.{Refused}
+use Rattle.tendril_lines.specs.declared.command.Command.{Command}
+use Rattle.tendril_lines.specs.declared.command.Reply.{Reply}
+use Rattle.tendril_lines.specs.declared.command.Reply.TheVariants.{Refused}
 
 -- the class of a character: 0 for white space and 1 for the rest
 abbrev pub class : ℕ → ℕ

@@ -2,8 +2,8 @@ use Rattle.std.proofs.Common.{ℕ, List, [], ◌∷◌, ◌++◌, refl, subst}
 use Rattle.tendril_run.specs.Cells.{Cell}
 use Rattle.tendril_run.specs.Steps.{Step}
 use Rattle.tendril_run.specs.Chains.{Chain}
-use Rattle.tendril_run.specs.declared.command.Command.{Command}
-use Rattle.tendril_run.specs.declared.command.Reply.{Reply}
+use Rattle.tendril_lines.specs.declared.command.Command.{Command}
+use Rattle.tendril_lines.specs.declared.command.Reply.{Reply}
 
 -- a chain goes on by one step
 pub one_more : (class : ℕ → ℕ) (old mid new : List Cell) (commands : List Command) (replies : List Reply) (command : Command) (reply : Reply) → Chain class old commands replies mid → Step class mid command reply new → Chain class old (commands ++ command ∷ []) (replies ++ reply ∷ []) new

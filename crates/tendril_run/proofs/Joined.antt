@@ -4,7 +4,7 @@ use Rattle.tendril_run.specs.Cells.{Cell, cell_at}
 use Rattle.tendril_run.specs.OneCell.{JoinMust, JoinMay, joined, CellJoined}
 use Rattle.tendril_run.specs.Rules.{Replied}
 use Rattle.tendril_run.specs.Steps.{Becomes}
-use Rattle.tendril_run.specs.declared.command.Reply.{Reply}
+use Rattle.tendril_lines.specs.declared.command.Reply.{Reply}
 
 -- a push of one cell onto another that was taken out of the table for it
 pub joined_apart : {S : Type 0} (f : S → Cell) (items : List S) (cells : List Cell) (to from : ℕ) (old more meanwhile new : S) (reply : Reply)

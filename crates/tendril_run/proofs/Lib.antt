@@ -2,6 +2,6 @@ mod Chained
 mod FirstRuns
 mod Joined
 mod OneChanged
+mod Pairs
 mod PoppedChars
-mod Reading
 mod TakenRuns

@@ -8,9 +8,9 @@ use Rattle.tendril_run.specs.Rules.{Replied, Answered, Changed}
 use Rattle.tendril_block.specs.declared.refusal.Refusal.TheVariants.{NoSuchSlot}
 use Rattle.tendril_run.specs.OneCell.{ChangeMust}
 use Rattle.tendril_run.specs.declared.change.Change.{Change}
-use Rattle.tendril_run.specs.declared.change.Change.TheVariants.{PushChar, PopChar, Edit, EditBytes, Convert, Drop}
-use Rattle.tendril_run.specs.declared.command.Reply.{Reply}
-use Rattle.tendril_run.specs.declared.command.Reply.TheVariants.{Done, Made, Char, Run, Compared, Text, Refused}
+use Rattle.tendril_run.specs.declared.change.Change.TheVariants.{PushChar, PopChar, Edit, EditBytes, Convert, ThroughSend, Drop}
+use Rattle.tendril_lines.specs.declared.command.Reply.{Reply}
+use Rattle.tendril_lines.specs.declared.command.Reply.TheVariants.{Done, Made, Char, Run, Compared, Text, Refused}
 
 -- one cell of a table was old, and after it is new
 pub record OneChanged (cells : List Cell) (slot : ℕ) (old new : Cell) (after : List Cell) : Type 0 where
@@ -89,6 +89,7 @@ gone_refused PopChar = refl
 gone_refused (Edit edit) = refl
 gone_refused (EditBytes edit) = refl
 gone_refused (Convert conversion) = refl
+gone_refused ThroughSend = refl
 gone_refused Drop = refl
 
 -- a slot that isn't there isn't changed

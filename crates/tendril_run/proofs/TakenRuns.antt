@@ -6,8 +6,8 @@ use Rattle.tendril_run.proofs.OneChanged.{OneChanged}
 use Rattle.tendril_run.specs.Cells.{Cell, cell_at}
 use Rattle.tendril_run.specs.OneCell.{CharsMust, char_of, RunMay, IsRunOf, run_of, run_popped}
 use Rattle.tendril_run.specs.Steps.{Step}
-use Rattle.tendril_run.specs.declared.command.Command.TheVariants.{PopRun}
-use Rattle.tendril_run.specs.declared.command.Reply.TheVariants.{Run, Refused}
+use Rattle.tendril_lines.specs.declared.command.Command.TheVariants.{PopRun}
+use Rattle.tendril_lines.specs.declared.command.Reply.TheVariants.{Run, Refused}
 
 module _ (class : ℕ → ℕ) (cells : List Cell) (slot : ℕ) (old new : Cell) (mid : List Cell) (one : OneChanged cells slot old new mid) where
   -- an empty cell has no run

@@ -1,5 +1,5 @@
 use Rattle.tendril_run.specs.Cells.{Cell, gone, text}
-use Rattle.tendril_run.specs.declared.command.Kind.TheVariants as kind
+use Rattle.tendril_lines.specs.declared.command.Kind.TheVariants as kind
 use Rattle.tendril_run.specs.declared.slot.Slot.{Slot}
 use Rattle.tendril_run.specs.declared.slot.Slot.TheVariants.{Bytes, Ascii, Utf8, Wtf8, Latin1, Gone}
 

@@ -2,8 +2,8 @@ use Rattle.std.specs.Prelude.{ℕ, ◌++◌, ◌≤◌, List, length, get_or, Is
 use Rattle.tendril_block.specs.declared.atomicity.TheConstants.{MAX_LEN}
 use Rattle.tendril_fmt.specs.Bytes.{AreBytes}
 use Rattle.tendril_fmt.specs.Wtf8.{IsWtf8, wtf8_join}
-use Rattle.tendril_run.specs.declared.command.Kind.{Kind}
-use Rattle.tendril_run.specs.declared.command.Kind.TheVariants.{Bytes, Ascii, Utf8, Wtf8, Latin1}
+use Rattle.tendril_lines.specs.declared.command.Kind.{Kind}
+use Rattle.tendril_lines.specs.declared.command.Kind.TheVariants.{Bytes, Ascii, Utf8, Wtf8, Latin1}
 
 -- a cell of a table: a text in a format, or gone
 pub data Cell : Type 0 where

@@ -1,8 +1,8 @@
 use Rattle.std.specs.Prelude.{ℕ, ◌≡◌, List, [], ◌∷◌}
 use Rattle.tendril_run.specs.Cells.{Cell}
 use Rattle.tendril_run.specs.Steps.{Step}
-use Rattle.tendril_run.specs.declared.command.Command.{Command}
-use Rattle.tendril_run.specs.declared.command.Reply.{Reply}
+use Rattle.tendril_lines.specs.declared.command.Command.{Command}
+use Rattle.tendril_lines.specs.declared.command.Reply.{Reply}
 
 -- a chain of steps, one reply a command
 abbrev pub Chain : (ℕ → ℕ) → List Cell → List Command → List Reply → List Cell → Type 0

@@ -4,8 +4,8 @@ use Rattle.tendril_block.specs.declared.refusal.Refusal.{Refusal}
 use Rattle.std.specs.Char.{IsScalar}
 use Rattle.std.specs.List.{take_while}
 use Rattle.tendril_fmt.specs.Chars.{encodings}
-use Rattle.tendril_run.specs.declared.command.Kind.{Kind}
-use Rattle.tendril_run.specs.declared.command.Kind.TheVariants.{Ascii, Utf8, Latin1}
+use Rattle.tendril_lines.specs.declared.command.Kind.{Kind}
+use Rattle.tendril_lines.specs.declared.command.Kind.TheVariants.{Ascii, Utf8, Latin1}
 
 -- the formats whose texts are characters
 abbrev pub HasChars : Kind → Type 0

@@ -8,12 +8,12 @@ use Rattle.tendril_block.specs.declared.refusal.Refusal.TheVariants.{NoSuchSlot,
 use Rattle.tendril_run.specs.Cells.{Cell, gone, text}
 use Rattle.tendril_block.specs.Outcomes.{NoneMust, First, NoneMay}
 use Rattle.tendril_run.specs.Rules.{Replied}
-use Rattle.tendril_run.specs.declared.command.Comparison.{Comparison}
-use Rattle.tendril_run.specs.declared.command.Comparison.TheVariants.{Less, Equal, Greater, Differ}
-use Rattle.tendril_run.specs.declared.command.Kind.{Kind}
-use Rattle.tendril_run.specs.declared.command.Kind.TheVariants.{Bytes, Utf8}
-use Rattle.tendril_run.specs.declared.command.Reply.{Reply}
-use Rattle.tendril_run.specs.declared.command.Reply.TheVariants.{Compared}
+use Rattle.tendril_lines.specs.declared.command.Comparison.{Comparison}
+use Rattle.tendril_lines.specs.declared.command.Comparison.TheVariants.{Less, Equal, Greater, Differ}
+use Rattle.tendril_lines.specs.declared.command.Kind.{Kind}
+use Rattle.tendril_lines.specs.declared.command.Kind.TheVariants.{Bytes, Utf8}
+use Rattle.tendril_lines.specs.declared.command.Reply.{Reply}
+use Rattle.tendril_lines.specs.declared.command.Reply.TheVariants.{Compared}
 
 -- an order, as it is answered
 abbrev pub in_order : Ordering → Comparison

@@ -7,7 +7,7 @@ use Rattle.tendril_run.specs.declared.change.ByteEdit.{ByteEdit}
 use Rattle.tendril_run.specs.declared.change.ByteEdit.TheVariants.{PushZeros, WriteByte}
 use Rattle.tendril_run.specs.declared.change.Edit.{Edit}
 use Rattle.tendril_run.specs.declared.change.Edit.TheVariants.{PopFront, PopBack, Clear, Reserve}
-use Rattle.tendril_run.specs.declared.command.Reply.{Reply}
+use Rattle.tendril_lines.specs.declared.command.Reply.{Reply}
 
 -- b after its edit
 abbrev pub edited : List ℕ → Edit → List ℕ

@@ -7,7 +7,4 @@ pub mod Comparisons
 pub mod OneCell
 pub mod Steps
 pub mod Chains
-pub mod Names
-pub mod Lines
-pub mod Verbs
-pub mod Printed
+pub mod Jobs

@@ -12,10 +12,14 @@ use Rattle.tendril_run.specs.declared.change.Conversion.{Conversion}
 use Rattle.tendril_run.specs.declared.change.Conversion.TheVariants.{Reinterpret, ToSuperset, ToSubset}
 use Rattle.tendril_run.specs.declared.change.ByteEdit.{ByteEdit}
 use Rattle.tendril_run.specs.declared.change.Edit.{Edit}
-use Rattle.tendril_run.specs.declared.command.Kind.{Kind}
-use Rattle.tendril_run.specs.declared.command.Kind.TheVariants.{Bytes}
-use Rattle.tendril_run.specs.declared.command.Reply.{Reply}
-use Rattle.tendril_run.specs.declared.command.Reply.TheVariants.{Char, Done, Text}
+use Rattle.tendril_lines.specs.declared.command.Kind.{Kind}
+use Rattle.tendril_lines.specs.declared.command.Kind.TheVariants.{Bytes}
+use Rattle.tendril_lines.specs.declared.command.Reply.{Reply}
+use Rattle.tendril_lines.specs.declared.command.Reply.TheVariants.{Char, Done, Text}
+
+-- the refusals of so many bytes on the way through another thread that no state rules out
+abbrev pub SendMay : ℕ → Refusal → Type 0
+SendMay n r = MemoryMay n r ⊎ CountMay n r
 
 -- the first refusal of a call that a cell only needs to be there for
 abbrev pub CellMust : Cell → Option Refusal → Type 0
@@ -36,6 +40,11 @@ part (text kind b) offset count = text kind (take count (drop offset b))
 abbrev pub CellCloneMay : Cell → Refusal → Type 0
 CellCloneMay gone r = ⊥
 CellCloneMay (text kind b) r = CountMay (length b) r
+
+-- the refusals of a text's way through another thread that no state rules out: it is shared first, and then copied
+abbrev pub CellSendMay : Cell → Refusal → Type 0
+CellSendMay gone r = ⊥
+CellSendMay (text kind b) r = SendMay (length b) r
 
 -- the first refusal of a push of the bytes y onto a cell
 abbrev pub PushMust : Cell → List ℕ → Option Refusal → Type 0
@@ -182,6 +191,7 @@ ChangeMust cell change.PopChar must = CharsMust cell must
 ChangeMust cell (change.Edit edit) must = CellEditMust cell edit must
 ChangeMust cell (change.EditBytes edit) must = CellByteEditMust cell edit must
 ChangeMust cell (change.Convert conversion) must = ConversionMust cell conversion must
+ChangeMust cell change.ThroughSend must = CellMust cell must
 ChangeMust cell change.Drop must = CellMust cell must
 
 -- the refusals of it that no state rules out
@@ -189,6 +199,7 @@ abbrev pub ChangeMay : Cell → Change → Refusal → Type 0
 ChangeMay cell (change.PushChar c) r = PushMay cell (encoding_of cell c) r
 ChangeMay cell (change.Edit edit) r = EditMay edit r
 ChangeMay cell (change.EditBytes edit) r = CellByteEditMay cell edit r
+ChangeMay cell change.ThroughSend r = CellSendMay cell r
 ChangeMay cell other r = ⊥
 
 -- the cell after it
@@ -198,6 +209,7 @@ changed cell change.PopChar = char_popped cell
 changed cell (change.Edit edit) = edited_cell cell edit
 changed cell (change.EditBytes edit) = byte_edited_cell cell edit
 changed cell (change.Convert conversion) = converted cell conversion
+changed cell change.ThroughSend = cell
 changed cell change.Drop = gone
 
 -- what is answered then

@@ -1,8 +1,8 @@
 use Rattle.std.specs.Prelude.{ℕ, ◌≡◌, List, length, Option, Result, Ok, Err}
 use Rattle.tendril_block.specs.Outcomes.{MemoryMay, Outcome}
 use Rattle.tendril_block.specs.declared.refusal.Refusal.{Refusal}
-use Rattle.tendril_run.specs.declared.command.Reply.{Reply}
-use Rattle.tendril_run.specs.declared.command.Reply.TheVariants.{Done, Refused}
+use Rattle.tendril_lines.specs.declared.command.Reply.{Reply}
+use Rattle.tendril_lines.specs.declared.command.Reply.TheVariants.{Done, Refused}
 
 -- a reply as an answer: that it is refused, or what else it says
 abbrev pub answer_of : Reply → Result Reply Refusal

@@ -10,10 +10,10 @@ use Rattle.tendril_run.specs.declared.change.Change.{Change}
 use Rattle.tendril_run.specs.declared.change.Change.TheVariants as change
 use Rattle.tendril_run.specs.declared.change.Conversion.TheVariants as conversion
 use Rattle.tendril_run.specs.declared.change.Edit.TheVariants as edit
-use Rattle.tendril_run.specs.declared.command.Command.{Command}
-use Rattle.tendril_run.specs.declared.command.Command.TheVariants.{New, FromBytes, PushBytes, PushTendril, PushChar, PushZeros, Slice, PopFront, PopBack, PopChar, PopRun, Clone, Clear, Reserve, Reinterpret, ToSuperset, ToSubset, WriteByte, Compare, Text, Drop}
-use Rattle.tendril_run.specs.declared.command.Reply.{Reply}
-use Rattle.tendril_run.specs.declared.command.Reply.TheVariants as reply
+use Rattle.tendril_lines.specs.declared.command.Command.{Command}
+use Rattle.tendril_lines.specs.declared.command.Command.TheVariants.{New, FromBytes, PushBytes, PushTendril, PushChar, PushZeros, Slice, PopFront, PopBack, PopChar, PopRun, Clone, Clear, Reserve, Reinterpret, ToSuperset, ToSubset, WriteByte, Compare, Text, ThroughSend, Drop}
+use Rattle.tendril_lines.specs.declared.command.Reply.{Reply}
+use Rattle.tendril_lines.specs.declared.command.Reply.TheVariants as reply
 
 -- the reply names the new last cell
 abbrev pub Adds : List Cell → Cell → Reply → List Cell → Type 0
@@ -76,4 +76,5 @@ Step class old (Compare first second) answer new =
 Step class old (Text slot) answer new =
     Replied (CellMust (cell_at old slot)) (λ r. r ≡ Memory)
     (λ answer new. Tells (cell_at old slot) answer × (new ≡ old)) old answer new
+Step class old (ThroughSend slot) answer new = TableChanged old slot change.ThroughSend answer new
 Step class old (Drop slot) answer new = TableChanged old slot change.Drop answer new

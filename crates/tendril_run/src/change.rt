@@ -1,6 +1,6 @@
 //! What a command changes in the one text that it names.
 
-use crate::command::Kind;
+use tendril_lines::Kind;
 
 /// A change of one slot.
 #[derive(Clone, Copy)]
@@ -10,6 +10,7 @@ pub(crate) enum Change {
     Edit(Edit),
     EditBytes(ByteEdit),
     Convert(Conversion),
+    ThroughSend,
     Drop,
 }
 

@@ -1,4 +1,4 @@
-//! Commands over tables of texts, and the lines in which they are written.
+//! Commands over tables of texts, in one thread or in many.
 //!
 //! A table is seen by contracts as a list of independent cells. What its texts share is never seen: each command
 //! changes the cell that it names, or adds one, and leaves all others.
@@ -6,18 +6,15 @@
 
 mod change;
 mod classifier;
-mod command;
-mod line;
-mod reply;
+mod gate;
 mod slot;
 mod table;
 mod text;
-mod words;
+mod workers;
 
 pub use classifier::Classifier;
-pub use command::{Command, Comparison, Kind, Reply};
-pub use line::parse_line;
-pub use reply::print_reply;
+pub use gate::Gate;
 pub use slot::Slot;
 pub use table::{Table, run};
-pub use tendril_words::ByteList;
+pub use tendril_lines::{ByteList, Command, Comparison, Kind, Reply, parse_line, print_reply};
+pub use workers::{Job, Outcome, run_tables};

@@ -10,13 +10,12 @@ mod convert;
 
 use crate::change::{ByteEdit, Change, Edit};
 use crate::classifier::Classifier;
-use crate::command::{Kind, Reply};
 use crate::text;
 use std::alloc::Global;
 use tendril::block::Refusal;
 use tendril::fmt::{ASCII, Bytes, Latin1, UTF8, WTF8};
 use tendril::{Atomicity, Tendril};
-use tendril_words::ByteList;
+use tendril_lines::{ByteList, Kind, Reply};
 
 /// A text in one of the formats, or nothing any more.
 #[derive(Drop)]
@@ -148,6 +147,7 @@ impl<A: Atomicity> Slot<A> {
             Change::Edit(edit) => self.edit(edit),
             Change::EditBytes(edit) => self.edit_bytes(edit),
             Change::Convert(conversion) => self.convert(conversion),
+            Change::ThroughSend => self.through_send(),
             Change::Drop => self.drop_text(),
         }
     }
@@ -241,6 +241,14 @@ impl<A: Atomicity> Slot<A> {
             Slot::Gone => gone(),
             _ => Reply::Refused(Refusal::WrongFormat),
         }
+    }
+
+    // Puts in the text's place what comes back of it from another thread.
+    fn through_send(&mut self) -> Reply
+        ensures changed { CellChanged (cell_of self.old) Change.ThroughSend result (cell_of self.new) }
+        ensures kept { IsCell (cell_of self.old) → IsCell (cell_of self.new) }
+    {
+        on_text!(self, _kind, text => text::through_send(text), gone())
     }
 
     /// A part of the text.

@@ -13,15 +13,15 @@ use crate::change::Change::{self, Convert, EditBytes};
 use crate::change::Conversion::{Reinterpret, ToSubset, ToSuperset};
 use crate::change::Edit::{Clear, PopBack, PopFront, Reserve};
 use crate::classifier::Classifier;
-use crate::command::{Command, Kind, Reply};
 use crate::slot::{Slot, gone};
 pub use chain::run;
+pub(crate) use chain::run_behind;
 use std::alloc::Global;
 use std::marker::Model;
 use std::mem;
 use tendril::Atomicity;
 use tendril::block::Refusal;
-use tendril_words::ByteList;
+use tendril_lines::{ByteList, Command, Kind, Reply};
 
 /// Slots that are numbered from 0, each with a text or gone.
 #[derive(Drop)]
@@ -130,6 +130,7 @@ impl<A: Atomicity> Table<A> {
             ),
             Command::Compare(first, second) => self.compare(*first, *second),
             Command::Text(slot) => self.text(*slot),
+            Command::ThroughSend(slot) => self.change(*slot, Change::ThroughSend),
             Command::Drop(slot) => self.change(*slot, Change::Drop),
         }
     }

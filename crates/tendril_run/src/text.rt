@@ -7,21 +7,20 @@ ghost use Rattle.tendril_run.specs.Characters.{first_of, without_first, TakesFir
 ghost use Rattle.std.specs.Cmp.Lexicographic.{pointwise};
 ghost use Rattle.tendril_run.specs.Comparisons.{in_order};
 ghost use Rattle.tendril_run.specs.Edits.{TextEdited, BytesEdited};
-ghost use Rattle.tendril_run.specs.OneCell.{CellTold};
+ghost use Rattle.tendril_run.specs.OneCell.{CellTold, SendMay};
 ghost use Rattle.tendril_run.specs.Rules.{TextPushed, Answered, Changed};
 ghost use Rattle.tendril.specs.Making.{MakesValidText};
 ghost use Rattle.tendril_block.specs.Outcomes.{NoneMust, LengthMust, CharMust, BytesMust, SliceMust, NoneMay, MemoryMay, CountMay, Gives};
 
 use crate::change::{ByteEdit, Edit};
 use crate::classifier::Classifier;
-use crate::command::{Comparison, Kind, Reply};
 use crate::slot::Slot;
 use std::alloc::Global;
 use std::cmp::Ordering;
 use tendril::block::{MAX_LEN, Refusal};
 use tendril::fmt::{CharFormat, Format};
 use tendril::{Atomicity, ByteTendril, SubtendrilError, Tendril};
-use tendril_words::ByteList;
+use tendril_lines::{ByteList, Comparison, Kind, Reply};
 
 /// A text of these bytes.
 pub(crate) fn from_bytes<F: Format, A: Atomicity>(
@@ -208,6 +207,29 @@ pub(crate) fn reinterpreted<F: Format, A: Atomicity>(
         Kind::Wtf8 => Ok(Slot::Wtf8(text.try_reinterpret()?)),
         Kind::Latin1 => Ok(Slot::Latin1(text.try_reinterpret()?)),
     }
+}
+
+/// Puts in the text's place what comes back of a clone of it from another thread.
+pub(crate) fn through_send<F: Format, A: Atomicity>(text: &mut Tendril<F, A>) -> Reply
+    ensures done { Changed NoneMust (SendMay (length text.old.bytes))
+        text.old.bytes text.old.bytes result text.new.bytes }
+    ensures kept { IsText F.valid text.old.bytes → IsText F.valid text.new.bytes }
+{
+    match sent_and_back(text) {
+        Ok(back) => {
+            *text = back;
+            Reply::Done
+        }
+        Err(refusal) => Reply::Refused(refusal),
+    }
+}
+
+fn sent_and_back<F: Format, A: Atomicity>(text: &Tendril<F, A>) -> Result<Tendril<F, A>, Refusal>
+    ensures bytes { IfOk result (λ t. t.bytes ≡ text.now.bytes) }
+    ensures refusal { IfErr result (SendMay (length text.now.bytes)) }
+{
+    let sent = text.clone()?.into_send().map_err(|(refusal, _)| refusal)?;
+    Tendril::from_send(sent).map_err(|(refusal, _)| refusal)
 }
 
 /// A part of the text.

@@ -1,5 +1,7 @@
 //! Texts that go to another thread, and come back.
 
+use crate::louder_in_a_worker;
+use std::alloc::Global;
 use std::marker::Send;
 use std::process::Abort;
 use std::test::Fail;
@@ -98,23 +100,56 @@ fn what_may_be_sent(rt: HostRuntime) -> Result<(), Fail> {
     Ok(())
 }
 
-// Pushes an exclamation mark in the thread that it runs in.
-fn louder(text: SendTendril<UTF8>) -> Result<SendTendril<UTF8>, Refusal> {
-    let mut text: StrTendril = Tendril::from_send(text).map_err(|(refusal, _)| refusal)?;
-    text.push_slice("!")?;
-    text.into_send().map_err(|(refusal, _)| refusal)
-}
-
 #[test]
 fn a_worker_changes_a_text(rt: HostRuntime) -> Result<(), Fail> {
     for (text, expected) in [("hello", "hello!"), ("hello, worker", "hello, worker!")] {
         let text: StrTendril = str_to_tendril(rt.alloc(), text)?;
-        let text = text.into_send().ok().ok_or("into_send")?;
-        let worker = thread::spawn_with(&rt, Anything, move || louder(text))?;
-        let text: StrTendril = Tendril::from_send(worker.join(&rt)?)
-            .ok()
-            .ok_or("from_send")?;
-        assert_eq!(rt; text.as_byte_slice(), expected.as_bytes());
+        assert_eq!(rt;
+            louder_in_a_worker(&rt, text)?.as_byte_slice(),
+            expected.as_bytes()
+        );
+    }
+    Ok(())
+}
+
+// Pushes the byte to each text, in the thread that this runs in.
+fn pushed(
+    alloc: Global,
+    texts: Vec<SendTendril<Bytes>>,
+    byte: u8,
+) -> Result<Vec<SendTendril<Bytes>>, Refusal> {
+    let mut pushed = Vec::new(alloc);
+    for text in texts {
+        let mut text: ByteTendril = Tendril::from_send(text).map_err(|(refusal, _)| refusal)?;
+        text.push_slice(&[byte])?;
+        let text = text.into_send().map_err(|(refusal, _)| refusal)?;
+        pushed.push(text).map_err(|_| Refusal::Memory)?;
+    }
+    Ok(pushed)
+}
+
+#[test]
+fn a_thousand_texts_pass_four_threads(rt: HostRuntime) -> Result<(), Fail> {
+    let alloc = rt.alloc();
+    let mut texts = Vec::new(alloc);
+    for number in 0..1000usize {
+        let letters = &LETTERS.as_bytes()[..number % 53];
+        let text: ByteTendril = slice_to_tendril(rt.alloc(), letters)?;
+        texts.push(text.into_send().ok().ok_or("into_send")?)?;
+    }
+    for byte in *b"1234" {
+        let worker = thread::spawn_with(&rt, Anything, move || pushed(alloc, texts, byte))?;
+        texts = worker.join(&rt)?;
+    }
+    assert_eq!(rt; texts.len(), 1000);
+    for (number, text) in texts.into_iter().enumerate() {
+        let text: ByteTendril = Tendril::from_send(text).ok().ok_or("from_send")?;
+        let (letters, digits) = text
+            .as_byte_slice()
+            .split_at_checked(number % 53)
+            .ok_or("too short")?;
+        assert_eq!(rt; letters, &LETTERS.as_bytes()[..number % 53]);
+        assert_eq!(rt; digits, b"1234".as_slice());
     }
     Ok(())
 }

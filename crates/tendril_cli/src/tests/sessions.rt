@@ -351,6 +351,25 @@ fn texts_compared(rt: HostRuntime) -> Result<(), Fail> {
     )
 }
 
+#[test]
+fn texts_that_are_sent(rt: HostRuntime) -> Result<(), Fail> {
+    check_session(
+        rt.alloc(),
+        "from utf8 6162 => slot 0
+        send 0 => ok
+        text 0 => utf8 6162
+        from bytes 3031323334353637383961 => slot 1
+        slice 1 1 9 => slot 2
+        send 2 => ok
+        text 2 => bytes 313233343536373839
+        send 1 => ok
+        text 1 => bytes 3031323334353637383961
+        send 3 => refused 13 NoSuchSlot
+        drop 0 => ok
+        send 0 => refused 13 NoSuchSlot",
+    )
+}
+
 // Twenty commands on slots from this number on, with each command of a table among them.
 fn twenty_commands<W: Write>(
     script: &mut W,

@@ -4,12 +4,12 @@ ghost use Rattle.tendril_run.specs.Cells.{IsCell};
 ghost use Rattle.tendril_run.specs.OneCell.{CellChanged, Converts};
 
 use crate::change::{Change, Conversion};
-use crate::command::{Kind, Reply};
 use crate::slot::Slot;
 use crate::text;
 use std::mem;
 use tendril::Atomicity;
 use tendril::block::Refusal;
+use tendril_lines::{Kind, Reply};
 
 impl<A: Atomicity> Slot<A> {
     // Changes the text's format.

@@ -4,10 +4,11 @@ ghost use Rattle.tendril_run.specs.Cells.{IsCell};
 ghost use Rattle.tendril_run.specs.Chains.{Chain};
 
 use crate::classifier::Classifier;
-use crate::command::{Command, Reply};
+use crate::gate::{Gate, Open};
 use crate::table::Table;
 use tendril::Atomicity;
 use tendril::block::Refusal;
+use tendril_lines::{Command, Reply};
 
 /// Carries out commands in order and answers one reply a command.
 ///
@@ -24,10 +25,27 @@ pub fn run<A: Atomicity, C: Classifier>(
     ensures refusal { IfErr result (λ r. r ≡ Refusal.Memory) }
     ensures err { OnErr result (table.new.cells ≡ table.old.cells) }
 {
+    run_behind(table, commands, classifier, &Open)
+}
+
+/// The same, where the gate is called before each command.
+pub(crate) fn run_behind<A: Atomicity, C: Classifier, G: Gate>(
+    table: &mut Table<A>,
+    commands: &[Command],
+    classifier: &C,
+    gate: &G,
+) -> Result<Vec<Reply>, Refusal>
+    ensures run { IfOk result (λ replies.
+        Chain (C.class classifier.now) table.old.cells commands.now replies.items table.new.cells) }
+    ensures valid { All IsCell table.new.cells }
+    ensures refusal { IfErr result (λ r. r ≡ Refusal.Memory) }
+    ensures err { OnErr result (table.new.cells ≡ table.old.cells) }
+{
     let mut replies = Vec::new(table.alloc);
     replies.reserve(commands.len())?;
     table.reserve_slots(commands.len())?;
-    for command in commands {
+    for (place, command) in commands.iter().enumerate() {
+        gate.before(place);
         let reply = table.step(command, classifier);
         replies.push_reserved(reply);
     }

@@ -18,6 +18,9 @@ returns-in-Clone-clause-step g c = rw c.in-Clone.is (c.clone_slot.ensures.step (
 pub returns-in-Text-clause-step : goal.returns-in-Text-clause-step
 returns-in-Text-clause-step g c = rw c.in-Text.is (c.text.ensures (g.C.Classifier.class c.args.classifier.now))
 
+pub returns-in-ThroughSend-clause-step : goal.returns-in-ThroughSend-clause-step
+returns-in-ThroughSend-clause-step g c = rw c.in-ThroughSend.is (c.change-in-ThroughSend.ensures.changed)
+
 pub returns-in-Drop-clause-step : goal.returns-in-Drop-clause-step
 returns-in-Drop-clause-step g c = rw c.in-Drop.is (c.change-in-Drop.ensures.changed)
 

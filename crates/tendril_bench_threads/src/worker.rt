@@ -1,0 +1,39 @@
+//! A text that is changed in another thread.
+ghost use Rattle.std.specs.Prelude.{◌≡◌, ◌++◌, IfOk, codes};
+
+use std::snapshot::Snapshot;
+use std::thread;
+use std::thread::{Promise, Threads};
+use tendril::block::Refusal;
+use tendril::fmt::UTF8;
+use tendril::{SendTendril, StrTendril, Tendril};
+
+/// The text with an exclamation mark at its end, which a thread of its own has put there.
+pub fn louder_in_a_worker<R: Threads>(rt: &R, text: StrTendril) -> Result<StrTendril, Refusal>
+    ensures { IfOk result (λ louder. louder.bytes ≡ text.bytes ++ codes "!") }
+{
+    let sent = text.into_send().map_err(|(refusal, _)| refusal)?;
+    let promise = Louder(Snapshot::of(&sent));
+    let Ok(worker) = thread::spawn_with(rt, promise, move || make_louder(sent)) else {
+        return Err(Refusal::Memory);
+    };
+    let back = worker.join(rt)?;
+    Tendril::from_send(back).map_err(|(refusal, _)| refusal)
+}
+
+// What the worker answers has this text and an exclamation mark.
+#[derive(Drop)]
+struct Louder(Snapshot<SendTendril<UTF8>>);
+
+impl Promise<Result<SendTendril<UTF8>, Refusal>> for Louder {
+    ghost kept_by = { λ p r. IfOk r (λ t. t ≡ p.0.value ++ codes "!") };
+}
+
+// Runs in the worker's thread.
+fn make_louder(text: SendTendril<UTF8>) -> Result<SendTendril<UTF8>, Refusal>
+    ensures { IfOk result (λ t. t ≡ text ++ codes "!") }
+{
+    let mut text: StrTendril = Tendril::from_send(text).map_err(|(refusal, _)| refusal)?;
+    text.push_slice("!")?;
+    text.into_send().map_err(|(refusal, _)| refusal)
+}

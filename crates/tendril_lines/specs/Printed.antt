@@ -1,0 +1,19 @@
+use Rattle.std.specs.Prelude.{ℕ, List, ◌++◌, codes, Some, None}
+use Rattle.std.specs.Fmt.{decimal}
+use Rattle.tendril_block.specs.Refusals.{number_of, name_of}
+use Rattle.tendril_lines.specs.Names.{kind_name, comparison_name}
+use Rattle.tendril_lines.specs.declared.command.Reply.{Reply}
+use Rattle.tendril_lines.specs.declared.command.Reply.TheVariants.{Done, Made, Char, Run, Compared, Text, Refused}
+use Rattle.tendril_words.specs.Words.{hex_text}
+
+-- a reply's line
+abbrev pub printed : Reply → List ℕ
+printed Done = codes "ok"
+printed (Made slot) = codes "slot " ++ decimal slot
+printed (Char None) = codes "none"
+printed (Char (Some c)) = codes "char " ++ decimal c
+printed (Run None) = codes "none"
+printed (Run (Some (slot, class))) = codes "run " ++ decimal slot ++ codes " " ++ decimal class
+printed (Compared comparison) = comparison_name comparison
+printed (Text kind b) = kind_name kind ++ codes " " ++ hex_text b
+printed (Refused r) = codes "refused " ++ decimal (number_of r) ++ codes " " ++ name_of r
