@@ -5,5 +5,6 @@ pub mod Parts
 pub mod Pushes
 pub mod Characters
 pub mod Comparisons
+pub mod Decoding
 pub mod Items
 pub mod Writes

@@ -6,14 +6,17 @@ mod chars;
 mod error;
 mod items;
 mod tendril;
+mod utf8_decode;
 mod view;
 
 pub use crate::error::SubtendrilError;
 pub use crate::tendril::{
     ByteTendril, SendTendril, StrTendril, Tendril, slice_to_tendril, str_to_tendril,
 };
+pub use crate::utf8_decode::{Handed, IncompleteUtf8};
 pub use crate::view::View;
 pub use tendril_block as block;
 pub use tendril_block::{Atomic, Atomicity, NonAtomic};
 pub use tendril_fmt::fmt::{CharFormat, Format};
 pub use tendril_fmt::{fmt, futf};
+pub use tendril_lossy as lossy;

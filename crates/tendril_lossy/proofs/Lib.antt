@@ -1,5 +1,7 @@
 pub mod Faults
 pub mod Lossy
 pub mod Streams
-pub mod Carry
+pub mod Fronts
 pub mod Windows
+pub mod Resume
+pub mod Completions

@@ -1,5 +1,5 @@
 -- The items of a stream, step by step.
-use Rattle.std.proofs.Common.{◌≡◌, ◌⊎◌, ℕ, zero, suc, ◌+◌, ◌<◌, ◌≤◌, true, cond, List, [], ◌∷◌, ◌++◌, length, take, drop, map, slice_index, Some, None, IsUtf8, refl, sym, ap, ap₂, subst, ◌∙◌, arith, inl, inr, ⊎_elim, append_assoc, append-nil, length-append, length-drop, length-take-le, take-append-drop, take_at, drop_at, drop-drop, take-add, true≢false}
+use Rattle.std.proofs.Common.{◌≡◌, ◌⊎◌, ℕ, zero, suc, ◌+◌, ◌<◌, ◌≤◌, true, cond, List, [], ◌∷◌, ◌++◌, length, take, drop, map, slice_index, Some, None, IsUtf8, refl, sym, ap, subst, ◌∙◌, arith, inl, inr, ⊎_elim, append_assoc, append-nil, length-append, length-drop, take-append-drop, take_at, drop_at, take-add, true≢false}
 use Rattle.std.specs.Prelude.{Option}
 use Rattle.std.specs.Char.{encode_utf8, IsScalar, len_utf8}
 use Rattle.std.specs.Str.{StartsWithNoChar, IsValidUpTo, chars, encode_utf8_all, all_scalars}
@@ -126,38 +126,6 @@ none_after bs n valid c rest s e =
     valid.longest (n + w) (omega (arith, (len_utf8_bounds c).0))
     (subst IsUtf8 (sym (take-add n w bs ∙ ap (λ l. take n bs ++ l) one)) (IsUtf8-append (take n bs) (encode_utf8 c) valid.front (IsUtf8-encode c s)))
 
-pub decodes-bad : (bs : List ℕ) (n k : ℕ) → IsValidUpTo bs n → utf8_error_len (drop n bs) ≡ Some k → (cs : List ℕ) → all_scalars cs ≡ true → encode_utf8_all cs ≡ take n bs
-    → lossy bs ≡ map Keep cs ++ (Bad k ∷ lossy (drop (n + k) bs))
-decodes-bad bs n k valid e cs s is =
-    let short = valid.short in
-    ap lossy (sym (take-append-drop n bs) ∙ ap (λ l. l ++ drop n bs) (sym is)) ∙ lossy-front cs (drop n bs) s
-    ∙ ap (λ l. map Keep cs ++ l) (lossy-bad (drop n bs) k (omega (arith, length-drop n bs)) (none_after bs n valid) e ∙ ap (λ l. Bad k ∷ lossy l) (drop-drop k n bs))
-
-pub decodes-cut : (bs : List ℕ) (n : ℕ) → IsValidUpTo bs n → utf8_error_len (drop n bs) ≡ None → (cs : List ℕ) → all_scalars cs ≡ true → encode_utf8_all cs ≡ take n bs
-    → lossy bs ≡ map Keep cs ++ (Cut (drop n bs) ∷ [])
-decodes-cut bs n valid e cs s is =
-    let short = valid.short in
-    ap lossy (sym (take-append-drop n bs) ∙ ap (λ l. l ++ drop n bs) (sym is)) ∙ lossy-front cs (drop n bs) s
-    ∙ ap (λ l. map Keep cs ++ l) (lossy-cut (drop n bs) (omega (arith, length-drop n bs)) (none_after bs n valid) e)
-
--- The same by the text at the front.
-
 pub part_whole : (bs t : List ℕ) → IsUtf8 bs → t ≡ bs → lossy bs ≡ map Keep (chars t) ++ []
 part_whole bs t u e =
     ap lossy (sym u.1.1) ∙ lossy-text u.0 u.1.0 ∙ ap (map Keep) (chars_from_encodes u.0 bs u u.1.1 ∙ ap chars (sym e)) ∙ sym (append-nil (map Keep (chars t)))
-
-pub part_bad : (bs t : List ℕ) (n k : ℕ) → IsValidUpTo bs n → t ≡ take n bs → utf8_error_len (drop n bs) ≡ Some k → lossy bs ≡ map Keep (chars t) ++ Bad k ∷ lossy (drop (length t + k) bs)
-part_bad bs t n k valid e fault =
-    let u = valid.front in
-    let short = valid.short in
-    let same : u.0 ≡ chars t = chars_from_encodes u.0 (take n bs) u u.1.1 ∙ ap chars (sym e) in
-    let long : n ≡ length t = sym (length-take-le n bs (omega arith)) ∙ ap length (sym e) in
-    decodes-bad bs n k valid fault u.0 u.1.0 u.1.1 ∙ ap₂ (λ cs m. map Keep cs ++ Bad k ∷ lossy (drop (m + k) bs)) same long
-
-pub part_cut : (bs t : List ℕ) (n : ℕ) → IsValidUpTo bs n → t ≡ take n bs → utf8_error_len (drop n bs) ≡ None → lossy bs ≡ map Keep (chars t) ++ Cut (drop (length t) bs) ∷ []
-part_cut bs t n valid e fault =
-    let u = valid.front in
-    let short = valid.short in
-    let same : u.0 ≡ chars t = chars_from_encodes u.0 (take n bs) u u.1.1 ∙ ap chars (sym e) in
-    let long : n ≡ length t = sym (length-take-le n bs (omega arith)) ∙ ap length (sym e) in
-    decodes-cut bs n valid fault u.0 u.1.0 u.1.1 ∙ ap₂ (λ cs m. map Keep cs ++ Cut (drop m bs) ∷ []) same long

@@ -7,7 +7,7 @@ use Rattle.std.proofs.lemmas.List.{take-take, drop-take, length-take}
 use Rattle.std.proofs.Math.Seq.{take-length}
 use Rattle.tendril_lossy.specs.Lossy.{Keep, Bad, Cut, lossy}
 use Rattle.tendril_lossy.proofs.Lossy.{none_after, lossy-cut}
-use Rattle.tendril_lossy.proofs.Carry.{text_front, bad_front}
+use Rattle.tendril_lossy.proofs.Fronts.{text_front, bad_front}
 
 -- text, and text after it
 pub grow : (bs : List ℕ) (at n : ℕ) → IsUtf8 (take at bs) → IsUtf8 (take n (drop at bs)) → IsUtf8 (take (at + n) bs)

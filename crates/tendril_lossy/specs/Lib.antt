@@ -1,2 +1,3 @@
 pub mod Lossy
 pub mod Laws
+pub mod Completions

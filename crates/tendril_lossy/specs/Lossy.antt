@@ -71,6 +71,12 @@ due bs = flat_map due_of (lossy bs)
 abbrev pub due_open : List ℕ → List Told
 due_open bs = flat_map closed_of (lossy bs)
 
+-- the characters among what was told
+abbrev pub characters : List Told → List ℕ
+characters [] = []
+characters (Char c ∷ told) = c ∷ characters told
+characters (Mark words ∷ told) = characters told
+
 -- the bytes that wait for the rest of their character
 abbrev pub cut_bytes : List Item → List ℕ
 cut_bytes [] = []
@@ -107,3 +113,9 @@ abbrev pub items_after : List ℕ → ℕ → Ending → List Item
 items_after bs n Whole = []
 items_after bs n (Broken k) = Bad k ∷ lossy (drop (n + k) bs)
 items_after bs n Open = Cut (drop n bs) ∷ []
+
+-- what breaks the bytes after n of them has a byte or more, all of them there
+abbrev pub EndsWithin : List ℕ → ℕ → Ending → Type 0
+EndsWithin bs n Whole = Unit {0}
+EndsWithin bs n (Broken k) = (0 < k) × (n + k ≤ length bs)
+EndsWithin bs n Open = Unit {0}

@@ -1,9 +1,10 @@
 //! Laws of lossy decoding.
-ghost use Rattle.tendril_lossy.specs.Laws.{ItemsAreLossy, GoesOn};
+ghost use Rattle.tendril_lossy.specs.Laws.{ItemsAreLossy, GoesOn, Resumes};
 
-/// The definition of lossy decoding gives the items that Unicode's practice of maximal subparts gives, and no others; and
-/// a stream may be cut anywhere.
+/// The definition of lossy decoding gives the items that Unicode's practice of maximal subparts gives, and no others; a
+/// stream may be cut anywhere; and who completes the bytes that are kept at a cut goes on with the rest.
 pub fn laws()
     ensures items { ItemsAreLossy }
     ensures goes_on { GoesOn }
+    ensures resumes { Resumes }
 {}

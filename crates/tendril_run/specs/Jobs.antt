@@ -1,4 +1,4 @@
-use Rattle.std.specs.Prelude.{ℕ, ◌≡◌, List, [], ◌∷◌, Result, Ok, Err}
+use Rattle.std.specs.Prelude.{ℕ, ◌≡◌, List, Result, Ok, Err}
 use Rattle.tendril_block.specs.declared.refusal.Refusal.{Refusal}
 use Rattle.tendril_block.specs.declared.refusal.Refusal.TheVariants.{Memory}
 use Rattle.tendril_run.specs.Cells.{Cell}
@@ -7,13 +7,6 @@ use Rattle.tendril_lines.specs.declared.command.Command.{Command}
 use Rattle.tendril_lines.specs.declared.command.Reply.{Reply}
 use Rattle.tendril_run.specs.declared.workers.Outcome.{Outcome}
 use Rattle.tendril_run.specs.declared.workers.Outcome.TheVariants.{Done, Refused, NotStarted}
-
--- two lists of one length, whose items stand in the relation, in their order
-abbrev pub Each : {X Y : Type 0} → (X → Y → Type 0) → List X → List Y → Type 0
-Each R [] [] = Unit {0}
-Each R (x ∷ xs) (y ∷ ys) = R x y × Each R xs ys
-Each R [] (y ∷ ys) = ⊥
-Each R (x ∷ xs) [] = ⊥
 
 -- what a worker hands back of a table and its commands: the chain's replies, or the table as it was
 abbrev pub Worked : {V : Type 0} → (V → List Reply) → (ℕ → ℕ) → List Cell → List Command → List Cell → Result V Refusal → Type 0

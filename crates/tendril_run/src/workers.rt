@@ -1,6 +1,7 @@
 //! A thread for each table.
 ghost use Rattle.std.specs.Prelude.{◌≡◌, ◌≤◌, ◌+◌, [], IfOk, IfErr, IfSome, MatchOption, vec_len, vec_capacity};
-ghost use Rattle.tendril_run.specs.Jobs.{Each, Worked, Ends};
+ghost use Rattle.std.specs.List.{AllZip};
+ghost use Rattle.tendril_run.specs.Jobs.{Worked, Ends};
 
 use crate::classifier::Classifier;
 use crate::gate::Gate;
@@ -59,7 +60,7 @@ pub fn run_tables<
     G: Gate + Send + Drop + 'static,
 >(rt: &R, alloc: Global, jobs: Vec<Job<C, G>>) -> Result<Vec<Outcome>, (Refusal, Vec<Job<C, G>>)>
     ensures ok { IfOk result (λ outcomes.
-        Each (λ j o. Ends (C.class j.class) j.table.cells j.commands.items o) jobs.items outcomes.items) }
+        AllZip (λ j o. Ends (C.class j.class) j.table.cells j.commands.items o) jobs.items outcomes.items) }
     ensures refusal { IfErr result (λ e. e.0 ≡ Refusal.Memory) }
     ensures back { IfErr result (λ e. e.1 ≡ jobs) }
 {
@@ -80,7 +81,7 @@ fn start_all<R: Threads, C: Classifier + Send + Drop + 'static, G: Gate + Send +
 ) -> Vec<Worker<C, G>>
     requires empty { workers.items ≡ [] }
     requires room { vec_len workers + vec_len jobs ≤ vec_capacity workers }
-    ensures each { Each (λ j w. IfSome w (λ h. h.promise.0.value ≡ j)) jobs.items result.items }
+    ensures each { AllZip (λ j w. IfSome w (λ h. h.promise.0.value ≡ j)) jobs.items result.items }
     ensures len { vec_len result ≡ vec_len workers + vec_len jobs }
 {
     for job in jobs {
@@ -121,7 +122,7 @@ fn join_all<R: Threads, C: Classifier, G>(
 ) -> Vec<Outcome>
     requires empty { outcomes.items ≡ [] }
     requires room { vec_len outcomes + vec_len workers ≤ vec_capacity outcomes }
-    ensures { Each (λ w o. MatchOption w (o ≡ Outcome.NotStarted)
+    ensures { AllZip (λ w o. MatchOption w (o ≡ Outcome.NotStarted)
         (λ h. let job = h.promise.0.value in Ends (C.class job.class) job.table.cells job.commands.items o))
         workers.items result.items }
 {

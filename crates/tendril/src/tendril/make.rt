@@ -1,5 +1,5 @@
 //! Texts that are made: empty ones, and copies of bytes, strings and other texts.
-ghost use Rattle.std.specs.Prelude.{◌≡◌, ◌<◌, [], string_bytes};
+ghost use Rattle.std.specs.Prelude.{◌≡◌, ◌<◌, ◌≤◌, [], length, string_bytes};
 ghost use Rattle.tendril.specs.Making.{IsTextOf, MakesText, MakesValidText};
 ghost use Rattle.tendril.specs.Parts.{Clones};
 ghost use Rattle.tendril_block.specs.Outcomes.{NoneMust, MemoryMay, Gives};
@@ -63,6 +63,18 @@ impl<F: Format, A: Atomicity> Tendril<F, A> {
         ensures { Clones self.now.bytes result }
     {
         share(&self.storage)
+    }
+
+    /// A text of few bytes, with the allocator of this one. It stands inline.
+    pub(crate) fn short(&self, text: &str) -> Tendril<UTF8, A>
+        requires { length text.now ≤ 8 }
+        ensures bytes { result.bytes ≡ text.now }
+        ensures copied { result.copied ≡ length text.now }
+    {
+        Tendril {
+            storage: Storage::inline(self.storage.allocator(), text.as_bytes()),
+            format: PhantomData,
+        }
     }
 }
 

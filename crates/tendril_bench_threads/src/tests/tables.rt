@@ -1,5 +1,6 @@
 //! Tables that are worked on by threads.
 
+use crate::tests::OneClass;
 use std::alloc::Global;
 use std::process::Abort;
 use std::sync::Arc;
@@ -8,22 +9,9 @@ use std::test::Fail;
 use std::thread;
 use tendril::fmt::Bytes;
 use tendril::{Atomic, Tendril, slice_to_tendril};
-use tendril_run::{
-    ByteList, Classifier, Command, Gate, Job, Outcome, Reply, Slot, Table, print_reply, run_tables,
-};
+use tendril_run::{ByteList, Command, Gate, Job, Outcome, Slot, Table, print_reply, run_tables};
 
 const DIGITS: &[u8] = b"0123456789abcdef";
-
-#[derive(Drop)]
-struct OneClass;
-
-impl Classifier for OneClass {
-    ghost class = { λ _ _. 0 };
-
-    fn class_of(&self, _character: char) -> u32 {
-        0
-    }
-}
 
 #[derive(Drop)]
 struct NoGate;

@@ -1,20 +1,11 @@
 //! A text's way through another thread, as a command.
 
+use crate::tests::OneClass;
 use std::alloc::Global;
 use std::process::Abort;
 use std::test::Fail;
 use tendril::{Atomic, Atomicity, NonAtomic};
-use tendril_run::{Classifier, Table, parse_line, print_reply, run};
-
-struct OneClass;
-
-impl Classifier for OneClass {
-    ghost class = { λ _ _. 0 };
-
-    fn class_of(&self, _character: char) -> u32 {
-        0
-    }
-}
+use tendril_run::{Table, parse_line, print_reply, run};
 
 // Runs the lines of a script, each followed by what is answered to it.
 fn check_script<A: Atomicity>(

@@ -2,6 +2,7 @@
 ghost use Rattle.std.specs.Prelude.{◌≡◌, IfOk, IfErr, OnErr, All};
 ghost use Rattle.tendril_run.specs.Cells.{IsCell};
 ghost use Rattle.tendril_run.specs.Chains.{Chain};
+ghost use Rattle.tendril_run.specs.Jobs.{Worked};
 
 use crate::classifier::Classifier;
 use crate::gate::{Gate, Open};
@@ -25,7 +26,10 @@ pub fn run<A: Atomicity, C: Classifier>(
     ensures refusal { IfErr result (λ r. r ≡ Refusal.Memory) }
     ensures err { OnErr result (table.new.cells ≡ table.old.cells) }
 {
-    run_behind(table, commands, classifier, &Open)
+    let replies = run_behind(table, commands, classifier, &Open);
+    // The table keeps that each cell is valid.
+    let _ = &table.slots;
+    replies
 }
 
 /// The same, where the gate is called before each command.
@@ -35,11 +39,8 @@ pub(crate) fn run_behind<A: Atomicity, C: Classifier, G: Gate>(
     classifier: &C,
     gate: &G,
 ) -> Result<Vec<Reply>, Refusal>
-    ensures run { IfOk result (λ replies.
-        Chain (C.class classifier.now) table.old.cells commands.now replies.items table.new.cells) }
-    ensures valid { All IsCell table.new.cells }
-    ensures refusal { IfErr result (λ r. r ≡ Refusal.Memory) }
-    ensures err { OnErr result (table.new.cells ≡ table.old.cells) }
+    ensures { Worked (λ v. v.items) (C.class classifier.now)
+        table.old.cells commands.now table.new.cells result }
 {
     let mut replies = Vec::new(table.alloc);
     replies.reserve(commands.len())?;
@@ -49,7 +50,5 @@ pub(crate) fn run_behind<A: Atomicity, C: Classifier, G: Gate>(
         let reply = table.step(command, classifier);
         replies.push_reserved(reply);
     }
-    // The table keeps that each cell is valid.
-    let _ = &table.slots;
     Ok(replies)
 }

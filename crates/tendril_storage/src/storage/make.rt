@@ -47,8 +47,8 @@ impl<A: Atomicity> Storage<A> {
         Self::copied(alloc, bytes, bytes.len())
     }
 
-    // A copy of few bytes.
-    fn inline(alloc: Global, bytes: &[u8]) -> Self
+    /// A copy of few bytes. Takes no memory.
+    pub fn inline(alloc: Global, bytes: &[u8]) -> Self
         requires fits { length bytes.now ≤ 8 }
         ensures bytes { result.bytes ≡ bytes.now }
         ensures copied { result.copied ≡ length bytes.now }

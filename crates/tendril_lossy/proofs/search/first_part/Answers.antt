@@ -1,6 +1,7 @@
-use Rattle.std.proofs.Common.{◌≡◌, ◌∙◌, ◌+◌, ◌-◌, sym, ap, subst, take, drop, IsUtf8, arith}
+use Rattle.std.proofs.Common.{rules, ◌≡◌, ◌∙◌, ◌+◌, ◌-◌, sym, ap, subst, take, drop, IsUtf8, arith}
 use Rattle.std.proofs.lemmas.List.{length-take}
 use Rattle.tendril_lossy.proofs.Lossy.{part_whole}
+use Rattle.tendril_lossy.proofs.Fronts.{ends_within}
 use Rattle.tendril_lossy.proofs.Windows.{grow, whole, grow_front, window_bad, rest_cut}
 use Rattle.tendril_lossy.proofs.search.first_part.Goals.{in-Ok, in-Err+in_default}
 use Rattle.tendril_lossy.proofs.search.first_part.Goals as goal
@@ -28,11 +29,13 @@ loop-window-preserved c =
     let i = c.loop-window.invariant in
     let some = i.some in
     let test = c.loop-window-test.true in
+    let end = c.char_start-end.result in
+    let near = c.char_start-end.ensures in
     elim c.match-from_utf8.branch [
       | in-Ok b ↦
           record {
-            text = subst (λ n. IsUtf8 (take n bs)) (sym b.at-is) (subst (λ n. IsUtf8 (take n bs)) (let e : at + (at + w - at) ≡ at + w = omega arith in e) (grow bs at (at + w - at) i.text b.in-Ok.ensures.cases.1));
-            within = omega (arith, b.at-is, test);
+            text = subst (λ n. IsUtf8 (take n bs)) (sym b.at-is) (subst (λ n. IsUtf8 (take n bs)) (let e : at + (end - at) ≡ end = omega (arith, near) in e) (grow bs at (end - at) i.text b.in-Ok.ensures.cases.1));
+            within = omega (arith, b.at-is, test, near);
             some = omega (arith, some);
           }
       | in-Err+in_default b ↦
@@ -40,36 +43,42 @@ loop-window-preserved c =
           let short = valid.short in
           record {
             text = subst (λ n. IsUtf8 (take n bs)) (sym b.at-is) (subst (λ n. IsUtf8 (take (at + n) bs)) (sym b.valid_up_to.ensures) (grow_front bs at _ _ i.text valid));
-            within = omega (arith, b.at-is, b.valid_up_to.ensures, short, length-take (at + w - at) (drop at bs), test);
+            within = omega (arith, b.at-is, b.valid_up_to.ensures, short, length-take (end - at) (drop at bs), test, near);
             some = omega (arith, some);
           }
     ]
 
 pub from_utf8_unchecked-requires : goal.from_utf8_unchecked-requires
-from_utf8_unchecked-requires c = whole c.args.bytes.now c.loop-window.at c.loop-window.invariant.text c.in-Ok-from_utf8.ensures.cases.1
+from_utf8_unchecked-requires c = whole c.args.bytes.now c.last_start-at.result c.last_start-at.ensures.text c.in-Ok-from_utf8.ensures.cases.1
 
 pub from_utf8_unchecked-text-requires-in-Err-from_utf8 : goal.from_utf8_unchecked-text-requires-in-Err-from_utf8
 from_utf8_unchecked-text-requires-in-Err-from_utf8 c =
     let bs = c.args.bytes.now in
-    let at = c.loop-window.at in
-    subst (λ n. IsUtf8 (take (at + n) bs)) (sym c.valid_up_to-in-Err-from_utf8.ensures) (grow_front bs at _ _ c.loop-window.invariant.text c.in-Err-from_utf8.ensures.cases.1)
+    let at = c.last_start-at.result in
+    subst (λ n. IsUtf8 (take (at + n) bs)) (sym c.valid_up_to-in-Err-from_utf8.ensures) (grow_front bs at _ _ c.last_start-at.ensures.text c.in-Err-from_utf8.ensures.cases.1)
 
 pub returns-in-Ok-from_utf8-clause-items : goal.returns-in-Ok-from_utf8-clause-items
-returns-in-Ok-from_utf8-clause-items c = part_whole c.args.bytes.now c.from_utf8_unchecked.result.now (whole c.args.bytes.now c.loop-window.at c.loop-window.invariant.text c.in-Ok-from_utf8.ensures.cases.1) c.from_utf8_unchecked.ensures
+returns-in-Ok-from_utf8-clause-items c = part_whole c.args.bytes.now c.from_utf8_unchecked.result.now (whole c.args.bytes.now c.last_start-at.result c.last_start-at.ensures.text c.in-Ok-from_utf8.ensures.cases.1) c.from_utf8_unchecked.ensures
 
 pub returns-in-Some-error_len-clause-items : goal.returns-in-Some-error_len-clause-items
 returns-in-Some-error_len-clause-items c =
     let bs = c.args.bytes.now in
-    let at = c.loop-window.at in
-    let within = c.loop-window.invariant.within in
-    window_bad bs _ at _ c.in-Err-from_utf8.error.valid_up_to c.in-Some-error_len.len c.loop-window.invariant.text (omega arith) c.in-Err-from_utf8.ensures.cases.1
+    let at = c.last_start-at.result in
+    let within = c.last_start-at.ensures.within in
+    window_bad bs _ at _ c.in-Err-from_utf8.error.valid_up_to c.in-Some-error_len.len c.last_start-at.ensures.text (omega arith) c.in-Err-from_utf8.ensures.cases.1
     (sym c.in-Err-from_utf8.ensures.fault ∙ sym c.error_len-in-Err-from_utf8.ensures ∙ c.in-Some-error_len.is)
     (c.from_utf8_unchecked-text-in-Err-from_utf8.ensures ∙ ap (λ n. take (at + n) bs) c.valid_up_to-in-Err-from_utf8.ensures)
 
 pub returns-in-None-clause-items : goal.returns-in-None-clause-items
 returns-in-None-clause-items c =
     let bs = c.args.bytes.now in
-    let at = c.loop-window.at in
-    rest_cut bs _ at c.in-Err-from_utf8.error.valid_up_to c.loop-window.invariant.text c.loop-window.invariant.within c.in-Err-from_utf8.ensures.cases.1
+    let at = c.last_start-at.result in
+    rest_cut bs _ at c.in-Err-from_utf8.error.valid_up_to c.last_start-at.ensures.text c.last_start-at.ensures.within c.in-Err-from_utf8.ensures.cases.1
     (sym c.in-Err-from_utf8.ensures.fault ∙ sym c.error_len-in-Err-from_utf8.ensures ∙ c.in-None.is)
     (c.from_utf8_unchecked-text-in-Err-from_utf8.ensures ∙ ap (λ n. take (at + n) bs) c.valid_up_to-in-Err-from_utf8.ensures)
+
+pub returns-in-Some-clause-within : goal.returns-in-Some-clause-within
+returns-in-Some-clause-within c = ends_within c.args.bytes.now _ c.in-Some.len (search rules) (returns-in-Some-clause-items c)
+
+pub returns-in-Some-error_len-clause-within : goal.returns-in-Some-error_len-clause-within
+returns-in-Some-error_len-clause-within c = ends_within c.args.bytes.now _ c.in-Some-error_len.len (search rules) (returns-in-Some-error_len-clause-items c)

@@ -1,0 +1,72 @@
+//! Texts that are handed on, in a list, for the other files.
+
+use std::alloc::{AllocError, Global};
+use std::process::Abort;
+use std::test::Fail;
+use tendril::block::Refusal;
+use tendril::{Atomicity, ByteTendril, IncompleteUtf8, StrTendril};
+
+/// The texts that a closure was handed. The closure can't fail, so a refused push is kept beside them.
+#[derive(Drop)]
+pub(crate) struct Collected<A: Atomicity> {
+    texts: Vec<StrTendril<A>>,
+    refused: Option<AllocError>,
+}
+
+impl<A: Atomicity> Collected<A> {
+    pub(crate) fn new(alloc: Global) -> Self {
+        Collected {
+            texts: Vec::new(alloc),
+            refused: None,
+        }
+    }
+
+    pub(crate) fn push(&mut self, text: StrTendril<A>) {
+        if let Err(error) = self.texts.push(text) {
+            self.refused = Some(error.into());
+        }
+    }
+
+    pub(crate) fn into_texts(self) -> Result<Vec<StrTendril<A>>, Fail> {
+        match self.refused {
+            Some(error) => Err(Fail::from(error)),
+            None => Ok(self.texts),
+        }
+    }
+}
+
+/// What a piece answers where it is decoded.
+pub(crate) type Answer<A> = Result<Option<IncompleteUtf8>, (Refusal, ByteTendril<A>)>;
+
+/// The texts that a piece hands on, and what it answers.
+pub(crate) fn decode<A: Atomicity>(
+    alloc: Global,
+    piece: ByteTendril<A>,
+) -> Result<(Vec<StrTendril<A>>, Answer<A>), Fail> {
+    let mut collected = Collected::new(alloc);
+    let answer = piece.decode_utf8_lossy(|text: StrTendril<A>| collected.push(text));
+    Ok((collected.into_texts()?, answer))
+}
+
+/// The texts that a piece hands on, and what is kept of its end, where it isn't refused.
+pub(crate) fn decode_all<A: Atomicity>(
+    alloc: Global,
+    piece: ByteTendril<A>,
+) -> Result<(Vec<StrTendril<A>>, Option<IncompleteUtf8>), Fail> {
+    let (texts, answer) = decode(alloc, piece)?;
+    match answer {
+        Ok(kept) => Ok((texts, kept)),
+        Err((refusal, _)) => Err(Fail::from(refusal)),
+    }
+}
+
+pub(crate) fn check_texts<A: Atomicity>(
+    rt: &impl Abort,
+    texts: &[StrTendril<A>],
+    expected: &[&str],
+) {
+    assert_eq!(rt; texts.len(), expected.len(), "in place of {expected:?}");
+    for (text, expected) in texts.iter().zip(expected) {
+        assert_eq!(rt; text.as_byte_slice(), expected.as_bytes());
+    }
+}

@@ -1,0 +1,42 @@
+-- Kept bytes that are completed from the input after them.
+use Rattle.std.specs.Prelude.{◌≡◌, ℕ, ◌<◌, ◌≤◌, ◌+◌, ◌-◌, ◌⊎◌, List, [], ◌++◌, length, take, drop, IsUtf8}
+use Rattle.std.specs.Str.{StartsWithNoChar}
+use Rattle.tendril_lossy.specs.Lossy.{IsOpen, IsMaximalSubpart}
+use Rattle.tendril_lossy.specs.declared.completion.Completion.{Completion}
+use Rattle.tendril_lossy.specs.declared.completion.Completion.TheVariants.{Text, Broken, Open}
+
+-- the longest front of the bytes that is a text
+pub record IsLongestText (bs t : List ℕ) : Type 0 where
+  pub front : t ≡ take (length t) bs
+  pub text : IsUtf8 t
+  pub longest : (m : ℕ) → length t < m → m ≤ length bs → IsUtf8 (take m bs) → ⊥
+
+-- The kept bytes, filled to at most four from the input, begin with the text t, and no longer one. The rest of the input
+-- is left. Only where there are no bytes at all the text is empty.
+pub record CompletesTo (kept input t rest : List ℕ) : Type 0 where
+  pub all : kept ++ input ≡ t ++ rest
+  pub longest : IsLongestText (take 4 (kept ++ input)) t
+  pub covers : length kept ≤ length t
+  pub within : length t ≤ length kept + length input
+  pub some : (0 < length t) ⊎ (kept ++ input ≡ [])
+
+-- no character begins them, b is their maximal subpart, and the rest of the input is left
+pub record BreaksAt (kept input b rest : List ℕ) : Type 0 where
+  pub all : kept ++ input ≡ b ++ rest
+  pub none : StartsWithNoChar (kept ++ input)
+  pub closed : IsOpen (kept ++ input) → ⊥
+  pub maximal : IsMaximalSubpart (kept ++ input) (length b)
+  pub covers : length kept ≤ length b
+  pub within : length b ≤ length kept + length input
+
+-- they still begin a character, with all of the input
+pub record StillOpen (kept input held : List ℕ) : Type 0 where
+  pub all : held ≡ kept ++ input
+  pub waits : IsOpen held
+  pub some : 0 < length held
+
+-- what a completion says of the kept bytes and the input
+abbrev pub Completes : List ℕ → List ℕ → Completion → Type 0
+Completes kept input (Text t) = CompletesTo kept input t (drop (length t - length kept) input)
+Completes kept input (Broken b) = BreaksAt kept input b (drop (length b - length kept) input)
+Completes kept input (Open held) = StillOpen kept input held

@@ -1,0 +1,87 @@
+//! Kept bytes that are completed from the input after them.
+ghost use Rattle.std.specs.Prelude.{◌≡◌, ◌≤◌, ◌++◌, length, take};
+ghost use Rattle.tendril_lossy.specs.Completions.{Completes};
+ghost use Rattle.tendril_lossy.specs.Lossy.{IsOpen};
+
+use crate::search::{Ending, first_part};
+use std::marker::Model;
+use tendril_fmt::fmt::Encoded;
+
+/// A text of at most four bytes.
+#[derive(Clone, Copy, Debug)]
+pub struct ShortText {
+    bytes: Encoded,
+}
+
+impl Model for ShortText {
+    ghost use Rattle.std.specs.Prelude.{ℕ, List, IsUtf8, refl};
+
+    ghost Value = { List ℕ };
+
+    ghost view = { λ t. t.bytes };
+
+    ghost invariant = { λ t. IsUtf8 t.bytes };
+
+    ghost inverse = { λ list. record { bytes = list } };
+
+    ghost inverse_ok = { λ t h. refl };
+}
+
+impl ShortText {
+    fn new(text: &str) -> Self
+        requires { length text.now ≤ 4 }
+        ensures { result ≡ text.now }
+    {
+        ShortText {
+            bytes: Encoded::new(text.as_bytes()),
+        }
+    }
+
+    /// The text.
+    pub fn as_str(&self) -> &str
+        ensures { result.now ≡ self.now }
+    {
+        unsafe { std::str::from_utf8_unchecked(self.bytes.as_slice()) }
+    }
+}
+
+/// What becomes of kept bytes that are filled to at most four from the input.
+#[derive(Clone, Copy, Debug)]
+pub enum Completion {
+    /// The longest text at their front.
+    Text(ShortText),
+    /// The maximal subpart, where no character begins them.
+    Broken(Encoded),
+    /// They still begin a character, with all of the input.
+    Open(Encoded),
+}
+
+/// Completes kept bytes from the input, of which it reads at most four bytes. What a text or a maximal subpart has beyond
+/// the kept bytes is the front of the input.
+pub fn complete(kept: &[u8], input: &[u8]) -> Completion
+    requires { IsOpen kept.now }
+    ensures { Completes kept.now input.now result }
+{
+    let filled = fill(kept, input);
+    let bytes = filled.as_slice();
+    let (front, ending) = first_part(bytes);
+    if !front.is_empty() {
+        return Completion::Text(ShortText::new(front));
+    }
+    match ending {
+        Ending::Whole => Completion::Text(ShortText::new(front)),
+        Ending::Broken(len) => Completion::Broken(Encoded::new(&bytes[..len])),
+        Ending::Open => Completion::Open(filled),
+    }
+}
+
+fn fill(kept: &[u8], input: &[u8]) -> Encoded
+    requires { length kept.now ≤ 4 }
+    ensures { result ≡ take 4 (kept.now ++ input.now) }
+{
+    let count = kept.len() + input.len().min(4 - kept.len());
+    let mut bytes = [0; 4];
+    bytes[..kept.len()].copy_from_slice(kept);
+    bytes[kept.len()..count].copy_from_slice(&input[..count - kept.len()]);
+    Encoded::new(&bytes[..count])
+}
