@@ -1,5 +1,5 @@
 -- Pieces that are decoded part by part.
-use Rattle.std.proofs.Common.{◌≡◌, ◌⊎◌, ℕ, ◌+◌, ◌-◌, ◌<◌, ◌≤◌, List, [], ◌∷◌, ◌++◌, length, take, drop, map, flat_map, Option, Some, None, Result, Ok, Err, IsUtf8, refl, sym, ap, ap₂, subst, ◌∙◌, arith, ⊎_elim, inl, inr, append_assoc, append-nil, length-append, drop_at, length-drop, length-take-le, length-take}
+use Rattle.std.proofs.Common.{◌≡◌, ◌⊎◌, ℕ, ◌+◌, ◌-◌, ◌<◌, ◌≤◌, List, [], ◌∷◌, ◌++◌, length, take, drop, map, flat_map, Option, Some, None, Result, Ok, Err, IsUtf8, refl, sym, ap, ap₂, subst, ◌∙◌, arith, ⊎_elim, inl, inr, append_assoc, append-nil, length-append, length-drop, length-take-le, length-take}
 use Rattle.std.proofs.lemmas.Grind.{flat_map-append}
 use Rattle.std.proofs.lemmas.List.{drop-drop}
 use Rattle.std.proofs.lemmas.List.Elements.{All-append, All-push, All-weaker}
@@ -9,7 +9,7 @@ use Rattle.std.specs.List.{All, FoldsTo}
 use Rattle.std.specs.Prelude.{IfSome, MatchResult, chars, encode_utf8}
 use lib.Utf8.{encode}
 use Rattle.tendril_lossy.proofs.Lossy.{lossy-nil}
-use Rattle.tendril_lossy.proofs.Completions.{IsFirstPart, past_all_kept, rest_items}
+use Rattle.tendril_lossy.proofs.Completions.{IsFirstPart, rest_items}
 use Rattle.tendril_lossy.proofs.Resume.{closed-keeps, cut-keeps}
 use Rattle.tendril_lossy.proofs.Streams.{IsLossy-lossy, only_lossy}
 use Rattle.tendril_lossy.specs.Completions.{BreaksAt, CompletesTo}
@@ -22,18 +22,18 @@ use Rattle.tendril_storage.specs.Texts.{Text, IsPart, Keeps}
 
 -- what is left of what is left
 
-part-through : (a b c : Text) → IsRest a b → (8 < length c.bytes → length c.bytes ≤ length b.bytes) → IsPart b c → IsPart a c
+pub part-through : (a b c : Text) → IsRest a b → (8 < length c.bytes → length c.bytes ≤ length b.bytes) → IsPart b c → IsPart a c
 part-through a b c (inl same) within p = subst (λ x. IsPart x c) same p
 part-through a b c (inr q) within p = (
   λ long. let w = within long in let first = q.0 in ⊎_elim inl (λ e. ⊎_elim (λ z. inl (e ∙ z)) (λ z. inr (e ∙ z)) (first (omega (arith, w, long)))) (p.0 long),
   p.1,
 )
 
-rest-through : (a b c : Text) → IsRest a b → (8 < length c.bytes → length c.bytes ≤ length b.bytes) → IsRest b c → IsRest a c
+pub rest-through : (a b c : Text) → IsRest a b → (8 < length c.bytes → length c.bytes ≤ length b.bytes) → IsRest b c → IsRest a c
 rest-through a b c q within (inl same) = subst (IsRest a) (sym same) q
 rest-through a b c q within (inr p) = inr (part-through a b c q within p)
 
-handed-through : (a b : Text) → IsRest a b → length b.bytes ≤ length a.bytes → (t : Text) → IsHandedOn b t → IsHandedOn a t
+pub handed-through : (a b : Text) → IsRest a b → length b.bytes ≤ length a.bytes → (t : Text) → IsHandedOn b t → IsHandedOn a t
 handed-through a b q less t h =
     let w = h.within in
     record { some = h.some; text = h.text; within = λ long. omega (arith, w long); part = part-through a b t q w h.part }
@@ -133,7 +133,7 @@ none-handed b k d l = absurd (omega (arith, l))
 pub one-handed : (b t : Text) → IsHandedOn b t → All (IsHandedOn b) (t ∷ [])
 one-handed b t h = All-push (IsHandedOn b) [] t (none-handed b) h
 
-listed-handed : (b : Text) (text : Option Text) → IfSome text (IsHandedOn b) → All (IsHandedOn b) (listed text)
+pub listed-handed : (b : Text) (text : Option Text) → IfSome text (IsHandedOn b) → All (IsHandedOn b) (listed text)
 listed-handed b None h = none-handed b
 listed-handed b (Some t) h = one-handed b t h
 
@@ -153,7 +153,7 @@ replacement-text : IsUtf8 (0xEF ∷ 0xBF ∷ 0xBD ∷ [])
 unfolding encode
 replacement-text = (0xFFFD ∷ [], search)
 
-replacement-handed : (b t : Text) → IsReplacement t → IsHandedOn b t
+pub replacement-handed : (b t : Text) → IsReplacement t → IsHandedOn b t
 replacement-handed b t is =
     let long = ap length is.bytes in
     let copied = is.copied in
@@ -164,7 +164,7 @@ replacement-handed b t is =
       part = (λ more. absurd (omega (arith, long, more)), λ _. omega (arith, long, copied));
     }
 
-replacement-chars : (t : Text) → IsReplacement t → chars t.bytes ≡ 0xFFFD ∷ []
+pub replacement-chars : (t : Text) → IsReplacement t → chars t.bytes ≡ 0xFFFD ∷ []
 unfolding encode
 replacement-chars t is = ap chars is.bytes ∙ sym (chars_from_encodes (0xFFFD ∷ []) (0xEF ∷ 0xBF ∷ 0xBD ∷ []) replacement-text search)
 
@@ -237,20 +237,18 @@ module _ {P : Type 0} (step : P → Text → Unit {0} → P → Type 0) where
 
 -- a completed sequence, and the rest of the input
 
-pub rest_is : (k input front rest : List ℕ) → k ++ input ≡ front ++ rest → length k ≤ length front → (length rest ≤ length input) × (drop (length input - length rest) input ≡ rest)
-rest_is k input front rest all covers =
+pub rest_is : (k input front rest : List ℕ) → k ++ input ≡ front ++ rest → length k ≤ length front → rest ≡ drop (length front - length k) input → (length rest ≤ length input) × (drop (length input - length rest) input ≡ rest)
+rest_is k input front rest all covers left =
     let lengths : length k + length input ≡ length front + length rest = sym (length-append k input) ∙ ap length all ∙ length-append front rest in
-    let n : length input - length rest ≡ length front - length k = omega (arith, lengths, covers) in (
-      omega (arith, lengths, covers),
-      ap (λ j. drop j input) n ∙ sym (past_all_kept k input (length front) covers) ∙ ap (drop (length front)) all ∙ drop_at front rest (length front) refl,
-    )
+    let n : length input - length rest ≡ length front - length k = omega (arith, lengths, covers) in
+    (omega (arith, lengths, covers), ap (λ j. drop j input) n ∙ sym left)
 
 abbrev pub Answers : List ℕ → List ℕ → List ℕ → Result (List ℕ) (List ℕ) → Type 0
 Answers k input rest found = MatchResult found (λ t. CompletesTo k input t rest) (λ b. BreaksAt k input b rest)
 
 pub rest_of : (k input rest : List ℕ) (found : Result (List ℕ) (List ℕ)) → Answers k input rest found → (length rest ≤ length input) × (drop (length input - length rest) input ≡ rest)
-rest_of k input rest (Ok t) h = rest_is k input t rest h.all h.covers
-rest_of k input rest (Err b) h = rest_is k input b rest h.all h.covers
+rest_of k input rest (Ok t) h = rest_is k input t rest h.all h.covers h.left
+rest_of k input rest (Err b) h = rest_is k input b rest h.all h.covers h.left
 
 -- what is handed on for it
 abbrev pub Says : List ℕ → List ℕ → List ℕ → List ℕ → Type 0

@@ -7,6 +7,7 @@ ghost use Rattle.tendril.specs.Decoding.{DecodesPiece, Hands, HandsCompleted, Ha
 ghost use Rattle.tendril_block.specs.Outcomes.{NoneMust, Outcome};
 ghost use Rattle.tendril_lossy.specs.Completions.{BreaksAt, CompletesTo, StillOpen};
 ghost use Rattle.tendril_lossy.specs.Lossy.{IsOpen};
+ghost use Rattle.tendril_storage.specs.Texts.{Keeps};
 
 use crate::tendril::Tendril;
 use std::marker::Model;
@@ -75,7 +76,8 @@ impl IncompleteUtf8 {
         }
     }
 
-    fn none() -> Self
+    /// No bytes.
+    pub fn none() -> Self
         ensures { result ≡ [] }
     {
         IncompleteUtf8 {
@@ -124,10 +126,34 @@ impl IncompleteUtf8 {
         }
     }
 
-    /// Completes the bytes from a piece, as `try_to_complete_codepoint` does, hands the text or U+FFFD to the closure, and
-    /// answers the rest of the piece. Where they wait for more, they keep the piece too, and the answer is `Err(())`.
+    /// Completes the bytes from the front of a piece, as `try_to_complete_codepoint` does. What it takes is gone from the
+    /// piece then; where the bytes wait for more, they keep the piece too, which stays as it is.
+    pub fn complete_from<A: Atomicity>(
+        &mut self,
+        piece: &mut Tendril<Bytes, A>,
+    ) -> Option<Result<ShortText, Encoded>>
+        ensures completed { IfSome result (λ found. MatchResult found
+            (λ t. CompletesTo self.old piece.old.bytes t piece.new.bytes)
+            (λ b. BreaksAt self.old piece.old.bytes b piece.new.bytes)) }
+        ensures copied { OnSome result (Keeps piece.old piece.new) }
+        ensures emptied { OnSome result (self.new ≡ []) }
+        ensures none { IfNone result (StillOpen self.old piece.old.bytes self.new) }
+        ensures piece { IfNone result (piece.new ≡ piece.old) }
+    {
+        let bytes = piece.as_byte_slice();
+        let Some((completed, rest)) = self.try_to_complete_codepoint(bytes) else {
+            return None;
+        };
+        let taken = bytes.len() - rest.len();
+        piece.pop_front(taken as u32);
+        Some(completed)
+    }
+
+    /// Completes the bytes from a piece, hands the text or U+FFFD to the closure, and answers the rest of the piece. Where
+    /// they wait for more, they keep the piece too, and the answer is `Err(())`.
     ///
-    /// Where nothing is kept, there is nothing to complete: of an empty piece it hands on an empty text.
+    /// Where nothing is kept, there is nothing to complete: of an empty piece it hands on an empty text. No clause can say
+    /// what a closure is that was handed over: whoever wants to know calls `try_complete_with`.
     pub fn try_complete<A: Atomicity, T: Drop, P: FnMut(T)>(
         &mut self,
         mut input: Tendril<Bytes, A>,
@@ -137,16 +163,17 @@ impl IncompleteUtf8 {
         Tendril<UTF8, A>: Handed<T>,
         requires { P.IsAlwaysCallable push_utf8 }
         ensures ok { IfOk result (λ rest. (last : P) ×
-            HandsCompleted (λ p t u q. P.step p (bound-4.handed t) u q) push_utf8 self.old input rest last) }
+            HandsCompleted (λ p t u q. P.step p (⟦<Tendril<UTF8, A> as Handed<T>>⟧.handed t) u q)
+            push_utf8 self.old input rest last) }
         ensures emptied { OnOk result (self.new ≡ []) }
         ensures err { OnErr result (StillOpen self.old input.bytes self.new) }
     {
-        self.complete_to(&mut input, &mut push_utf8)?;
+        self.try_complete_with(&mut input, &mut push_utf8)?;
         Ok(input)
     }
 
-    // The same, where the closure is lent.
-    fn complete_to<A: Atomicity, T: Drop, P: FnMut(T)>(
+    /// Completes the bytes from the front of a piece, and hands the text or U+FFFD to a closure that is lent.
+    pub fn try_complete_with<A: Atomicity, T: Drop, P: FnMut(T)>(
         &mut self,
         input: &mut Tendril<Bytes, A>,
         push_utf8: &mut P,
@@ -154,22 +181,21 @@ impl IncompleteUtf8 {
     where
         Tendril<UTF8, A>: Handed<T>,
         requires { P.IsAlwaysCallable push_utf8.old }
-        ensures ok { OnOk result (HandsCompleted (λ p t u q. P.step p (bound-4.handed t) u q)
+        ensures ok { OnOk result (
+            HandsCompleted (λ p t u q. P.step p (⟦<Tendril<UTF8, A> as Handed<T>>⟧.handed t) u q)
             push_utf8.old self.old input.old input.new push_utf8.new) }
         ensures emptied { OnOk result (self.new ≡ []) }
         ensures err { OnErr result (StillOpen self.old input.old.bytes self.new) }
+        ensures back { OnErr result ((input.new ≡ input.old) × (push_utf8.new ≡ push_utf8.old)) }
     {
-        let bytes = input.as_byte_slice();
-        let Some((completed, rest)) = self.try_to_complete_codepoint(bytes) else {
+        let Some(completed) = self.complete_from(input) else {
             return Err(());
         };
-        let taken = bytes.len() - rest.len();
         let text = match &completed {
             Ok(text) => text.as_str(),
             Err(_) => REPLACEMENT,
         };
         push_utf8(input.short(text).hand());
-        input.pop_front(taken as u32);
         Ok(())
     }
 }
@@ -179,7 +205,8 @@ impl<A: Atomicity> Tendril<Bytes, A> {
     /// sequence. It answers the bytes at the end that begin a character and end within it, if there are any.
     ///
     /// Takes no memory. The texts share the bytes of the piece, and a piece that is one text is handed on itself. Where the
-    /// count of holders is full, it answers the part that isn't decoded yet; what was handed on stays so.
+    /// count of holders is full, it answers the part that isn't decoded yet; what was handed on stays so. No clause can say
+    /// what a closure is that was handed over: whoever wants to know calls `decode_utf8_lossy_with`, or `pop_text` in a loop.
     pub fn decode_utf8_lossy<T: Drop, P: FnMut(T)>(
         mut self,
         mut push_utf8: P,
@@ -188,19 +215,22 @@ impl<A: Atomicity> Tendril<Bytes, A> {
         Tendril<UTF8, A>: Handed<T>,
         requires { P.IsAlwaysCallable push_utf8 }
         ensures ok { IfOk result (λ kept. (last : P) ×
-            DecodesPiece (λ p t u q. P.step p (bound-5.handed t) u q) push_utf8 self kept last) }
+            DecodesPiece (λ p t u q. P.step p (⟦<Tendril<UTF8, A> as Handed<T>>⟧.handed t) u q)
+            push_utf8 self kept last) }
         ensures refusal { IfErr result (λ e. LongPieceMay e.1.bytes e.0) }
         ensures err { IfErr result (λ e.
-            (last : P) × HandsOnUpTo (λ p t u q. P.step p (bound-5.handed t) u q) push_utf8 self e.1 last) }
+            (last : P) × HandsOnUpTo (λ p t u q. P.step p (⟦<Tendril<UTF8, A> as Handed<T>>⟧.handed t) u q)
+            push_utf8 self e.1 last) }
     {
-        match self.decode_to(&mut push_utf8) {
+        match self.decode_utf8_lossy_with(&mut push_utf8) {
             Ok(kept) => Ok(kept),
             Err(refusal) => Err((refusal, self)),
         }
     }
 
-    // The same, where the closure is lent, so that clauses can say what it is afterwards: it is called for nothing else.
-    fn decode_to<T: Drop, P: FnMut(T)>(
+    /// Decodes the bytes as `decode_utf8_lossy` does, with a closure that is lent. Where the count of holders is full, the
+    /// part that isn't decoded yet is left; else nothing, or the bytes that are answered.
+    pub fn decode_utf8_lossy_with<T: Drop, P: FnMut(T)>(
         &mut self,
         push_utf8: &mut P,
     ) -> Result<Option<IncompleteUtf8>, Refusal>
@@ -208,10 +238,12 @@ impl<A: Atomicity> Tendril<Bytes, A> {
         Tendril<UTF8, A>: Handed<T>,
         requires { P.IsAlwaysCallable push_utf8.old }
         ensures ok { IfOk result (λ kept.
-            DecodesPiece (λ p t u q. P.step p (bound-5.handed t) u q) push_utf8.old self.old kept push_utf8.new) }
+            DecodesPiece (λ p t u q. P.step p (⟦<Tendril<UTF8, A> as Handed<T>>⟧.handed t) u q)
+            push_utf8.old self.old kept push_utf8.new) }
         ensures refusal { IfErr result (LongPieceMay self.new.bytes) }
         ensures err { OnErr result (
-            HandsOnUpTo (λ p t u q. P.step p (bound-5.handed t) u q) push_utf8.old self.old self.new push_utf8.new) }
+            HandsOnUpTo (λ p t u q. P.step p (⟦<Tendril<UTF8, A> as Handed<T>>⟧.handed t) u q)
+            push_utf8.old self.old self.new push_utf8.new) }
     {
         loop {
             let (text, ending) = self.pop_text()?;
@@ -257,7 +289,8 @@ fn push_some<A: Atomicity, T: Drop, P: FnMut(T)>(push_utf8: &mut P, text: Option
 where
     Tendril<UTF8, A>: Handed<T>,
     requires { P.IsAlwaysCallable push_utf8.old }
-    ensures hands { Hands (λ p t u q. P.step p (bound-4.handed t) u q) push_utf8.old (listed text) push_utf8.new }
+    ensures hands { Hands (λ p t u q. P.step p (⟦<Tendril<UTF8, A> as Handed<T>>⟧.handed t) u q)
+        push_utf8.old (listed text) push_utf8.new }
     ensures callable { P.IsAlwaysCallable push_utf8.new }
 {
     if let Some(text) = text {

@@ -27,6 +27,12 @@ rest_items bs front ending p =
     text_front bs n (subst IsUtf8 p.front_is p.text) ∙ ap (λ l. map Keep (chars l) ++ lossy (drop n bs)) (sym p.front_is) in
     append_cancel_left (map Keep (chars front)) (lossy (drop n bs)) (items_after bs n ending) (sym all ∙ p.items)
 
+-- what is cut off after the front
+pub ends_open : (bs front : List ℕ) → IsFirstPart bs front Open → (length front < length bs) × IsOpen (drop (length front) bs)
+ends_open bs front p =
+    let h = subst (IsLossy (drop (length front) bs)) (rest_items bs front Open p) (IsLossy-lossy (drop (length front) bs)) in
+    (omega (arith, h.0, length-drop (length front) bs), h.2)
+
 -- no character begins what follows the front
 none_follows : (bs front : List ℕ) (ending : Ending) → IsFirstPart bs front ending → (drop (length front) bs ≡ []) ⊎ StartsWithNoChar (drop (length front) bs)
 none_follows bs front ending p = by ending (subst (IsLossy (drop (length front) bs)) (rest_items bs front ending p) (IsLossy-lossy (drop (length front) bs)))
@@ -134,7 +140,7 @@ module _ (kept input : List ℕ) (waits : IsOpen kept) where
       let within : n ≤ length bytes = omega (arith, ap length p.front_is, length-take n bytes) in
       let is : front ≡ take n (kept ++ input) = p.front_is ∙ take-take n 4 (kept ++ input) (omega (arith, within, length-take 4 (kept ++ input))) in
       let past = past_kept kept input n waits some (omega (arith, within, length-take 4 (kept ++ input))) (subst IsUtf8 is p.text) in
-      record { all = rest_of_input kept input front is (omega (arith, past)); longest = longest bytes front ending p; covers = omega (arith, past); within = omega (arith, within, length-take 4 (kept ++ input), length-append kept input); some = inl some }
+      record { all = rest_of_input kept input front is (omega (arith, past)); longest = longest bytes front ending p; covers = omega (arith, past); within = omega (arith, within, length-take 4 (kept ++ input), length-append kept input); left = refl; some = inl some }
 
   -- where there are no bytes, the text is empty
   pub completes_nothing : (front : List ℕ) → IsFirstPart bytes front Whole → length front ≡ 0 → CompletesTo kept input front (drop (length front - length kept) input)
@@ -142,7 +148,7 @@ module _ (kept input : List ℕ) (waits : IsOpen kept) where
       let h : bytes ≡ [] = bare front Whole p none in
       let nil : kept ++ input ≡ [] = nil_from_length (kept ++ input) (omega (arith, ap length h, length-take 4 (kept ++ input))) in
       let covers : length kept ≤ length front = omega (arith, ap length nil, length-append kept input) in
-      record { all = rest_of_input kept input front (nil_from_length front none ∙ sym (ap (take (length front)) nil ∙ take-nil (length front))) covers; longest = longest bytes front Whole p; covers = covers; within = omega (arith, none); some = inr nil }
+      record { all = rest_of_input kept input front (nil_from_length front none ∙ sym (ap (take (length front)) nil ∙ take-nil (length front))) covers; longest = longest bytes front Whole p; covers = covers; within = omega (arith, none); left = refl; some = inr nil }
 
   pub broken_within : (front : List ℕ) (k : ℕ) → IsFirstPart bytes front (Broken k) → length front ≡ 0 → k ≤ length bytes
   broken_within front k p none = (bare front (Broken k) p none).2.within
@@ -162,6 +168,7 @@ module _ (kept input : List ℕ) (waits : IsOpen kept) where
         maximal = subst (IsMaximalSubpart (kept ++ input)) (sym len) (maximal (kept ++ input) k h.2);
         covers = omega (arith, covers, len);
         within = omega (arith, within, len, length-take 4 (kept ++ input), length-append kept input);
+        left = refl;
       }
 
   -- they still begin a character

@@ -18,6 +18,7 @@ pub record CompletesTo (kept input t rest : List ℕ) : Type 0 where
   pub longest : IsLongestText (take 4 (kept ++ input)) t
   pub covers : length kept ≤ length t
   pub within : length t ≤ length kept + length input
+  pub left : rest ≡ drop (length t - length kept) input
   pub some : (0 < length t) ⊎ (kept ++ input ≡ [])
 
 -- no character begins them, b is their maximal subpart, and the rest of the input is left
@@ -28,6 +29,7 @@ pub record BreaksAt (kept input b rest : List ℕ) : Type 0 where
   pub maximal : IsMaximalSubpart (kept ++ input) (length b)
   pub covers : length kept ≤ length b
   pub within : length b ≤ length kept + length input
+  pub left : rest ≡ drop (length b - length kept) input
 
 -- they still begin a character, with all of the input
 pub record StillOpen (kept input held : List ℕ) : Type 0 where

@@ -114,8 +114,8 @@ items_after bs n Whole = []
 items_after bs n (Broken k) = Bad k ∷ lossy (drop (n + k) bs)
 items_after bs n Open = Cut (drop n bs) ∷ []
 
--- what breaks the bytes after n of them has a byte or more, all of them there
+-- what stands after n bytes: what breaks them has a byte or more, all of them there, and so has what is cut off
 abbrev pub EndsWithin : List ℕ → ℕ → Ending → Type 0
 EndsWithin bs n Whole = Unit {0}
 EndsWithin bs n (Broken k) = (0 < k) × (n + k ≤ length bs)
-EndsWithin bs n Open = Unit {0}
+EndsWithin bs n Open = (n < length bs) × IsOpen (drop n bs)

@@ -2,6 +2,7 @@ use Rattle.std.proofs.Common.{rules, ◌≡◌, ◌∙◌, ◌+◌, ◌-◌, sym
 use Rattle.std.proofs.lemmas.List.{length-take}
 use Rattle.tendril_lossy.proofs.Lossy.{part_whole}
 use Rattle.tendril_lossy.proofs.Fronts.{ends_within}
+use Rattle.tendril_lossy.proofs.Completions.{ends_open}
 use Rattle.tendril_lossy.proofs.Windows.{grow, whole, grow_front, window_bad, rest_cut}
 use Rattle.tendril_lossy.proofs.search.first_part.Goals.{in-Ok, in-Err+in_default}
 use Rattle.tendril_lossy.proofs.search.first_part.Goals as goal
@@ -82,3 +83,6 @@ returns-in-Some-clause-within c = ends_within c.args.bytes.now _ c.in-Some.len (
 
 pub returns-in-Some-error_len-clause-within : goal.returns-in-Some-error_len-clause-within
 returns-in-Some-error_len-clause-within c = ends_within c.args.bytes.now _ c.in-Some-error_len.len (search rules) (returns-in-Some-error_len-clause-items c)
+
+pub returns-in-None-clause-within : goal.returns-in-None-clause-within
+returns-in-None-clause-within c = ends_open c.args.bytes.now _ (record { front_is = search rules; text = search rules; items = returns-in-None-clause-items c })

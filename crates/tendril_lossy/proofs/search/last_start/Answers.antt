@@ -1,5 +1,4 @@
-use Rattle.std.proofs.Common.{◌≡◌, ◌+◌, ◌-◌, length, take, IsUtf8, arith, subst}
-use Rattle.std.proofs.lemmas.Bool.Decides.{nat_tests}
+use Rattle.std.proofs.Common.{◌≡◌, ◌+◌, ◌-◌, take, IsUtf8, arith, subst}
 use Rattle.tendril_lossy.proofs.Windows.{grow}
 use Rattle.tendril_lossy.proofs.search.last_start.Goals as goal
 

@@ -1,6 +1,6 @@
 use Rattle.std.proofs.Common.{length}
 use Rattle.tendril.specs.Decoding.{HandsOnUpTo}
-use Rattle.tendril.proofs.utf8_decode.Tendril+Bytes+A.decode_to.Given as goal
+use Rattle.tendril.proofs.utf8_decode.Tendril+Bytes+A.decode_utf8_lossy_with.Given as goal
 
 abbrev pub invariant-loop-text : goal.invariant-loop-text
 invariant-loop-text g l =

@@ -2,7 +2,7 @@ use Rattle.std.proofs.Common.{rules, of_calls, length, sym, subst, ap, ◌∙◌
 use Rattle.tendril.proofs.Decoding.{start, at_whole, at_open, at_broken}
 use Rattle.tendril.specs.Decoding.{PopsText}
 use Rattle.tendril_lossy.proofs.Completions.{open_len}
-use Rattle.tendril.proofs.utf8_decode.Tendril+Bytes+A.decode_to.Goals as goal
+use Rattle.tendril.proofs.utf8_decode.Tendril+Bytes+A.decode_utf8_lossy_with.Goals as goal
 
 pub loop-text-init : goal.loop-text-init
 loop-text-init g c = (search rules, start (λ p t u q. goal.P-step g p (g.bound-5.handed t) u q) c.args.push_utf8.now c.args.self.now)
