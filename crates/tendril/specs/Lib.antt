@@ -1,4 +1,5 @@
 pub use Rattle.tendril_storage.specs.Texts
+pub use Rattle.tendril_storage.specs.Edits
 pub mod Errors
 pub mod Making
 pub mod Parts

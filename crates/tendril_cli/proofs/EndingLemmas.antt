@@ -1,15 +1,15 @@
 use Rattle.std.proofs.Common.{◌≡◌, ℕ, List, [], ◌∷◌, ◌++◌, Option, None, Some, IfSome, Result, Ok, Err, OnOk, IfErr, inl, inr, refl, sym, ◌∙◌, ap, subst, append_assoc, length, take, arith, codes}
 use Rattle.std.proofs.lemmas.List.{append-nil}
-use Rattle.std.proofs.lemmas.Fmt.{decimal_digit}
+use Rattle.std.proofs.lemmas.Fmt.{decimal_digit, decimal_step}
 use Rattle.std.proofs.lemmas.Result.{IfErr-weaker, on_ok_weaker}
 use Rattle.std.proofs.Math.Seq.{take-length}
 use Rattle.std.specs.Fmt.{decimal}
-use Rattle.std.specs.Io.KnownBytes.{Appends, Keeps}
+use Rattle.std.specs.Io.KnownBytes.{Appends}
+use Rattle.tendril_block.specs.Refusals.{name_of, number_of}
 use Rattle.tendril_block.specs.declared.refusal.Refusal.{Refusal}
-use Rattle.tendril_block.specs.declared.refusal.Refusal.TheVariants.{Memory, Io}
-use Rattle.tendril_run.specs.Cells.{Cell}
+use Rattle.tendril_block.specs.declared.refusal.Refusal.TheVariants.{Count, Io, Memory, SinkRefused, TooManyReads}
 use Rattle.tendril_cli.specs.Endings.{TakesFront, WritesFront, Stops, Ends, complaint}
-use Rattle.tendril_cli.specs.Held.{Prints, PrintsAll, PrintsSome}
+use Rattle.tendril_cli.specs.Held.{PrintsAll, PrintsSome}
 use Rattle.tendril_cli.specs.Sessions.{WritesFromEmpty, lines as lines_of}
 use Rattle.tendril_cli.proofs.SessionLemmas.{appends_more, appends_none, no_lines}
 
@@ -99,13 +99,22 @@ stops_of ran None script before after e h = IfErr-weaker ran (Stops (lines_of sc
 stops_of ran (Some bytes) script before after e h =
     IfErr-weaker ran (Stops (lines_of script) before after) (Stops (lines_of bytes) before after) (λ r p. subst (λ b. Stops (lines_of b) before after r) e p) h
 
--- the lines of the two refusals
+-- the lines of the refusals
+
+line_of : (digits : List ℕ) (refusal other : Refusal) → decimal (number_of other) ≡ digits → refusal ≡ other → codes "tendril: refused " ++ digits ++ codes " " ++ name_of other ++ 10 ∷ [] ≡ complaint refusal
+line_of digits refusal other d e = ap (λ ds. codes "tendril: refused " ++ ds ++ codes " " ++ name_of other ++ 10 ∷ []) (sym d) ∙ ap complaint (sym e)
+
 pub complaint_memory : (refusal : Refusal) → refusal ≡ Memory → codes "tendril: refused 2 Memory" ++ 10 ∷ [] ≡ complaint refusal
-complaint_memory refusal e =
-    let two : decimal 2 ≡ 50 ∷ [] = decimal_digit 2 (omega arith) in
-    ap (λ digits. codes "tendril: refused " ++ digits ++ codes " " ++ codes "Memory" ++ 10 ∷ []) (sym two) ∙ ap complaint (sym e)
+complaint_memory refusal e = line_of (50 ∷ []) refusal Memory (decimal_digit 2 (omega arith)) e
+
+pub complaint_count : (refusal : Refusal) → refusal ≡ Count → codes "tendril: refused 3 Count" ++ 10 ∷ [] ≡ complaint refusal
+complaint_count refusal e = line_of (51 ∷ []) refusal Count (decimal_digit 3 (omega arith)) e
+
+pub complaint_reads : (refusal : Refusal) → refusal ≡ TooManyReads → codes "tendril: refused 8 TooManyReads" ++ 10 ∷ [] ≡ complaint refusal
+complaint_reads refusal e = line_of (56 ∷ []) refusal TooManyReads (decimal_digit 8 (omega arith)) e
 
 pub complaint_io : (refusal : Refusal) → refusal ≡ Io → codes "tendril: refused 9 Io" ++ 10 ∷ [] ≡ complaint refusal
-complaint_io refusal e =
-    let nine : decimal 9 ≡ 57 ∷ [] = decimal_digit 9 (omega arith) in
-    ap (λ digits. codes "tendril: refused " ++ digits ++ codes " " ++ codes "Io" ++ 10 ∷ []) (sym nine) ∙ ap complaint (sym e)
+complaint_io refusal e = line_of (57 ∷ []) refusal Io (decimal_digit 9 (omega arith)) e
+
+pub complaint_sink : (refusal : Refusal) → refusal ≡ SinkRefused → codes "tendril: refused 10 SinkRefused" ++ 10 ∷ [] ≡ complaint refusal
+complaint_sink refusal e = line_of (49 ∷ 48 ∷ []) refusal SinkRefused (decimal_step 10 (omega arith) (omega arith) ∙ ap (λ ds. ds ++ 48 ∷ []) (decimal_digit 1 (omega arith))) e

@@ -1,3 +1,4 @@
+pub mod DecodingLemmas
 mod EndingLemmas
 mod HeldLemmas
 mod SessionLemmas

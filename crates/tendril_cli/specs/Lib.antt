@@ -1,3 +1,4 @@
+pub mod Decodings
 pub mod Endings
 pub mod Held
 pub mod Sessions

@@ -2,6 +2,8 @@
 #![tactic(auto)]
 
 mod arguments;
+mod decode;
+mod joined;
 mod output;
 mod program;
 mod script;

@@ -2,10 +2,12 @@
 ghost use Rattle.std.specs.Prelude.{◌≡◌, ◌≢◌, ◌≤◌, ◌↔◌, ◌⊎◌, map, IsTrue, IfSome, IfOk, IfErr, OnOk};
 ghost use Rattle.std.specs.Io.KnownBytes.{IsAtEnd, Keeps};
 ghost use Rattle.std.specs.IoError.{error_kind};
+ghost use Rattle.tendril_cli.specs.Decodings.{Decoded, DecodingEnded, EndsDecoding};
 ghost use Rattle.tendril_cli.specs.Endings.{Ended, Ends, Stops, TakesFront, complaint, usage};
 ghost use Rattle.tendril_cli.specs.Sessions.{Ran, lines};
-ghost use Rattle.tendril_cli.specs.Words.{AskToRun};
+ghost use Rattle.tendril_cli.specs.Words.{AskToDecode, AskToRun};
 
+use crate::decode::decode;
 use crate::output::write_bytes;
 use crate::script::run_script;
 use std::alloc::Global;
@@ -22,7 +24,8 @@ const MISUSED: u8 = 2;
 ///
 /// No word, or `run`: the lines of the input are run on one table, and the replies printed (status 0). A refused read,
 /// write or want of memory prints `tendril: refused N Name` to `err`, and what was printed before stands (status 1): in
-/// whole lines, unless a write failed. All other words print the usage to `err` (status 2).
+/// whole lines, unless a write failed. `decode`: the input is decoded, and the texts written (status 0), or a refusal
+/// printed (status 1). All other words print the usage to `err` (status 2).
 pub fn program<R: Read, W: Write, E: Write>(
     alloc: Global,
     words: &[&str],
@@ -30,32 +33,46 @@ pub fn program<R: Read, W: Write, E: Write>(
     out: &mut W,
     err: &mut E,
 ) -> u8
-    ensures usage { (result ≡ 2) ↔ (AskToRun (map (λ word. word.now) words.now) → ⊥) }
+    ensures usage { (result ≡ 2) ↔ ((AskToRun (map (λ word. word.now) words.now) → ⊥)
+        × (AskToDecode (map (λ word. word.now) words.now) → ⊥)) }
     ensures status { result ≤ 2 }
 
     // Where the reader and the writers tell their bytes, all that was asked is answered.
-    ensures ran { result ≡ 0 → Ran (R.remaining input.old) (W.contents out.old) (W.contents out.new) }
+    ensures ran { AskToRun (map (λ word. word.now) words.now) → result ≡ 0
+        → Ran (R.remaining input.old) (W.contents out.old) (W.contents out.new) }
+    ensures decoded { AskToDecode (map (λ word. word.now) words.now) → result ≡ 0
+        → IfSome (R.remaining input.old) (λ bytes. Decoded bytes (W.contents out.old) (W.contents out.new)) }
     ensures silent { result ≡ 0 → Keeps (E.contents err.old) (E.contents err.new) }
 
-    // Or a refusal is told, and some first lines of the script are answered, in whole lines unless a write failed.
-    ensures refused { result ≡ 1 → Ended (R.remaining input.old)
+    // Or a refusal is told, and some first lines of the script are answered, in whole lines unless a write failed, or the
+    // first texts are written.
+    ensures refused { AskToRun (map (λ word. word.now) words.now) → result ≡ 1 → Ended (R.remaining input.old)
+        (W.contents out.old) (W.contents out.new) (E.contents err.old) (E.contents err.new) }
+    ensures stopped { AskToDecode (map (λ word. word.now) words.now) → result ≡ 1 → DecodingEnded (R.remaining input.old)
         (W.contents out.old) (W.contents out.new) (E.contents err.old) (E.contents err.new) }
 
     // Or the words ask for nothing.
     ensures misused { result ≡ 2 → Keeps (W.contents out.old) (W.contents out.new) }
     ensures told { result ≡ 2 → TakesFront (E.contents err.old) (E.contents err.new) usage }
 
-    // Nothing is printed before the input's end.
-    ensures reads_first { Keeps (W.contents out.old) (W.contents out.new) ⊎ IsAtEnd (R.remaining input.new) }
+    // No line is answered before the input's end.
+    ensures reads_first { AskToRun (map (λ word. word.now) words.now)
+        → Keeps (W.contents out.old) (W.contents out.new) ⊎ IsAtEnd (R.remaining input.new) }
 {
-    if !asks_to_run(words) {
-        let _ = write_bytes(err, b"usage: tendril run | tendril decode\n");
-        return MISUSED;
+    if asks_to_run(words) {
+        return match run_input(alloc, input, out) {
+            Ok(()) => DONE,
+            Err(refusal) => refuse(refusal, err),
+        };
     }
-    match run_input(alloc, input, out) {
-        Ok(()) => DONE,
-        Err(refusal) => refuse(refusal, err),
+    if asks_to_decode(words) {
+        return match decode(alloc, input, out) {
+            Ok(()) => DONE,
+            Err(refusal) => refuse(refusal, err),
+        };
     }
+    let _ = write_bytes(err, b"usage: tendril run | tendril decode\n");
+    MISUSED
 }
 
 fn asks_to_run(words: &[&str]) -> bool
@@ -68,9 +85,18 @@ fn asks_to_run(words: &[&str]) -> bool
     }
 }
 
+fn asks_to_decode(words: &[&str]) -> bool
+    ensures { IsTrue result ↔ AskToDecode (map (λ word. word.now) words.now) }
+{
+    match words {
+        [word] => *word == "decode",
+        _ => false,
+    }
+}
+
 /// Prints a refusal that ends the program, and answers its status. What can't be printed is left out.
 pub fn refuse<E: Write>(refusal: Refusal, err: &mut E) -> u8
-    requires { Ends refusal }
+    requires { EndsDecoding refusal }
     ensures status { result ≡ 1 }
     ensures told { TakesFront (E.contents err.old) (E.contents err.new) (complaint refusal) }
 {
@@ -80,12 +106,15 @@ pub fn refuse<E: Write>(refusal: Refusal, err: &mut E) -> u8
 
 // A refusal's line. It is made without memory, which may be wanting.
 fn complaint(refusal: Refusal) -> &'static str
-    requires { Ends refusal }
+    requires { EndsDecoding refusal }
     ensures { result.now ≡ complaint refusal }
 {
     match refusal {
         Refusal::Memory => "tendril: refused 2 Memory\n",
-        _ => "tendril: refused 9 Io\n",
+        Refusal::Count => "tendril: refused 3 Count\n",
+        Refusal::TooManyReads => "tendril: refused 8 TooManyReads\n",
+        Refusal::Io => "tendril: refused 9 Io\n",
+        _ => "tendril: refused 10 SinkRefused\n",
     }
 }
 

@@ -1,6 +1,7 @@
 //! The program on scripted input: what is printed, and its status.
 
 mod arguments;
+mod decoding;
 mod malformed;
 mod refusals;
 mod sessions;
@@ -119,8 +120,10 @@ fn a_script_of_a_hundred_thousand_lines(rt: HostRuntime) -> Result<(), Fail> {
 fn other_words_print_the_usage(rt: HostRuntime) {
     let usage = b"usage: tendril run | tendril decode\n";
     for words in [
-        ["decode"].as_slice(),
-        &["runs"],
+        ["runs"].as_slice(),
+        &["decodes"],
+        &["decode", ""],
+        &["decode", "run"],
         &[""],
         &["run", "run"],
         &["run", ""],

@@ -2,3 +2,4 @@ pub mod Aparts
 pub mod Texts
 pub mod Partings
 pub mod Storages
+pub mod Edits

@@ -1,11 +1,12 @@
 //! Texts that are written to: over their bytes, or at their end by std's traits.
 ghost use Rattle.std.specs.Prelude.{◌≡◌, ◌<◌, ◌≤◌, ◌+◌, ◌++◌, length, max, Some, IfOk, IfErr, OnOk, OnErr, IsOk};
-ghost use Rattle.std.specs.Fn.{FnOnceTakesAtMut, FnOnceReturnsAtMut};
+ghost use Rattle.std.specs.Fn.{CalledAtMut};
 ghost use Rattle.std.specs.Io.{WritesAtMost};
 ghost use Rattle.std.specs.Io.KnownBytes.{Appends, Keeps, WriteAppends};
 ghost use Rattle.std.specs.IoError.{error_kind};
 ghost use Rattle.tendril.specs.Writes.{WriteRefused};
 ghost use Rattle.tendril_block.specs.Outcomes.{MemoryMay};
+ghost use Rattle.tendril_storage.specs.Edits.{TakesAtMut};
 
 use crate::tendril::Tendril;
 use std::io::ErrorKind;
@@ -18,13 +19,28 @@ impl<A: Atomicity> Tendril<Bytes, A> {
     ///
     /// They are written where they stand if no other text has their block; else they alone are copied into a new one
     /// first, before `edit` sees them. `edit` isn't called where that is refused.
-    pub fn bytes_mut<R, E: FnOnce(&mut [u8]) -> R>(&mut self, edit: E) -> Result<R, Refusal>
-        requires { FnOnceTakesAtMut E.FnOnce edit self.old.bytes }
-        ensures bytes { IfOk result (λ r. FnOnceReturnsAtMut E.FnOnce edit self.old.bytes r self.new.bytes) }
+    pub fn bytes_mut<R, E: FnMut(&mut [u8]) -> R>(&mut self, mut edit: E) -> Result<R, Refusal>
+        requires { TakesAtMut E.FnMut edit self.old.bytes }
+        ensures bytes { IfOk result (λ r. (last : E) × CalledAtMut E.FnMut edit self.old.bytes r last self.new.bytes) }
         ensures len { length self.new.bytes ≡ length self.old.bytes }
         ensures copied { self.new.copied ≤ max self.old.copied (length self.old.bytes) }
         ensures refusal { IfErr result (MemoryMay (length self.old.bytes)) }
         ensures err { OnErr result (self.new ≡ self.old) }
+    {
+        self.bytes_mut_with(&mut edit)
+    }
+
+    /// Lends the bytes as `bytes_mut` does, to a closure that is lent, so that a caller knows what became of it.
+    pub fn bytes_mut_with<R, E: FnMut(&mut [u8]) -> R>(
+        &mut self,
+        edit: &mut E,
+    ) -> Result<R, Refusal>
+        requires { TakesAtMut E.FnMut edit.old self.old.bytes }
+        ensures bytes { IfOk result (λ r. CalledAtMut E.FnMut edit.old self.old.bytes r edit.new self.new.bytes) }
+        ensures len { length self.new.bytes ≡ length self.old.bytes }
+        ensures copied { self.new.copied ≤ max self.old.copied (length self.old.bytes) }
+        ensures refusal { IfErr result (MemoryMay (length self.old.bytes)) }
+        ensures err { OnErr result ((self.new ≡ self.old) × (edit.new ≡ edit.old)) }
     {
         self.storage.write_over(edit)
     }

@@ -64,7 +64,7 @@ fn other_arguments_print_the_usage(rt: HostRuntime) {
         b"tendril run ",
         b"tendril  run",
         b"tendril run run",
-        b"tendril decode",
+        b"tendril decode decode",
         b"run tendril",
     ] {
         let seen = run_with(rt.alloc(), arguments);

@@ -1,21 +1,22 @@
 //! Stored bytes that are written over where they stand.
-ghost use Rattle.std.specs.Prelude.{◌≡◌, ◌<◌, ◌≤◌, ◌+◌, ℕ, slice_index, length, take, drop, max, IfOk, IfErr, OnOk, OnErr};
-ghost use Rattle.std.specs.Fn.{FnOnceTakesAtMut, FnOnceReturnsAtMut};
+ghost use Rattle.std.specs.Prelude.{◌≡◌, ◌<◌, ◌≤◌, ◌+◌, ℕ, slice_index, length, take, drop, max, IfOk, IfErr, OnOk, OnErr, IfSome, OnSome, IfNone};
+ghost use Rattle.std.specs.Fn.{CalledAtMut};
 ghost use Rattle.tendril_block.specs.Outcomes.{MemoryMay};
+ghost use Rattle.tendril_storage.specs.Edits.{TakesAtMut};
 
 use crate::storage::{Held, INLINE, Storage, put};
 use tendril_block::{Atomicity, Refusal};
 
 impl<A: Atomicity> Storage<A> {
-    /// Lends the bytes to `edit`: where they stand, if no other holds the block, else in a copy.
-    pub fn write_over<R, E: FnOnce(&mut [u8]) -> R>(&mut self, edit: E) -> Result<R, Refusal>
-        requires { FnOnceTakesAtMut E.FnOnce edit self.old.bytes }
-        ensures bytes { IfOk result (λ r. FnOnceReturnsAtMut E.FnOnce edit self.old.bytes r self.new.bytes) }
+    /// Lends the bytes to `edit`: where they stand, if no other holds the block, else in a copy. Refused, `edit` isn't called.
+    pub fn write_over<R, E: FnMut(&mut [u8]) -> R>(&mut self, edit: &mut E) -> Result<R, Refusal>
+        requires { TakesAtMut E.FnMut edit.old self.old.bytes }
+        ensures bytes { IfOk result (λ r. CalledAtMut E.FnMut edit.old self.old.bytes r edit.new self.new.bytes) }
         ensures are_bytes { OnOk result ((i : ℕ) → slice_index self.new.bytes i < 256) }
         ensures len { length self.new.bytes ≡ length self.old.bytes }
         ensures copied { self.new.copied ≤ max self.old.copied (length self.old.bytes) }
         ensures refusal { IfErr result (MemoryMay (length self.old.bytes)) }
-        ensures err { OnErr result (self.new ≡ self.old) }
+        ensures err { OnErr result ((self.new ≡ self.old) × (edit.new ≡ edit.old)) }
     {
         let moves = self.is_mostly_dropped();
         let written = if moves {
@@ -23,10 +24,9 @@ impl<A: Atomicity> Storage<A> {
         } else {
             self.writes_in_block(edit)
         };
-        let edit = match written {
-            Ok(answer) => return Ok(answer),
-            Err(edit) => edit,
-        };
+        if let Some(answer) = written {
+            return Ok(answer);
+        }
         if self.as_slice().len() <= INLINE {
             return Ok(self.write_inline(edit));
         }
@@ -35,42 +35,37 @@ impl<A: Atomicity> Storage<A> {
         } else {
             self.writes_in_copy(edit)
         };
-        match written {
-            Ok(answer) => Ok(answer),
-            Err(_) => Err(Refusal::Memory),
-        }
+        written.ok_or(Refusal::Memory)
     }
 
-    // The same in a new block, where there is memory for one and it is needed; else hands `edit` back.
-    fn writes_in_copy<R, E: FnOnce(&mut [u8]) -> R>(&mut self, edit: E) -> Result<R, E>
-        requires { FnOnceTakesAtMut E.FnOnce edit self.old.bytes }
-        ensures bytes { IfOk result (λ r. FnOnceReturnsAtMut E.FnOnce edit self.old.bytes r self.new.bytes) }
-        ensures are_bytes { OnOk result ((i : ℕ) → slice_index self.new.bytes i < 256) }
+    // The same in a new block, where there is memory for one and it is needed; else doesn't call `edit`.
+    fn writes_in_copy<R, E: FnMut(&mut [u8]) -> R>(&mut self, edit: &mut E) -> Option<R>
+        requires { TakesAtMut E.FnMut edit.old self.old.bytes }
+        ensures bytes { IfSome result (λ r. CalledAtMut E.FnMut edit.old self.old.bytes r edit.new self.new.bytes) }
+        ensures are_bytes { OnSome result ((i : ℕ) → slice_index self.new.bytes i < 256) }
         ensures len { length self.new.bytes ≡ length self.old.bytes }
-        ensures copied { OnOk result (self.new.copied ≡ length self.old.bytes) }
-        ensures back { IfErr result (λ e. e ≡ edit) }
-        ensures err { OnErr result (self.new ≡ self.old) }
+        ensures copied { OnSome result (self.new.copied ≡ length self.old.bytes) }
+        ensures none { IfNone result ((self.new ≡ self.old) × (edit.new ≡ edit.old)) }
     {
         let Ok(mut copy) = Self::from_slice(self.alloc, self.as_slice()) else {
-            return Err(edit);
+            return None;
         };
         let answer = copy.writes_in_block(edit)?;
         *self = copy;
-        Ok(answer)
+        Some(answer)
     }
 
-    // The same where the bytes stand in a block that no other holds; else hands `edit` back.
-    fn writes_in_block<R, E: FnOnce(&mut [u8]) -> R>(&mut self, edit: E) -> Result<R, E>
-        requires { FnOnceTakesAtMut E.FnOnce edit self.old.bytes }
-        ensures bytes { IfOk result (λ r. FnOnceReturnsAtMut E.FnOnce edit self.old.bytes r self.new.bytes) }
-        ensures are_bytes { OnOk result ((i : ℕ) → slice_index self.new.bytes i < 256) }
+    // The same where the bytes stand in a block that no other holds; else doesn't call `edit`.
+    fn writes_in_block<R, E: FnMut(&mut [u8]) -> R>(&mut self, edit: &mut E) -> Option<R>
+        requires { TakesAtMut E.FnMut edit.old self.old.bytes }
+        ensures bytes { IfSome result (λ r. CalledAtMut E.FnMut edit.old self.old.bytes r edit.new self.new.bytes) }
+        ensures are_bytes { OnSome result ((i : ℕ) → slice_index self.new.bytes i < 256) }
         ensures len { length self.new.bytes ≡ length self.old.bytes }
         ensures copied { self.new.copied ≡ self.old.copied }
-        ensures back { IfErr result (λ e. e ≡ edit) }
-        ensures err { OnErr result (self.new ≡ self.old) }
+        ensures none { IfNone result ((self.new ≡ self.old) × (edit.new ≡ edit.old)) }
     {
         match &mut self.held {
-            Held::Inline { .. } => Err(edit),
+            Held::Inline { .. } => None,
             Held::View {
                 shared,
                 block,
@@ -80,16 +75,16 @@ impl<A: Atomicity> Storage<A> {
                 let start = *offset as usize;
                 let answer = writes_alone::<A, R, E>(block, start, *len as usize, edit)?;
                 shared.set(false);
-                Ok(answer)
+                Some(answer)
             }
         }
     }
 
     // The same for few bytes, which stand inline from then on.
-    fn write_inline<R, E: FnOnce(&mut [u8]) -> R>(&mut self, edit: E) -> R
-        requires callable { FnOnceTakesAtMut E.FnOnce edit self.old.bytes }
+    fn write_inline<R, E: FnMut(&mut [u8]) -> R>(&mut self, edit: &mut E) -> R
+        requires callable { TakesAtMut E.FnMut edit.old self.old.bytes }
         requires short { length self.old.bytes ≤ 8 }
-        ensures bytes { FnOnceReturnsAtMut E.FnOnce edit self.old.bytes result self.new.bytes }
+        ensures bytes { CalledAtMut E.FnMut edit.old self.old.bytes result edit.new self.new.bytes }
         ensures are_bytes { (i : ℕ) → slice_index self.new.bytes i < 256 }
         ensures len { length self.new.bytes ≡ length self.old.bytes }
         ensures copied { self.new.copied ≡ length self.old.bytes }
@@ -106,36 +101,35 @@ impl<A: Atomicity> Storage<A> {
     }
 }
 
-// Lends so many bytes of a block from `start` on to `edit`, where no other holds the block; else hands `edit` back.
-fn writes_alone<A: Atomicity, R, E: FnOnce(&mut [u8]) -> R>(
+// Lends so many bytes of a block from `start` on to `edit`, where no other holds the block; else doesn't call `edit`.
+fn writes_alone<A: Atomicity, R, E: FnMut(&mut [u8]) -> R>(
     block: &mut A::Block,
     start: usize,
     len: usize,
-    edit: E,
-) -> Result<R, E>
+    edit: &mut E,
+) -> Option<R>
     requires within { start + len ≤ length (A.bytes_of block.old) }
-    requires callable { FnOnceTakesAtMut E.FnOnce edit (take len (drop start (A.bytes_of block.old))) }
-    ensures bytes { IfOk result (λ r. FnOnceReturnsAtMut E.FnOnce edit
-        (take len (drop start (A.bytes_of block.old))) r (take len (drop start (A.bytes_of block.new)))) }
-    ensures are_bytes { OnOk result ((i : ℕ) → slice_index (take len (drop start (A.bytes_of block.new))) i < 256) }
+    requires callable { TakesAtMut E.FnMut edit.old (take len (drop start (A.bytes_of block.old))) }
+    ensures bytes { IfSome result (λ r. CalledAtMut E.FnMut edit.old
+        (take len (drop start (A.bytes_of block.old))) r edit.new (take len (drop start (A.bytes_of block.new)))) }
+    ensures are_bytes { OnSome result ((i : ℕ) → slice_index (take len (drop start (A.bytes_of block.new))) i < 256) }
     ensures len { length (A.bytes_of block.new) ≡ length (A.bytes_of block.old) }
     ensures copied { A.copied block.new ≡ A.copied block.old }
-    ensures back { IfErr result (λ e. e ≡ edit) }
-    ensures err { OnErr result (A.bytes_of block.new ≡ A.bytes_of block.old) }
+    ensures none { IfNone result ((A.bytes_of block.new ≡ A.bytes_of block.old) × (edit.new ≡ edit.old)) }
 {
     match A::alone_mut(block) {
         Some(body) => {
             let bytes = body.bytes_mut();
-            Ok(lend(&mut bytes[start..start + len], edit))
+            Some(lend(&mut bytes[start..start + len], edit))
         }
-        None => Err(edit),
+        None => None,
     }
 }
 
 // Lends bytes to `edit`. What it leaves there are bytes, by their type.
-fn lend<R, E: FnOnce(&mut [u8]) -> R>(bytes: &mut [u8], edit: E) -> R
-    requires { FnOnceTakesAtMut E.FnOnce edit bytes.old }
-    ensures bytes { FnOnceReturnsAtMut E.FnOnce edit bytes.old result bytes.new }
+fn lend<R, E: FnMut(&mut [u8]) -> R>(bytes: &mut [u8], edit: &mut E) -> R
+    requires { TakesAtMut E.FnMut edit.old bytes.old }
+    ensures bytes { CalledAtMut E.FnMut edit.old bytes.old result edit.new bytes.new }
     ensures are_bytes { (i : ℕ) → slice_index bytes.new i < 256 }
 {
     edit(bytes)

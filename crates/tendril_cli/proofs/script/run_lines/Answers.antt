@@ -1,4 +1,3 @@
-use Rattle.std.proofs.Common.{map, take}
 use Rattle.std.proofs.lemmas.List.{take_all}
 use Rattle.std.proofs.lemmas.Result.{err_from_is_err_and}
 use Rattle.tendril_cli.proofs.HeldLemmas.{nothing_printed, next_line, line_refused, write_refused}

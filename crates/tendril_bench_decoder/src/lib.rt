@@ -1,0 +1,7 @@
+//! Tests of what no contract says of sinks, decoders and readers: that calls succeed, and rows written out.
+#![tactic(auto)]
+
+pub mod count;
+#[cfg(test)]
+mod tests;
+pub mod two;

@@ -1,0 +1,200 @@
+-- What a decoder over a sink that joins texts leaves to be written.
+use Rattle.std.proofs.Common.{◌≡◌, ℕ, ◌⊎◌, Bool, true, false, List, [], ◌∷◌, ◌++◌, map, flat_map, Option, None, Some, IfSome, refl, sym, ap, ap₂, subst, ◌∙◌, append_assoc, append-nil, inl, inr, IsUtf8, chars, Result, Ok, Err, OnOk, ⊎_elim, true≢false, MatchOption}
+use Rattle.std.proofs.KnownBytes.{Appends-nil, Appends-trans}
+use Rattle.std.proofs.lemmas.Option.{same_Some}
+use Rattle.std.proofs.lemmas.Str.{IsUtf8-append, IsUtf8-nil, chars-append, chars-nil}
+use Rattle.std.specs.Io.KnownBytes.{Appends, Consumes}
+use Rattle.std.specs.List.{FoldsTo}
+use Rattle.tendril.specs.Pushes.{Joins as Pushes}
+use Rattle.tendril.specs.Texts.{Text}
+use Rattle.tendril_block.specs.declared.refusal.Refusal.{Refusal}
+use Rattle.tendril_block.specs.declared.refusal.Refusal.TheVariants.{Failed, TooManyReads}
+use Rattle.tendril_lossy.proofs.Streams.{due-append, due_open-append, kept-append}
+use Rattle.tendril_lossy.proofs.Lossy.{lossy-nil}
+use Rattle.tendril_lossy.specs.Lossy.{Told, Char, Mark, characters, closed_of, cut_bytes, due, due_open, kept}
+use Rattle.tendril_stream.proofs.Own.{end_clash, process_clash, unfailed}
+use Rattle.tendril_stream.specs.Decoders.{Decodes, DecodingStops as Stopping, Ends, EndStops, nothing}
+use Rattle.tendril_stream.specs.Readings.{Halts, ReadsAll}
+use Rattle.tendril_stream.specs.Reads.{Reads}
+use Rattle.tendril_stream.specs.Sinks.{Sent, Piece, Feeds, IsStop, told, told_of}
+use Rattle.tendril_cli.specs.Decodings.{DecodingStops, EndsDecoding, IsReady, StopsBehind, Writes, WritesFront, WritesOn}
+use Rattle.tendril_cli.specs.Endings.{TakesFront}
+use Rattle.tendril_cli.proofs.EndingLemmas.{whole_front}
+
+pub characters-append : (xs ys : List Told) → characters (xs ++ ys) ≡ characters xs ++ characters ys
+characters-append [] ys = refl
+characters-append (Char c ∷ xs) ys = ap (λ l. c ∷ l) (characters-append xs ys)
+characters-append (Mark words ∷ xs) ys = characters-append xs ys
+
+pub characters-text : (cs : List ℕ) → characters (map Char cs) ≡ cs
+characters-text [] = refl
+characters-text (c ∷ cs) = ap (λ l. c ∷ l) (characters-text cs)
+
+-- a sink that adds the characters of what it is sent to those that it has
+module _ {S : Type 0} (has : S → List ℕ) where
+  abbrev pub Joins : S → Sent → S → Type 0
+  Joins a e b = has b ≡ has a ++ characters (told_of e)
+
+  joins : (a : S) (es : List Sent) (b : S) → FoldsTo Joins a es b → has b ≡ has a ++ characters (told es)
+  joins a [] b h = ap has (sym h) ∙ sym (append-nil (has a))
+  joins a (e ∷ es) b h =
+      joins h.0 es b h.2 ∙ ap (λ l. l ++ characters (told es)) h.1 ∙ append_assoc (has a) (characters (told_of e)) (characters (told es)) ∙ ap (λ l. has a ++ l) (sym (characters-append (told_of e) (told es)))
+
+  fed : (piece : Text) (a b : S) (due : List Told) → Feeds Joins piece a due b → has b ≡ has a ++ characters due
+  fed piece a b due h = joins a h.sent b h.calls ∙ ap (λ t. has a ++ characters t) h.tells
+
+  -- the written characters and those of the sink are what is due of b
+  pub record Stands (written : List ℕ) (sink : S) (held b : List ℕ) : Type 0 where
+    pub tells : written ++ has sink ≡ characters (due_open b)
+    pub keeps : held ≡ kept b
+
+  -- a sink that has nothing
+  pub ready_stands : (b held unwritten : List ℕ) (failed : Bool) (sink : S) → IsReady b held failed unwritten → has sink ≡ chars unwritten → Stands (characters (due_open b)) sink held b
+  ready_stands b held unwritten failed sink ready is = record { tells = ap (λ l. characters (due_open b) ++ l) (is ∙ ap chars ready.empty ∙ chars-nil) ∙ append-nil (characters (due_open b)); keeps = ready.keeps }
+
+  stands_on : (written : List ℕ) (sink next : S) (k l b : List ℕ) (piece : Text) → Stands written sink k b → Decodes Joins sink k (Piece piece) next l → Stands written next l (b ++ piece.bytes)
+  stands_on written sink next k l b piece s h = record {
+    tells = ap (λ l. written ++ l) (fed piece sink next (due_open (k ++ piece.bytes)) h.0) ∙ sym (append_assoc written (has sink) (characters (due_open (k ++ piece.bytes))))
+        ∙ ap₂ (λ x y. x ++ characters (due_open (y ++ piece.bytes))) s.tells s.keeps ∙ sym (characters-append (due_open b) (due_open (kept b ++ piece.bytes))) ∙ ap characters (sym (due_open-append b piece.bytes));
+    keeps = h.1 ∙ ap (λ x. kept (x ++ piece.bytes)) s.keeps ∙ sym (kept-append b piece.bytes);
+  }
+
+  module _ {D : Type 0} (inner : D → S) (held : D → List ℕ) (failed : D → Bool) where
+    pub stands_after : (written : List ℕ) (pieces : List Text) (d last : D) (b : List ℕ) → Stands written (inner d) (held d) b
+        → FoldsTo (λ s x t. (failed s ≡ false) × (failed t ≡ false) × Decodes Joins (inner s) (held s) (Piece x) (inner t) (held t)) d pieces last
+        → Stands written (inner last) (held last) (b ++ flat_map (λ x. x.bytes) pieces)
+    stands_after written [] d last b s h = subst (Stands written (inner last) (held last)) (sym (append-nil b)) (subst (λ e. Stands written (inner e) (held e) b) h s)
+    stands_after written (x ∷ pieces) d last b s h =
+        subst (Stands written (inner last) (held last)) (append_assoc b x.bytes (flat_map (λ x. x.bytes) pieces))
+        (stands_after written pieces h.0 last (b ++ x.bytes) (stands_on written (inner d) (inner h.0) (held d) (held h.0) b x s h.1.2) h.2)
+
+  pub ended : {O : Type 0} (written : List ℕ) (finishes : S → O → Type 0) (sink : S) (k b : List ℕ) (out : O) → Stands written sink k b → Ends Joins finishes sink k out → (last : S) × (written ++ has last ≡ characters (due b)) × finishes last out
+  ended written finishes sink k b out s h = (
+    h.0,
+    ap (λ l. written ++ l) (fed nothing sink h.0 (due k) h.1) ∙ sym (append_assoc written (has sink) (characters (due k))) ∙ ap₂ (λ x y. x ++ characters (due y)) s.tells s.keeps ∙ sym (characters-append (due_open b) (due (kept b)))
+        ∙ ap characters (sym (ap due (sym (append-nil b)) ∙ due-append b [] ∙ ap (λ l. due_open b ++ due l) (append-nil (kept b)))),
+    h.2,
+  )
+
+-- what is due of the first bytes begins what is due of all
+pub due_front : (b l : List ℕ) → characters (due (b ++ l)) ≡ characters (due_open b) ++ characters (due (kept b ++ l))
+due_front b l = ap characters (due-append b l) ∙ characters-append (due_open b) (due (kept b ++ l))
+
+-- nothing is written
+pub front_nothing : (known : Option (List ℕ)) (cs : List ℕ) → WritesFront cs known known
+front_nothing known cs = record { bytes = []; rest = cs; utf8 = IsUtf8-nil; spells = ap (λ l. l ++ cs) chars-nil; front = whole_front known known [] (Appends-nil known) }
+
+pub stops_unwritten : (b p : List ℕ) (left known : Option (List ℕ)) → StopsBehind b p left known known
+stops_unwritten b p left known =
+    let more = characters (due_open (kept b ++ p)) in
+    (more, front_nothing known more, inl (sym (characters-append (due_open b) (due_open (kept b ++ p))) ∙ ap characters (sym (due_open-append b p))))
+
+-- a text
+pub writes_text : (before after : Option (List ℕ)) (bytes : List ℕ) → IsUtf8 bytes → Appends before after bytes → Writes (chars bytes) before after
+writes_text before after bytes u h = record { bytes = bytes; utf8 = u; spells = refl; appends = h }
+
+pub front_of_text : (before after : Option (List ℕ)) (bytes : List ℕ) → IsUtf8 bytes → TakesFront before after bytes → WritesFront (chars bytes) before after
+front_of_text before after bytes u h = record { bytes = bytes; rest = []; utf8 = u; spells = append-nil (chars bytes); front = h }
+
+-- one behind the other
+pub writes_both : (a b c : Option (List ℕ)) (cs ds : List ℕ) → Writes cs a b → Writes ds b c → Writes (cs ++ ds) a c
+writes_both a b c cs ds x y = record {
+  bytes = x.bytes ++ y.bytes;
+  utf8 = IsUtf8-append x.bytes y.bytes x.utf8 y.utf8;
+  spells = chars-append x.bytes y.bytes x.utf8 ∙ ap₂ (λ l m. l ++ m) x.spells y.spells;
+  appends = Appends-trans a b c x.bytes y.bytes x.appends y.appends;
+}
+
+pub writes_then_front : (a b c : Option (List ℕ)) (cs ds : List ℕ) → Writes cs a b → WritesFront ds b c → WritesFront (cs ++ ds) a c
+writes_then_front a b c cs ds x y = record {
+  bytes = x.bytes ++ y.bytes;
+  rest = y.rest;
+  utf8 = IsUtf8-append x.bytes y.bytes x.utf8 y.utf8;
+  spells = ap (λ l. l ++ y.rest) (chars-append x.bytes y.bytes x.utf8) ∙ append_assoc (chars x.bytes) (chars y.bytes) y.rest ∙ ap₂ (λ l m. l ++ m) x.spells y.spells;
+  front = record { taken = x.bytes ++ y.front.taken; rest = y.front.rest; splits = ap (λ l. x.bytes ++ l) y.front.splits ∙ sym (append_assoc x.bytes y.front.taken y.front.rest); appends = Appends-trans a b c x.bytes y.front.taken x.appends y.front.appends };
+}
+
+-- more is due behind it
+pub front_of_more : (a b : Option (List ℕ)) (cs more all : List ℕ) → WritesFront cs a b → cs ++ more ≡ all → WritesFront all a b
+front_of_more a b cs more all x is = record { bytes = x.bytes; rest = x.rest ++ more; utf8 = x.utf8; spells = sym (append_assoc (chars x.bytes) x.rest more) ∙ ap (λ l. l ++ more) x.spells ∙ is; front = x.front }
+
+pub whole_is_front : (a b : Option (List ℕ)) (cs : List ℕ) → Writes cs a b → WritesFront cs a b
+whole_is_front a b cs x = record { bytes = x.bytes; rest = []; utf8 = x.utf8; spells = append-nil (chars x.bytes) ∙ x.spells; front = whole_front a b x.bytes x.appends }
+
+-- a stop behind what was written
+pub stops_all : (old left : Option (List ℕ)) (before mid after : Option (List ℕ)) (b p : List ℕ) → Writes (characters (due_open b)) before mid → Consumes old left (b ++ p) → StopsBehind b p left mid after → IfSome old (λ bytes. DecodingStops bytes before after)
+stops_all None left before mid after b p w c s = tt
+stops_all (Some x) None before mid after b p w c s = absurd c
+stops_all (Some x) (Some y) before mid after b p w c (more, front, inl is) =
+    front_of_more before after (characters (due_open b) ++ more) (characters (due (kept (b ++ p) ++ y))) (characters (due x)) (writes_then_front before mid after (characters (due_open b)) more w front)
+    (ap (λ l. l ++ characters (due (kept (b ++ p) ++ y))) is ∙ sym (due_front (b ++ p) y) ∙ ap (λ l. characters (due l)) (sym c))
+stops_all (Some x) (Some y) before mid after b p w c (more, front, inr is) =
+    front_of_more before after (characters (due_open b) ++ more) [] (characters (due x)) (writes_then_front before mid after (characters (due_open b)) more w front)
+    (append-nil (characters (due_open b) ++ more) ∙ is.0 ∙ ap (λ l. characters (due l)) (sym (append-nil (b ++ p)) ∙ ap (λ l. (b ++ p) ++ l) (sym is.1) ∙ sym c))
+
+pub pushed : (r : Result (Unit {0}) Refusal) (old new : Text) (more : List ℕ) → IsUtf8 old.bytes → Pushes (λ a b. a ++ b) more old r new → OnOk r (chars new.bytes ≡ chars old.bytes ++ characters (map Char (chars more)))
+pushed (Ok r) old new more u h = ap chars h.outcome.1 ∙ chars-append old.bytes more u ∙ ap (λ l. chars old.bytes ++ l) (sym (characters-text (chars more)))
+pushed (Err e) old new more u h = tt
+
+-- a decoder, and what reading into it comes to
+module _ {D S : Type 0} (inner : D → S) (held : D → List ℕ) (failed : D → Bool) (has : S → List ℕ) (refuses : S → Sent → Refusal → S → Type 0) (finish_refused : S → Refusal → Type 0) where
+  abbrev pub DecoderTakes : D → Sent → D → Type 0
+  DecoderTakes d e n = (failed d ≡ false) × (failed n ≡ false) × Decodes (Joins has) (inner d) (held d) e (inner n) (held n)
+
+  abbrev pub DecoderRefuses : D → Sent → Refusal → D → Type 0
+  DecoderRefuses d e r n = (failed n ≡ true) × (((failed d ≡ true) × (r ≡ Failed) × (inner n ≡ inner d)) ⊎ ((failed d ≡ false) × Stopping (Joins has) refuses (inner d) (held d) e r (inner n)))
+
+  abbrev pub DecoderEnds : D → Refusal → Type 0
+  DecoderEnds d r = ((failed d ≡ true) × (r ≡ Failed)) ⊎ ((failed d ≡ false) × EndStops (Joins has) refuses finish_refused (inner d) (held d) r)
+
+  -- no read was left: the decoder goes on
+  pub reads_more : (most : ℕ) (written b : List ℕ) (d next : D) (these : Reads) → Halts DecoderTakes DecoderRefuses DecoderEnds most d these TooManyReads (Some next) → failed d ≡ false → Stands has written (inner d) (held d) b
+      → Stands has written (inner next) (held next) (b ++ these.given) × (failed next ≡ false)
+  reads_more most written b d next these (inl h) whole s =
+      let same : h.0 ≡ next = sym (same_Some next h.0 h.2) in
+      subst (λ n. Stands has written (inner n) (held n) (b ++ these.given) × (failed n ≡ false)) same
+      (subst (λ g. Stands has written (inner h.0) (held h.0) (b ++ g)) h.1.2 (stands_after has inner held failed written h.1.0 d h.0 b s h.1.1), unfailed failed _ h.1.0 d h.0 whole h.1.1)
+  reads_more most written b d next these (inr (inl h)) whole s = absurd (process_clash _ _ _ _ _ _ h.2 TooManyReads h.6.1 (inl refl))
+  reads_more most written b d next these (inr (inr h)) whole s = absurd (end_clash _ _ _ _ _ _ TooManyReads h.2 (inl refl))
+
+  stop_ends : (mid new : S) (r : Refusal) → IsStop refuses mid r new → EndsDecoding r
+  stop_ends mid new r (inl h) = inr (inl h.0)
+  stop_ends mid new r (inr h) = inr (inr (inr (inr h.0)))
+
+  -- any other refusal ends the decoding
+  pub halts_ends : (most : ℕ) (d : D) (these : Reads) (r : Refusal) (handed : Option D) → Halts DecoderTakes DecoderRefuses DecoderEnds most d these r handed → failed d ≡ false → EndsDecoding r
+  halts_ends most d these r handed (inl h) whole = ⊎_elim (λ k. inr (inr (inl k.0))) (λ k. ⊎_elim (λ i. inr (inr (inr (inl i.0)))) (λ m. inl m.0) k) h.3
+  halts_ends most d these r handed (inr (inl h)) whole = ⊎_elim
+      (λ k. absurd (true≢false (sym k.0 ∙ unfailed failed _ h.4.0 d h.0 whole h.4.1)))
+      (λ k. stop_ends k.1.mid (inner h.3) r k.1.stop)
+      h.6.1
+  halts_ends most d these r handed (inr (inr h)) whole = ⊎_elim
+      (λ k. absurd (true≢false (sym k.0 ∙ unfailed failed _ h.1.0 d h.0 whole h.1.1)))
+      (λ k. ⊎_elim (λ v. stop_ends v.1.mid v.0 r v.1.stop) (λ v. inr (inr (inr (inr v.2)))) k.1)
+      h.2
+
+  -- all is read, and the sink's end is accepted
+  pub reads_to_end : {O : Type 0} (finishes : S → O → Type 0) (most : ℕ) (written b : List ℕ) (d : D) (these : Reads) (out : O) → ReadsAll DecoderTakes (λ d o. (failed d ≡ false) × Ends (Joins has) finishes (inner d) (held d) o) most d these out → Stands has written (inner d) (held d) b
+      → (last : S) × (written ++ has last ≡ characters (due (b ++ these.given))) × finishes last out
+  reads_to_end finishes most written b d these out h s =
+      let r = h.receives in
+      ended has written finishes (inner h.last) (held h.last) (b ++ these.given) out
+      (subst (λ g. Stands has written (inner h.last) (held h.last) (b ++ g)) r.2 (stands_after has inner held failed written r.0 d h.last b s r.1)) h.finished.1
+
+-- which arm it was
+pub at_none : {D : Type 0} (next : Option D) (A : Type 0) (B : D → Type 0) → next ≡ None → MatchOption next A B → A
+at_none next A B e h = subst (λ o. MatchOption o A B) e h
+
+pub at_some : {D : Type 0} (next : Option D) (d : D) (A : Type 0) (B : D → Type 0) → next ≡ Some d → MatchOption next A B → B d
+at_some next d A B e h = subst (λ o. MatchOption o A B) e h
+
+-- nothing is read yet
+pub at_first : (known : Option (List ℕ)) → Writes (characters (due_open [])) known known
+at_first known = record { bytes = []; utf8 = IsUtf8-nil; spells = chars-nil ∙ sym (ap (λ l. characters (flat_map closed_of l)) lossy-nil); appends = Appends-nil known }
+
+pub ready_first : (held unwritten : List ℕ) (failed : Bool) → held ≡ [] → failed ≡ false → unwritten ≡ [] → IsReady [] held failed unwritten
+ready_first held unwritten failed h f u = record { keeps = h ∙ sym (ap cut_bytes lossy-nil); goes_on = f; empty = u }
+
+-- one read more
+pub writes_more : (before mid after : Option (List ℕ)) (b : List ℕ) (told : List Told) → Writes (characters (due_open b)) before mid → WritesOn b told mid after → Writes (characters told) before after
+writes_more before mid after b told w (more, x, is) = subst (λ cs. Writes cs before after) is (writes_both before mid after (characters (due_open b)) more w x)

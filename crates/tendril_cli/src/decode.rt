@@ -1,0 +1,100 @@
+//! Decoding of the input to the output.
+ghost use Rattle.std.specs.Prelude.{◌≡◌, Some, List, ℕ, ◌++◌, IsUtf8, IfOk, IfErr, OnOk, OnErr, IfSome, MatchOption};
+ghost use Rattle.std.specs.Io.KnownBytes.{Appends, Consumes, IsAtEnd};
+ghost use Rattle.tendril_lossy.specs.Lossy.{due, due_open};
+ghost use Rattle.tendril_cli.specs.Decodings.{Decoded, DecodingStops, EndsDecoding, IsReady, StopsBehind, WritesOn};
+ghost use Rattle.tendril_cli.specs.Endings.{TakesFront};
+
+use crate::joined::Joined;
+use crate::output::{flush, write_bytes};
+use std::alloc::Global;
+use std::io::{Read, Write};
+use tendril::StrTendril;
+use tendril::block::Refusal;
+use tendril_stream::{Counted, CountedRead, Stopped, Utf8LossyDecoder, read_from};
+
+/// Decodes all that the input has, and writes the texts: those of one read before the next is made. A failed write is
+/// SinkRefused.
+pub fn decode<R: Read + Drop, W: Write>(alloc: Global, input: R, out: &mut W) -> Result<(), Refusal>
+    ensures ok { OnOk result (IfSome (R.remaining input) (λ bytes. Decoded bytes (W.contents out.old) (W.contents out.new))) }
+    ensures refusal { IfErr result EndsDecoding }
+    ensures stops { IfErr result (λ r. IfSome (R.remaining input)
+        (λ bytes. DecodingStops bytes (W.contents out.old) (W.contents out.new))) }
+{
+    let mut reader = Counted::new(input);
+    let mut decoder = Utf8LossyDecoder::new(alloc, Joined::new(alloc));
+    for _ in 0..u64::MAX {
+        match decode_read(alloc, decoder, &mut reader, out) {
+            Ok(Some(next)) => decoder = next,
+            Ok(None) => return Ok(()),
+            Err(refusal) => return Err(refusal),
+        }
+    }
+    Err(Refusal::TooManyReads)
+}
+
+// Makes one read, and writes what is decoded then. The decoder comes back where there may be more to read.
+fn decode_read<R: CountedRead, W: Write>(
+    alloc: Global,
+    decoder: Utf8LossyDecoder<Joined>,
+    reader: &mut R,
+    out: &mut W,
+) -> Result<Option<Utf8LossyDecoder<Joined>>, Refusal>
+    ensures ok { (b : List ℕ) → IsReady b decoder.kept decoder.failed decoder.inner_sink.text.bytes → IfOk result (λ next.
+        (p : List ℕ) × Consumes (R.remaining reader.old) (R.remaining reader.new) p × MatchOption next
+        (WritesOn b (due (b ++ p)) (W.contents out.old) (W.contents out.new) × IsAtEnd (R.remaining reader.new))
+        (λ d. WritesOn b (due_open (b ++ p)) (W.contents out.old) (W.contents out.new)
+        × IsReady (b ++ p) d.kept d.failed d.inner_sink.text.bytes)) }
+    ensures err { (b : List ℕ) → IsReady b decoder.kept decoder.failed decoder.inner_sink.text.bytes → IfErr result (λ r.
+        EndsDecoding r × ((p : List ℕ) × Consumes (R.remaining reader.old) (R.remaining reader.new) p
+        × StopsBehind b p (R.remaining reader.new) (W.contents out.old) (W.contents out.new))) }
+{
+    match read_from(alloc, decoder, reader, 1) {
+        Ok(text) => {
+            if let Err(refusal) = write_text(&text, out) {
+                return Err(refusal);
+            }
+            Ok(None)
+        }
+        Err(stopped) => {
+            let mut decoder = match may_read_on(stopped) {
+                Ok(decoder) => decoder,
+                Err(refusal) => return Err(refusal),
+            };
+            if let Err(refusal) = write_text(&decoder.inner_sink.text, out) {
+                return Err(refusal);
+            }
+            decoder.inner_sink.text.clear();
+            Ok(Some(decoder))
+        }
+    }
+}
+
+// The decoder, where reading stopped since no read was left.
+fn may_read_on(
+    stopped: Stopped<Utf8LossyDecoder<Joined>>,
+) -> Result<Utf8LossyDecoder<Joined>, Refusal>
+    ensures ok { IfOk result (λ d. (stopped.refusal ≡ Refusal.TooManyReads) × (stopped.sink ≡ Some d)) }
+    ensures err { IfErr result (λ r. r ≡ stopped.refusal) }
+{
+    match (stopped.refusal, stopped.sink) {
+        (Refusal::TooManyReads, Some(decoder)) => Ok(decoder),
+        (refusal, _) => Err(refusal),
+    }
+}
+
+// Writes a text, and flushes.
+fn write_text<W: Write>(text: &StrTendril, out: &mut W) -> Result<(), Refusal>
+    ensures utf8 { IsUtf8 text.now.bytes }
+    ensures ok { OnOk result (Appends (W.contents out.old) (W.contents out.new) text.now.bytes) }
+    ensures err { OnErr result (TakesFront (W.contents out.old) (W.contents out.new) text.now.bytes) }
+    ensures refusal { IfErr result (λ r. r ≡ Refusal.SinkRefused) }
+{
+    if let Err(_) = write_bytes(out, text.as_str().as_bytes()) {
+        return Err(Refusal::SinkRefused);
+    }
+    if let Err(_) = flush(out) {
+        return Err(Refusal::SinkRefused);
+    }
+    Ok(())
+}

@@ -1,0 +1,42 @@
+-- A refusal of reading itself is none of a decoder.
+use Rattle.std.proofs.Common.{◌≡◌, ℕ, ◌⊎◌, Bool, true, false, List, [], ◌∷◌, sym, ap, ◌∙◌, ⊎_elim, true≢false, inl, inr, refl}
+use Rattle.std.specs.List.{FoldsTo}
+use Rattle.tendril.specs.Texts.{Text}
+use Rattle.tendril_block.specs.declared.refusal.Refusal.{Refusal}
+use Rattle.tendril_block.specs.declared.refusal.Refusal.TheVariants.{Count, Failed, Io, Memory, SinkRefused, TooManyReads}
+use Rattle.tendril_stream.specs.Decoders.{DecodingStops, EndStops}
+use Rattle.tendril_stream.specs.Readings.{IsOfReading}
+use Rattle.tendril_stream.specs.Sinks.{Sent, Piece, IsStop}
+
+abbrev of_reading : Refusal → Bool
+of_reading Memory = true
+of_reading TooManyReads = true
+of_reading Io = true
+of_reading other = false
+
+is_of_reading : (r : Refusal) → IsOfReading r → of_reading r ≡ true
+is_of_reading r (inl e) = ap of_reading e
+is_of_reading r (inr (inl e)) = ap of_reading e
+is_of_reading r (inr (inr e)) = ap of_reading e
+
+clash : (r q : Refusal) → of_reading q ≡ false → r ≡ q → IsOfReading r → ⊥
+clash r q f e h = true≢false (sym (is_of_reading r h) ∙ ap of_reading e ∙ f)
+
+stop_clash : {S : Type 0} (refuses : S → Sent → Refusal → S → Type 0) (mid new : S) (r : Refusal) → IsStop refuses mid r new → IsOfReading r → ⊥
+stop_clash refuses mid new r h o = ⊎_elim (λ k. clash r Count refl k.0 o) (λ k. clash r SinkRefused refl k.0 o) h
+
+pub process_clash : {S : Type 0} (takes : S → Sent → S → Type 0) (refuses : S → Sent → Refusal → S → Type 0) (a b : S) (f : Bool) (k : List ℕ) (x : Text) (r : Refusal)
+    → ((f ≡ true) × (r ≡ Failed) × (b ≡ a)) ⊎ ((f ≡ false) × DecodingStops takes refuses a k (Piece x) r b) → IsOfReading r → ⊥
+process_clash takes refuses a b f k x r h o = ⊎_elim (λ w. clash r Failed refl w.1 o) (λ w. stop_clash refuses w.1.mid b r w.1.stop o) h
+
+pub end_clash : {S : Type 0} (takes : S → Sent → S → Type 0) (refuses : S → Sent → Refusal → S → Type 0) (ends : S → Refusal → Type 0) (a : S) (f : Bool) (k : List ℕ) (r : Refusal)
+    → ((f ≡ true) × (r ≡ Failed)) ⊎ ((f ≡ false) × EndStops takes refuses ends a k r) → IsOfReading r → ⊥
+end_clash takes refuses ends a f k r h o = ⊎_elim
+    (λ w. clash r Failed refl w.1 o)
+    (λ w. ⊎_elim (λ v. stop_clash refuses v.1.mid v.0 r v.1.stop o) (λ v. clash r SinkRefused refl v.2 o) w.1)
+    h
+
+-- a decoder that accepted each piece hasn't failed
+pub unfailed : {D : Type 0} (failed : D → Bool) (P : D → Text → D → Type 0) (pieces : List Text) (d last : D) → failed d ≡ false → FoldsTo (λ s x t. (failed s ≡ false) × (failed t ≡ false) × P s x t) d pieces last → failed last ≡ false
+unfailed failed P [] d last e h = ap failed (sym h) ∙ e
+unfailed failed P (x ∷ pieces) d last e h = unfailed failed P pieces h.0 last h.1.1 h.2

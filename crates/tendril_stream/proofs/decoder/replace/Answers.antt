@@ -1,0 +1,22 @@
+use Rattle.std.proofs.Common.{◌∙◌, ◌∷◌, [], length, ap, map, refl, sym}
+use Rattle.tendril.proofs.Decoding.{IsReplacement, replacement-handed, replacement-chars}
+use Rattle.tendril_lossy.specs.Lossy.{Char, Mark, replaced}
+use Rattle.tendril_stream.specs.Sinks.{Piece, Fault, told_of}
+use Rattle.tendril_stream.proofs.Feeds.{Feeds-one, Feeds-append, Feeds-same, Stops-here, Stops-after}
+use Rattle.tendril_stream.proofs.decoder.replace.Goals as goal
+
+pub returns-in-Err-send-clause-err : goal.returns-in-Err-send-clause-err
+returns-in-Err-send-clause-err g c = λ piece.
+    Stops-after g.S.TendrilSink.takes g.S.TendrilSink.refuses piece c.args.sink.now c.error.new.self c.send.new.sink (Mark c.args.words.now ∷ []) (Char 0xFFFD ∷ []) (replaced c.args.words.now) c.in-Err-send.refusal
+    (Feeds-one g.S.TendrilSink.takes piece c.args.sink.now (Fault c.args.words.now) c.error.new.self tt c.in_default.ensures.ok)
+    (Stops-here g.S.TendrilSink.takes g.S.TendrilSink.refuses piece c.error.new.self (Char 0xFFFD ∷ []) c.in-Err-send.refusal c.send.new.sink c.in-Err-send.ensures.err)
+    refl
+
+pub returns-clause-ok : goal.returns-clause-ok
+returns-clause-ok g c = λ piece.
+    let t = c.short.result in
+    let is : IsReplacement t = record { bytes = c.short.ensures.bytes; copied = c.short.ensures.copied ∙ sym (ap length c.short.ensures.bytes) } in
+    Feeds-append g.S.TendrilSink.takes piece c.args.sink.now c.error.new.self c.send.new.sink (Mark c.args.words.now ∷ []) (Char 0xFFFD ∷ [])
+    (Feeds-one g.S.TendrilSink.takes piece c.args.sink.now (Fault c.args.words.now) c.error.new.self tt c.in_default.ensures.ok)
+    (Feeds-same g.S.TendrilSink.takes piece c.error.new.self c.send.new.sink (told_of (Piece t)) (Char 0xFFFD ∷ []) (ap (map Char) (replacement-chars t is))
+    (Feeds-one g.S.TendrilSink.takes piece c.error.new.self (Piece t) c.send.new.sink (replacement-handed piece t is) c.in_default-send.ensures.ok))

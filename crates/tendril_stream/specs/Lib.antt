@@ -1,0 +1,6 @@
+pub mod Sinks
+pub mod Events
+pub mod Decoders
+pub mod Compositions
+pub mod Reads
+pub mod Readings

@@ -1,0 +1,71 @@
+-- What is sent to a sink, and what it tells.
+use Rattle.std.specs.Prelude.{◌≡◌, ℕ, ◌⊎◌, List, [], ◌∷◌, ◌++◌, map, flat_map, chars, All, Option, Some, None}
+use Rattle.std.specs.List.{FoldsTo}
+use Rattle.std.specs.Iterator.{YieldsThen}
+use Rattle.tendril.specs.Decoding.{IsHandedOn}
+use Rattle.tendril.specs.Texts.{Text}
+use Rattle.tendril_block.specs.declared.refusal.Refusal.{Refusal}
+use Rattle.tendril_block.specs.declared.refusal.Refusal.TheVariants.{Count, SinkRefused}
+use Rattle.tendril_lossy.specs.Lossy.{Told, Char, Mark}
+
+-- a text, or an error with its words
+pub data Sent : Type 0 where
+  Piece : Text → Sent
+  Fault : List ℕ → Sent
+
+-- what was sent tells the text's characters, or a mark with the error's words
+abbrev pub told_of : Sent → List Told
+told_of (Piece t) = map Char (chars t.bytes)
+told_of (Fault words) = Mark words ∷ []
+
+abbrev pub told : List Sent → List Told
+told sent = flat_map told_of sent
+
+-- what is sent of a piece: an error, or a text that isn't empty and copied no bytes but those that the piece had, or few
+abbrev pub IsSentOf : Text → Sent → Type 0
+IsSentOf piece (Piece t) = IsHandedOn piece t
+IsSentOf piece (Fault words) = Unit {0}
+
+-- a sink accepted calls, one after another, that tell these
+pub record Feeds {S : Type 0} (takes : S → Sent → S → Type 0) (piece : Text) (old : S) (due : List Told) (new : S) : Type 0 where
+  pub sent : List Sent
+  pub each : All (IsSentOf piece) sent
+  pub calls : FoldsTo takes old sent new
+  pub tells : told sent ≡ due
+
+-- a call was refused by the sink, or wasn't made since a slice was refused
+abbrev pub IsStop : {S : Type 0} → (S → Sent → Refusal → S → Type 0) → S → Refusal → S → Type 0
+IsStop refuses mid refusal new = ((refusal ≡ Count) × (new ≡ mid)) ⊎ ((refusal ≡ SinkRefused) × (e : Sent) × (r : Refusal) × refuses mid e r new)
+
+-- a sink accepted calls that tell a beginning of these, and then there was a refusal
+pub record Stops {S : Type 0} (takes : S → Sent → S → Type 0) (refuses : S → Sent → Refusal → S → Type 0) (piece : Text) (old : S) (due : List Told) (refusal : Refusal) (new : S) : Type 0 where
+  pub sent : List Sent
+  pub each : All (IsSentOf piece) sent
+  pub mid : S
+  pub calls : FoldsTo takes old sent mid
+  pub rest : List Told
+  pub front : told sent ++ rest ≡ due
+  pub stop : IsStop refuses mid refusal new
+
+-- The texts of an iterator, sent one after another.
+module _ {I It T S : Type 0} (becomes : I → It → Type 0) (steps : It → Option T → It → Type 0) (text : T → Text) (takes : S → Sent → S → Type 0) where
+  -- each of them is accepted, and so is the end
+  pub record SendsAll {O : Type 0} (finishes : S → O → Type 0) (sink : S) (texts : I) (out : O) : Type 0 where
+    pub iterator : It
+    pub made : becomes texts iterator
+    pub sent : List T
+    pub last : It
+    pub yields : YieldsThen steps iterator sent None last
+    pub sunk : S
+    pub calls : FoldsTo (λ s x t. takes s (Piece (text x)) t) sink sent sunk
+    pub ends : finishes sunk out
+
+  -- some are accepted, and then one is refused, or the end
+  pub record SendsSome (refuses : S → Sent → Refusal → S → Type 0) (ends : S → Refusal → Type 0) (sink : S) (texts : I) (refusal : Refusal) : Type 0 where
+    pub iterator : It
+    pub made : becomes texts iterator
+    pub sent : List T
+    pub last : It
+    pub sunk : S
+    pub calls : FoldsTo (λ s x t. takes s (Piece (text x)) t) sink sent sunk
+    pub stop : ((x : T) × YieldsThen steps iterator sent (Some x) last × (s : S) × refuses sunk (Piece (text x)) refusal s) ⊎ (YieldsThen steps iterator sent None last × ends sunk refusal)

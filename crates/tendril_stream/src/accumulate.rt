@@ -1,0 +1,86 @@
+//! A sink that stores what it is sent.
+ghost use Rattle.std.specs.Prelude.{◌≡◌, [], ◌∷◌, ◌++◌, OnOk, IfErr};
+
+use crate::sink::TendrilSink;
+use std::alloc::Global;
+use std::borrow::CowStr;
+use tendril::{Atomicity, NonAtomic, StrTendril};
+use tendril_block::Refusal;
+
+/// A text, or an error.
+#[derive(Drop)]
+pub enum Event<A: Atomicity = NonAtomic> {
+    Text(StrTendril<A>),
+    Error(CowStr<'static>),
+}
+
+/// What was sent so far.
+#[derive(Drop)]
+pub struct Accumulate<A: Atomicity = NonAtomic> {
+    events: Vec<Event<A>>,
+}
+
+impl<A: Atomicity> Accumulate<A> {
+    /// Nothing was sent yet.
+    pub fn new(alloc: Global) -> Self
+        ensures { result.events.items ≡ [] }
+    {
+        Accumulate {
+            events: Vec::new(alloc),
+        }
+    }
+
+    /// What was sent, in its order.
+    pub fn events(&self) -> &[Event<A>]
+        ensures { result.now ≡ self.now.events.items }
+    {
+        self.events.as_slice()
+    }
+
+    fn push(&mut self, event: Event<A>) -> Result<(), Refusal>
+        ensures ok { OnOk result (self.new.events.items ≡ self.old.events.items ++ event ∷ []) }
+        ensures err { IfErr result (λ r. (r ≡ Refusal.Memory) × (self.new.events.items ≡ self.old.events.items)) }
+    {
+        self.events.push(event).map_err(|_| Refusal::Memory)
+    }
+}
+
+impl<A: Atomicity> TendrilSink<StrTendril<A>> for Accumulate<A> {
+    ghost use Rattle.std.specs.Prelude.{◌≡◌, List, [], ◌∷◌, ◌++◌, OnOk, IfOk, IfErr};
+    ghost use Rattle.std.specs.Cow.{cow_str_bytes};
+    ghost use Rattle.tendril_block.specs.declared.refusal.Refusal.TheVariants.{Memory};
+    ghost use Rattle.tendril_stream.specs.Events.{sent};
+    ghost use Rattle.tendril_stream.specs.Sinks.{Piece, Fault};
+
+    type Output = Vec<Event<A>>;
+
+    ghost takes = { λ a e b. sent b.events.items ≡ sent a.events.items ++ e ∷ [] };
+
+    ghost refuses = { λ a e r b. (r ≡ Memory) × (b.events.items ≡ a.events.items) };
+
+    ghost finishes = { λ a out. out.items ≡ a.events.items };
+
+    ghost ends = { λ a r. ⊥ };
+
+    fn process(&mut self, text: StrTendril<A>) -> Result<(), Refusal>
+        ensures ok { OnOk result (sent self.new.events.items ≡ sent self.old.events.items ++ Piece text ∷ []) }
+        ensures err { IfErr result (λ r. (r ≡ Memory) × (self.new.events.items ≡ self.old.events.items)) }
+    {
+        self.push(Event::Text(text))
+    }
+
+    fn error(&mut self, words: CowStr<'static>) -> Result<(), Refusal>
+        ensures ok { OnOk result (
+            sent self.new.events.items ≡ sent self.old.events.items ++ Fault (cow_str_bytes words.entry) ∷ []) }
+        ensures err { IfErr result (λ r. (r ≡ Memory) × (self.new.events.items ≡ self.old.events.items)) }
+    {
+        self.push(Event::Error(words))
+    }
+
+    fn finish(self) -> Result<Vec<Event<A>>, Refusal>
+        ensures ok { IfOk result (λ out. out.items ≡ self.events.items) }
+        ensures err { IfErr result (λ r. ⊥) }
+    {
+        Ok(self.events)
+    }
+}

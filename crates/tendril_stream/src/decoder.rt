@@ -1,0 +1,306 @@
+//! Lossy decoding of a stream of bytes that should be UTF-8.
+ghost use Rattle.std.specs.Prelude.{◌≡◌, ◌<◌, ◌≤◌, [], ◌++◌, length, OnOk, IfOk, IfErr, false};
+ghost use Rattle.tendril_lossy.specs.Lossy.{IsOpen, due, due_open, kept, replaced};
+ghost use Rattle.std.specs.Borrow.{Lends, sem};
+ghost use Rattle.std.specs.List.{FoldsTo};
+ghost use Rattle.tendril.specs.Decoding.{listed};
+ghost use Rattle.tendril_stream.specs.Decoders.{Resumes, nothing};
+ghost use Rattle.tendril_stream.specs.Sinks.{Piece, Feeds, Stops, IsStop};
+
+use crate::sink::TendrilSink;
+use std::alloc::Global;
+use std::borrow::CowStr;
+use std::marker::PhantomData;
+use tendril::{Atomicity, ByteTendril, IncompleteUtf8, NonAtomic, StrTendril};
+use tendril_block::Refusal;
+use tendril_lossy::Ending;
+
+const INVALID: &str = "invalid byte sequence";
+
+const INCOMPLETE: &str = "incomplete byte sequence at end of stream";
+
+/// Decodes bytes that come in pieces to texts for a sink, with an error and U+FFFD for each broken sequence.
+#[derive(Drop)]
+pub struct Utf8LossyDecoder<S: TendrilSink<StrTendril<A>>, A: Atomicity = NonAtomic> {
+    /// Where the texts go.
+    pub inner_sink: S,
+    alloc: Global,
+    kept: IncompleteUtf8,
+    failed: bool,
+    atomicity: PhantomData<A>,
+}
+
+impl<S: TendrilSink<StrTendril<A>>, A: Atomicity> Utf8LossyDecoder<S, A> {
+    ghost use Rattle.tendril_stream.specs.contracts.decoder.Utf8LossyDecoder.{the_row};
+
+    /// A decoder that has read nothing.
+    pub fn new(alloc: Global, inner_sink: S) -> Self
+        ensures sink { result.inner_sink ≡ inner_sink }
+        ensures kept { result.kept ≡ [] }
+        ensures failed { result.failed ≡ false }
+    {
+        Utf8LossyDecoder {
+            inner_sink,
+            alloc,
+            kept: IncompleteUtf8::none(),
+            failed: false,
+            atomicity: PhantomData,
+        }
+    }
+
+    /// A decoder of UTF-8 that has read nothing.
+    pub fn utf8(alloc: Global, inner_sink: S) -> Self
+        ensures sink { result.inner_sink ≡ inner_sink }
+        ensures kept { result.kept ≡ [] }
+        ensures failed { result.failed ≡ false }
+    {
+        Self::new(alloc, inner_sink)
+    }
+
+    /// Where the texts go.
+    pub fn inner_sink(&self) -> &S
+        ensures { result.now ≡ self.now.inner_sink }
+    {
+        &self.inner_sink
+    }
+
+    /// Where the texts go, to be changed.
+    pub fn inner_sink_mut(&mut self) -> &mut S
+        ensures value { result.now ≡ self.old.inner_sink }
+        ensures* writes_back { sem 𝓛 (Lends (the_row S.row A.row S.Output.row A.Block.row) S.row self.entry result
+            (λ w. record self.old { inner_sink = w })) }
+    {
+        &mut self.inner_sink
+    }
+}
+
+/// A decoder of any encoding that is here, which is UTF-8 alone.
+pub type LossyDecoder<S, A = NonAtomic> = Utf8LossyDecoder<S, A>;
+
+impl<S: TendrilSink<StrTendril<A>>, A: Atomicity> TendrilSink<ByteTendril<A>>
+    for Utf8LossyDecoder<S, A> {
+    ghost use Rattle.std.specs.Prelude.{◌≡◌, ◌⊎◌, true, false};
+    ghost use Rattle.tendril_block.specs.declared.refusal.Refusal.TheVariants.{Failed};
+    ghost use Rattle.tendril_stream.specs.Decoders.{Decodes, DecodingStops, Ends, EndStops};
+
+    type Output = S::Output;
+
+    ghost takes = { λ d e n. (d.failed ≡ false) × (n.failed ≡ false)
+        × Decodes S.takes d.inner_sink d.kept e n.inner_sink n.kept };
+
+    ghost refuses = { λ d e r n. (n.failed ≡ true)
+        × (((d.failed ≡ true) × (r ≡ Failed) × (n.inner_sink ≡ d.inner_sink))
+        ⊎ ((d.failed ≡ false) × DecodingStops S.takes S.refuses d.inner_sink d.kept e r n.inner_sink)) };
+
+    ghost finishes = { λ d out. (d.failed ≡ false) × Ends S.takes S.finishes d.inner_sink d.kept out };
+
+    ghost ends = { λ d r. ((d.failed ≡ true) × (r ≡ Failed))
+        ⊎ ((d.failed ≡ false) × EndStops S.takes S.refuses S.ends d.inner_sink d.kept r) };
+
+    fn process(&mut self, piece: ByteTendril<A>) -> Result<(), Refusal> {
+        if self.failed {
+            return Err(Refusal::Failed);
+        }
+        let sent = feed(&mut self.inner_sink, self.alloc, &mut self.kept, piece);
+        self.failed = sent.is_err();
+        sent
+    }
+
+    fn error(&mut self, words: CowStr<'static>) -> Result<(), Refusal> {
+        if self.failed {
+            return Err(Refusal::Failed);
+        }
+        let passed = self.inner_sink.error(words);
+        self.failed = passed.is_err();
+        passed.map_err(|_| Refusal::SinkRefused)
+    }
+
+    fn finish(self) -> Result<S::Output, Refusal> {
+        let mut sink = self.inner_sink;
+        if self.failed {
+            return Err(Refusal::Failed);
+        }
+        if let Err(refusal) = flush(&mut sink, self.alloc, &self.kept) {
+            return Err(refusal);
+        }
+        match sink.finish() {
+            Ok(out) => Ok(out),
+            Err(_) => Err(Refusal::SinkRefused),
+        }
+    }
+}
+
+// Sends a text.
+fn send<S: TendrilSink<StrTendril<A>>, A: Atomicity>(
+    sink: &mut S,
+    text: StrTendril<A>,
+) -> Result<(), Refusal>
+    ensures ok { OnOk result (S.takes sink.old (Piece text) sink.new) }
+    ensures err { IfErr result (λ r. IsStop S.refuses sink.old r sink.new) }
+{
+    if let Err(_refusal) = sink.process(text) {
+        return Err(Refusal::SinkRefused);
+    }
+    Ok(())
+}
+
+// A text of few bytes.
+fn short<A: Atomicity>(alloc: Global, text: &str) -> StrTendril<A>
+    requires { length text.now ≤ 4 }
+    ensures bytes { result.bytes ≡ text.now }
+    ensures copied { result.copied ≡ length text.now }
+{
+    match StrTendril::from_slice(alloc, text) {
+        Ok(text) => text,
+        Err(_) => unreachable!(),
+    }
+}
+
+// What is kept of bytes that begin a character and end within it, or of none.
+fn incomplete(bytes: &[u8]) -> IncompleteUtf8
+    requires { IsOpen bytes.now }
+    ensures { result ≡ bytes.now }
+{
+    match IncompleteUtf8::new(bytes) {
+        Some(kept) => kept,
+        None => unreachable!(),
+    }
+}
+
+// Sends an error, and then its replacement.
+fn replace<S: TendrilSink<StrTendril<A>>, A: Atomicity>(
+    sink: &mut S,
+    alloc: Global,
+    words: &'static str,
+) -> Result<(), Refusal>
+    ensures ok { (piece : _) → OnOk result (Feeds S.takes piece sink.old (replaced words.now) sink.new) }
+    ensures err { (piece : _) → IfErr result (λ r.
+        Stops S.takes S.refuses piece sink.old (replaced words.now) r sink.new) }
+{
+    if let Err(_refusal) = sink.error(CowStr::Borrowed(words)) {
+        return Err(Refusal::SinkRefused);
+    }
+    if let Err(refusal) = send(sink, short(alloc, "\u{FFFD}")) {
+        return Err(refusal);
+    }
+    Ok(())
+}
+
+// Sends a text, if there is one.
+fn send_some<S: TendrilSink<StrTendril<A>>, A: Atomicity>(
+    sink: &mut S,
+    text: Option<StrTendril<A>>,
+) -> Result<(), Refusal>
+    ensures ok { OnOk result (FoldsTo (λ s t u. S.takes s (Piece t) u) sink.old (listed text) sink.new) }
+    ensures err { IfErr result (λ r. IsStop S.refuses sink.old r sink.new) }
+{
+    match text {
+        Some(text) => send(sink, text),
+        None => Ok(()),
+    }
+}
+
+// Decodes a piece where nothing is kept, and answers what is to be kept.
+fn feed_rest<S: TendrilSink<StrTendril<A>>, A: Atomicity>(
+    sink: &mut S,
+    alloc: Global,
+    mut piece: ByteTendril<A>,
+) -> Result<IncompleteUtf8, Refusal>
+    ensures ok { IfOk result (λ k.
+        Feeds S.takes piece sink.old (due_open piece.bytes) sink.new × (k ≡ kept piece.bytes)) }
+    ensures err { IfErr result (λ r. Stops S.takes S.refuses piece sink.old (due_open piece.bytes) r sink.new) }
+{
+    loop {
+        let (text, ending) = match piece.pop_text() {
+            Ok(found) => found,
+            Err(refusal) => return Err(refusal),
+        };
+        if let Err(refusal) = send_some(sink, text) {
+            return Err(refusal);
+        }
+        match ending {
+            Ending::Whole | Ending::Open => return Ok(incomplete(piece.as_byte_slice())),
+            Ending::Broken(_) => {
+                if let Err(refusal) = replace(sink, alloc, INVALID) {
+                    return Err(refusal);
+                }
+            }
+        }
+    }
+}
+
+// Completes what is kept, if anything is, from the front of a piece, and answers whether that was enough.
+fn resume<S: TendrilSink<StrTendril<A>>, A: Atomicity>(
+    sink: &mut S,
+    alloc: Global,
+    kept: &mut IncompleteUtf8,
+    piece: &mut ByteTendril<A>,
+) -> Result<bool, Refusal>
+    ensures ok { IfOk result (λ done. Resumes S.takes sink.old kept.old piece.old done sink.new kept.new piece.new) }
+    ensures err { IfErr result (λ r.
+        Stops S.takes S.refuses piece.old sink.old (due_open (kept.old ++ piece.old.bytes)) r sink.new) }
+{
+    if kept.kept().is_empty() {
+        return Ok(true);
+    }
+    let Some(completed) = kept.complete_from(piece) else {
+        return Ok(false);
+    };
+    match completed {
+        Ok(text) => {
+            if let Err(refusal) = send(sink, short(alloc, text.as_str())) {
+                return Err(refusal);
+            }
+        }
+        Err(_) => {
+            if let Err(refusal) = replace(sink, alloc, INVALID) {
+                return Err(refusal);
+            }
+        }
+    }
+    Ok(true)
+}
+
+// Decodes a piece after what is kept.
+fn feed<S: TendrilSink<StrTendril<A>>, A: Atomicity>(
+    sink: &mut S,
+    alloc: Global,
+    held: &mut IncompleteUtf8,
+    mut piece: ByteTendril<A>,
+) -> Result<(), Refusal>
+    ensures ok { OnOk result (Feeds S.takes piece sink.old (due_open (held.old ++ piece.bytes)) sink.new
+        × (held.new ≡ kept (held.old ++ piece.bytes))) }
+    ensures err { IfErr result (λ r.
+        Stops S.takes S.refuses piece sink.old (due_open (held.old ++ piece.bytes)) r sink.new) }
+{
+    match resume(sink, alloc, held, &mut piece) {
+        Ok(true) => {}
+        Ok(false) => return Ok(()),
+        Err(refusal) => return Err(refusal),
+    }
+    match feed_rest(sink, alloc, piece) {
+        Ok(next) => {
+            *held = next;
+            Ok(())
+        }
+        Err(refusal) => Err(refusal),
+    }
+}
+
+// Tells of kept bytes in which the stream ended.
+fn flush<S: TendrilSink<StrTendril<A>>, A: Atomicity>(
+    sink: &mut S,
+    alloc: Global,
+    held: &IncompleteUtf8,
+) -> Result<(), Refusal>
+    ensures ok { OnOk result (Feeds S.takes nothing sink.old (due held.now) sink.new) }
+    ensures err { IfErr result (λ r. Stops S.takes S.refuses nothing sink.old (due held.now) r sink.new) }
+{
+    if held.kept().is_empty() {
+        return Ok(());
+    }
+    if let Err(refusal) = replace(sink, alloc, INCOMPLETE) {
+        return Err(refusal);
+    }
+    Ok(())
+}

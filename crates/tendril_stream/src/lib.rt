@@ -1,0 +1,23 @@
+//! Streams of texts: sinks, and lossy decoding of bytes that come in pieces.
+#![tactic(auto)]
+
+mod accumulate;
+mod counted;
+mod counted_read;
+mod decoder;
+mod fill;
+mod log;
+mod pieces;
+mod reading;
+mod sink;
+mod theorems;
+
+pub use accumulate::{Accumulate, Event};
+pub use counted::Counted;
+pub use counted_read::{CountedRead, ReadFault};
+pub use decoder::{LossyDecoder, Utf8LossyDecoder};
+pub use fill::ReadExt;
+pub use pieces::decode_pieces;
+pub use reading::{Stopped, decode_reader, from_file, read_decoded, read_from};
+pub use sink::{Streamed, TendrilSink};
+pub use theorems::laws;

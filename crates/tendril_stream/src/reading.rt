@@ -1,0 +1,200 @@
+//! Reading into a sink.
+ghost use Rattle.std.specs.Prelude.{◌≡◌, ◌≤◌, ◌+◌, ◌⊎◌, length, take, drop, Some, false, IfOk, IfErr, OnErr};
+ghost use Rattle.std.specs.Io.KnownBytes.{IsAtEnd, Keeps, ReadConsumes};
+ghost use Rattle.tendril_lossy.specs.Lossy.{due};
+ghost use Rattle.tendril_stream.specs.Compositions.{StandsAt};
+ghost use Rattle.tendril_stream.specs.Events.{sent};
+ghost use Rattle.tendril_stream.specs.Readings.{EndsAt, Halts, IsOfReading, Makes, ReadsAll, StopsBetween, reads_of};
+ghost use Rattle.tendril_stream.specs.Reads.{Reads, ReadsOn, failure, read_of};
+ghost use Rattle.tendril_stream.specs.Sinks.{told};
+
+use crate::accumulate::{Accumulate, Event};
+use crate::counted::Counted;
+use crate::counted_read::{CountedRead, ReadFault};
+use crate::decoder::Utf8LossyDecoder;
+use crate::sink::TendrilSink;
+use std::alloc::Global;
+use std::fs::{self, Files};
+use tendril::{Atomicity, ByteTendril, StrTendril};
+use tendril_block::Refusal;
+
+/// How many bytes each read is offered.
+const PIECE: u32 = 4096;
+
+/// Why reading into a sink stopped, and the sink, where its end wasn't asked for.
+#[derive(Drop)]
+pub struct Stopped<S> {
+    pub refusal: Refusal,
+    pub sink: Option<S>,
+}
+
+/// Reads to the end, and gives the sink each part that is read, of at most 4096 bytes. At most so many reads are made,
+/// interrupted ones among them.
+///
+/// The sink isn't finished where reading stops before the end, and comes back.
+pub fn read_from<A: Atomicity, S: TendrilSink<ByteTendril<A>>, R: CountedRead>(
+    alloc: Global,
+    mut sink: S,
+    reader: &mut R,
+    most: u64,
+) -> Result<S::Output, Stopped<S>>
+    ensures ok { IfOk result (λ out. (these : Reads) × Makes R.history R.remaining reader.old these reader.new
+        × IsAtEnd (R.remaining reader.new) × ReadsAll S.takes S.finishes most sink these out) }
+    ensures stopped { IfErr result (λ s. (these : Reads) × Makes R.history R.remaining reader.old these reader.new
+        × Halts S.takes S.refuses S.ends most sink these s.refusal s.sink) }
+{
+    let mut made = 0;
+    while made < most {
+        made += 1;
+        match read_part(alloc, reader) {
+            Ok(Part::Bytes(piece)) => {
+                if let Err(refusal) = sink.process(piece) {
+                    return Err(Stopped {
+                        refusal,
+                        sink: Some(sink),
+                    });
+                }
+            }
+            Ok(Part::Interrupted) => {}
+            Ok(Part::End) => {
+                return match sink.finish() {
+                    Ok(out) => Ok(out),
+                    Err(refusal) => Err(Stopped {
+                        refusal,
+                        sink: None,
+                    }),
+                };
+            }
+            Err(refusal) => {
+                return Err(Stopped {
+                    refusal,
+                    sink: Some(sink),
+                });
+            }
+        }
+    }
+    Err(Stopped {
+        refusal: Refusal::TooManyReads,
+        sink: Some(sink),
+    })
+}
+
+/// Reads a file to its end into a sink, as `read_from` does.
+///
+/// A file that can't be opened is refused as Io, as is a folder, of which no read succeeds.
+pub fn from_file<A: Atomicity, S: TendrilSink<ByteTendril<A>>, F: Files>(
+    files: &F,
+    alloc: Global,
+    sink: S,
+    path: &str,
+    most: u64,
+) -> Result<S::Output, Stopped<S>>
+    ensures ok { IfOk result (λ out. (these : Reads) × ReadsAll S.takes S.finishes most sink these out) }
+    ensures stopped { IfErr result (λ s. ((s.refusal ≡ Refusal.Io) × (s.sink ≡ Some sink))
+        ⊎ ((these : Reads) × Halts S.takes S.refuses S.ends most sink these s.refusal s.sink)) }
+{
+    match fs::open(files, path) {
+        Ok(file) => read_from(alloc, sink, &mut Counted::new(file), most),
+        Err(_) => Err(Stopped {
+            refusal: Refusal::Io,
+            sink: Some(sink),
+        }),
+    }
+}
+
+/// Reads to the end, and decodes what it reads to a list of texts and errors.
+///
+/// Where reading itself stops, the decoder comes back and stands at the bytes that were read.
+pub fn decode_reader<A: Atomicity, R: CountedRead>(
+    alloc: Global,
+    reader: &mut R,
+    most: u64,
+) -> Result<Vec<Event<A>>, Stopped<Utf8LossyDecoder<Accumulate<A>, A>>>
+    ensures ok { IfOk result (λ events. (these : Reads) × Makes R.history R.remaining reader.old these reader.new
+        × IsAtEnd (R.remaining reader.new) × (told (sent events.items) ≡ due these.given)
+        × (these.failed ≡ 0) × (these.empty ≡ 1) × (these.reads ≤ most)) }
+    ensures stopped { IfErr result (λ s. (these : Reads) × Makes R.history R.remaining reader.old these reader.new
+        × (IsOfReading s.refusal → StopsBetween most these s.refusal × (these.empty ≡ 0)
+        × ((d : _) × (s.sink ≡ Some d) × (d.failed ≡ false)
+        × StandsAt (λ a. sent a.events.items) d.inner_sink d.kept these.given))) }
+{
+    read_decoded(
+        alloc,
+        Utf8LossyDecoder::new(alloc, Accumulate::new(alloc)),
+        reader,
+        most,
+    )
+}
+
+/// Reads to the end through a decoder: `read_from`, for callers whose sink names a lifetime, as `Accumulate` does, and at
+/// which the borrow checker passes no decoder to `read_from` itself.
+pub fn read_decoded<A: Atomicity, S: TendrilSink<StrTendril<A>>, R: CountedRead>(
+    alloc: Global,
+    decoder: Utf8LossyDecoder<S, A>,
+    reader: &mut R,
+    most: u64,
+) -> Result<S::Output, Stopped<Utf8LossyDecoder<S, A>>>
+    ensures ok { IfOk result (λ out. (these : Reads) × Makes R.history R.remaining reader.old these reader.new
+        × IsAtEnd (R.remaining reader.new)
+        × ReadsAll ⟦<Utf8LossyDecoder<S, A> as TendrilSink<ByteTendril<A>>>⟧.takes
+        ⟦<Utf8LossyDecoder<S, A> as TendrilSink<ByteTendril<A>>>⟧.finishes most decoder these out) }
+    ensures stopped { IfErr result (λ s. (these : Reads) × Makes R.history R.remaining reader.old these reader.new
+        × Halts ⟦<Utf8LossyDecoder<S, A> as TendrilSink<ByteTendril<A>>>⟧.takes
+        ⟦<Utf8LossyDecoder<S, A> as TendrilSink<ByteTendril<A>>>⟧.refuses
+        ⟦<Utf8LossyDecoder<S, A> as TendrilSink<ByteTendril<A>>>⟧.ends most decoder these s.refusal s.sink) }
+{
+    read_from(alloc, decoder, reader, most)
+}
+
+// What a read came to.
+#[derive(Drop)]
+enum Part<A: Atomicity> {
+    Bytes(ByteTendril<A>),
+    Interrupted,
+    End,
+}
+
+// Reads once.
+fn read_part<A: Atomicity, R: CountedRead>(
+    alloc: Global,
+    reader: &mut R,
+) -> Result<Part<A>, Refusal>
+    ensures part { IfOk result (λ part. Makes R.history R.remaining reader.old (reads_of part) reader.new) }
+    ensures end { IfOk result (λ part. EndsAt part (R.remaining reader.new)) }
+    ensures err { IfErr result (λ r.
+        ((r ≡ Refusal.Memory) × (reader.new ≡ reader.old))
+        ⊎ ((r ≡ Refusal.Io) × Makes R.history R.remaining reader.old failure reader.new)) }
+{
+    let mut piece = ByteTendril::new(alloc);
+    piece.push_uninitialized(PIECE)?;
+    match read_into(reader, &mut piece, 0)? {
+        Ok(0) => Ok(Part::End),
+        Ok(count) => {
+            piece.pop_back(PIECE - count as u32);
+            Ok(Part::Bytes(piece))
+        }
+        Err(ReadFault::Interrupted) => Ok(Part::Interrupted),
+        Err(ReadFault::Failed) => Err(Refusal::Io),
+    }
+}
+
+// Reads once into the bytes of a text from `start` on, if they aren't shared or there is memory to copy them.
+pub(crate) fn read_into<A: Atomicity, R: CountedRead>(
+    reader: &mut R,
+    text: &mut ByteTendril<A>,
+    start: usize,
+) -> Result<Result<usize, ReadFault>, Refusal>
+    requires { start ≤ length text.old.bytes }
+    ensures len { length text.new.bytes ≡ length text.old.bytes }
+    ensures front { take start text.new.bytes ≡ take start text.old.bytes }
+    ensures within { IfOk result (λ answer. IfOk answer (λ n. start + n ≤ length text.new.bytes)) }
+    ensures history { IfOk result (λ answer.
+        ReadsOn (R.history reader.old) (read_of answer (drop start text.new.bytes)) (R.history reader.new)) }
+    ensures consumes { IfOk result (λ answer.
+        ReadConsumes (R.remaining reader.old) (R.remaining reader.new) answer (drop start text.new.bytes)) }
+    ensures refusal { IfErr result (λ r. r ≡ Refusal.Memory) }
+    ensures err { OnErr result ((text.new ≡ text.old) × (reader.new ≡ reader.old)) }
+{
+    let mut edit = |bytes: &mut [u8]| reader.read_some(&mut bytes[start..]);
+    text.bytes_mut_with(&mut edit)
+}

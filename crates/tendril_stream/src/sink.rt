@@ -1,0 +1,97 @@
+//! What takes a stream of texts.
+
+use std::borrow::CowStr;
+use tendril::{Atomicity, Format, Tendril};
+use tendril_block::Refusal;
+
+/// A text that a sink may take: a `Tendril` in any format, over any kind of block.
+pub trait Streamed: Drop {
+    ghost use Rattle.std.specs.Prelude.{◌≡◌, length};
+    ghost use Rattle.tendril.specs.Texts.{Text};
+
+    /// The text, as contracts see it.
+    ghost text: { Self → Text };
+
+    /// How many bytes it has.
+    fn len32(&self) -> u32
+        ensures { result ≡ length (Text.bytes (text self.now)) };
+}
+
+impl<F: Format, A: Atomicity> Streamed for Tendril<F, A> {
+    ghost text = { λ t. t };
+
+    fn len32(&self) -> u32 {
+        Tendril::len32(self)
+    }
+}
+
+/// What takes a stream of texts and errors.
+pub trait TendrilSink<T: Streamed>: Drop {
+    ghost use Rattle.std.specs.Prelude.{◌≡◌, ◌⊎◌, List, Option, Some, None, IfOk, IfErr, OnOk};
+    ghost use Rattle.std.specs.Cow.{cow_str_bytes};
+    ghost use Rattle.std.specs.List.{FoldsTo};
+    ghost use Rattle.std.specs.Iterator.{IsFiniteIterable};
+    ghost use Rattle.tendril_block.specs.declared.refusal.Refusal.{Refusal};
+    ghost use Rattle.tendril_stream.specs.Sinks.{Sent, Piece, Fault, SendsAll, SendsSome};
+
+    /// What comes of the stream at its end.
+    type Output;
+
+    /// What a call does that is accepted.
+    ghost takes: { Self → Sent → Self → Type 0 };
+
+    /// What a call does that is refused.
+    ghost refuses: { Self → Sent → Refusal → Self → Type 0 };
+
+    /// What comes of an end that is accepted.
+    ghost finishes: { Self → Self.Output → Type 0 };
+
+    /// What an end says that is refused.
+    ghost ends: { Self → Refusal → Type 0 };
+
+    /// Takes a text.
+    fn process(&mut self, text: T) -> Result<(), Refusal>
+        ensures ok { OnOk result (takes self.old (Piece (T.text text)) self.new) }
+        ensures err { IfErr result (λ r. refuses self.old (Piece (T.text text)) r self.new) };
+
+    /// Takes an error in the stream.
+    fn error(&mut self, words: CowStr<'static>) -> Result<(), Refusal>
+        ensures ok { OnOk result (takes self.old (Fault (cow_str_bytes words.entry)) self.new) }
+        ensures err { IfErr result (λ r. refuses self.old (Fault (cow_str_bytes words.entry)) r self.new) };
+
+    /// Ends the stream.
+    fn finish(self) -> Result<Self::Output, Refusal>
+        ensures ok { IfOk result (λ out. finishes self out) }
+        ensures err { IfErr result (λ r. ends self r) };
+
+    /// Takes one text, and ends the stream.
+    fn one(mut self, text: T) -> Result<Self::Output, Refusal>
+    where
+        Self: Sized,
+        ensures ok { IfOk result (λ out. (mid : Self) × takes self (Piece (T.text text)) mid × finishes mid out) }
+        ensures err { IfErr result (λ r.
+            ((mid : Self) × refuses self (Piece (T.text text)) r mid)
+            ⊎ ((mid : Self) × takes self (Piece (T.text text)) mid × ends mid r)) }
+    {
+        self.process(text)?;
+        self.finish()
+    }
+
+    /// Takes each text that comes, up to the first that is refused, and ends the stream if none is.
+    fn from_iter<I: IntoIterator<Item = T>>(mut self, texts: I) -> Result<Self::Output, Refusal>
+    where
+        Self: Sized,
+        requires { IsFiniteIterable I.into_iter_gives I.IntoIter.can_next I.IntoIter.remaining texts }
+        ensures ok { IfOk result (λ out.
+            SendsAll I.into_iter_gives I.IntoIter.next_gives T.text takes finishes self texts out) }
+        ensures err { IfErr result (λ r.
+            SendsSome I.into_iter_gives I.IntoIter.next_gives T.text takes refuses ends self texts r) }
+    {
+        for text in texts {
+            if let Err(refusal) = self.process(text) {
+                return Err(refusal);
+            }
+        }
+        self.finish()
+    }
+}
