@@ -5,6 +5,7 @@ mod chained;
 mod cuttings;
 mod due;
 mod files;
+mod full;
 mod joined;
 mod long;
 mod noted;
@@ -14,3 +15,11 @@ mod room;
 mod rows;
 mod script;
 mod slow;
+
+use std::fmt::Debug;
+use std::process::Abort;
+
+/// Fails the test unless a value is what is due. A function, so that a test's proof has no printing in it.
+fn same<T: PartialEq + Debug + Drop>(rt: &impl Abort, found: T, due: T) {
+    assert_eq!(rt; found, due);
+}

@@ -5,8 +5,8 @@ ghost use Rattle.tendril_stream.specs.Events.{sent};
 ghost use Rattle.tendril_stream.specs.Sinks.{told};
 
 use std::alloc::Global;
-use tendril::ByteTendril;
 use tendril::block::Refusal;
+use tendril::{ByteTendril, NonAtomic};
 use tendril_stream::{Accumulate, Event, TendrilSink, Utf8LossyDecoder, laws};
 
 /// The texts and errors of two pieces.
@@ -17,7 +17,7 @@ pub fn decode_two(
 ) -> Result<Vec<Event>, Refusal>
     ensures { IfOk result (λ events. told (sent events.items) ≡ due (first.bytes ++ second.bytes)) }
 {
-    laws::<Accumulate, Vec<Event>>();
+    laws::<Accumulate, NonAtomic>();
     let mut decoder = Utf8LossyDecoder::new(alloc, Accumulate::new(alloc));
     decoder.process(first)?;
     decoder.process(second)?;

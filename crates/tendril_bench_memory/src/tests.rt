@@ -4,13 +4,20 @@
 mod behind;
 mod dropped;
 mod few;
+mod grown;
 mod long;
 mod printed;
 mod short;
-mod sizes;
 mod strings;
 
 use std::alloc::{AllocError, Global};
+use std::fmt::Debug;
+use std::process::Abort;
+
+/// Fails the test unless a value is what is due. A function, so that a test's proof has no printing in it.
+fn same<T: PartialEq + Debug + Drop>(rt: &impl Abort, found: T, due: T) {
+    assert_eq!(rt; found, due);
+}
 
 /// Which request is refused. `.ci/memory` reads it here.
 const REFUSED: usize = 24;

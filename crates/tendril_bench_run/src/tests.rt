@@ -1,12 +1,21 @@
 //! What no contract says: that these calls succeed where there is memory.
 
+mod growing;
+
 use std::alloc::Global;
+use std::fmt::Debug;
+use std::process::Abort;
 use std::test::Fail;
 use tendril::block::{AtomicUpTo, Refusal};
 use tendril::{ByteTendril, NonAtomic, slice_to_tendril};
 use tendril_run::{
     ByteList, Classifier, Command, Kind, Reply, Slot, Table, parse_line, print_reply, run,
 };
+
+/// Fails the test unless a value is what is due. A function, so that a test's proof has no printing in it.
+fn same<T: PartialEq + Debug + Drop>(rt: &impl Abort, found: T, due: T) {
+    assert_eq!(rt; found, due);
+}
 
 struct OneClass;
 
@@ -53,9 +62,9 @@ fn commands_on_a_table(rt: HostRuntime) -> Result<(), Fail> {
         "bytes -",
     ];
     let replies = run(&mut table, &commands, &OneClass)?;
-    assert_eq!(rt; replies.len(), lines.len());
+    same(&rt, replies.len(), lines.len());
     for (reply, line) in replies.iter().zip(lines) {
-        assert_eq!(rt; print_reply(alloc, reply)?.as_str(), line);
+        same(&rt, print_reply(alloc, reply)?.as_str(), line);
     }
     Ok(())
 }
@@ -71,11 +80,11 @@ fn a_slot_is_pushed_and_found(rt: HostRuntime) -> Result<(), Fail> {
     let Some(Slot::Bytes(text)) = table.slot(0) else {
         return Err(Fail::from("no text in slot 0"));
     };
-    assert_eq!(rt; text.as_byte_slice(), b"0123456789".as_slice());
+    same(&rt, text.as_byte_slice(), b"0123456789".as_slice());
     assert!(rt; matches!(table.slot(1), Some(Slot::Gone)));
     assert!(rt; table.slot(2).is_none());
     let list = bytes(rt.alloc(), b"01")?;
-    assert_eq!(rt; list.into_vec().as_slice(), b"01".as_slice());
+    same(&rt, list.into_vec().as_slice(), b"01".as_slice());
     Ok(())
 }
 
@@ -131,7 +140,7 @@ fn lines_of_commands(rt: HostRuntime) -> Result<(), Fail> {
     let Some(Command::PushBytes(2, list)) = parse_line(alloc, b"push 2 aBAb")? else {
         return Err(Fail::from("push"));
     };
-    assert_eq!(rt; list.as_slice(), [0xab, 0xab].as_slice());
+    same(&rt, list.as_slice(), [0xab, 0xab].as_slice());
     Ok(())
 }
 
@@ -201,9 +210,9 @@ fn a_text_whose_block_is_full_is_not_joined_with_itself(rt: HostRuntime) -> Resu
         "refused 3 Count",
         "bytes 6161616161616161616120626262626262626262",
     ];
-    assert_eq!(rt; replies.len(), lines.len());
+    same(&rt, replies.len(), lines.len());
     for (reply, line) in replies.iter().zip(lines) {
-        assert_eq!(rt; print_reply(alloc, reply)?.as_str(), line);
+        same(&rt, print_reply(alloc, reply)?.as_str(), line);
     }
     Ok(())
 }

@@ -2,6 +2,16 @@
 //! rows written by hand, and never from what the calls answered.
 
 mod full;
+mod growing;
 mod runs;
 mod slices;
 mod texts;
+mod units;
+
+use std::fmt::Debug;
+use std::process::Abort;
+
+/// Fails the test unless a value is what is due. A function, so that a test's proof has no printing in it.
+fn same<T: PartialEq + Debug + Drop>(rt: &impl Abort, found: T, due: T) {
+    assert_eq!(rt; found, due);
+}

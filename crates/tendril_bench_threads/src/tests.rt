@@ -4,7 +4,14 @@ mod sent;
 mod tables;
 mod through;
 
+use std::fmt::Debug;
+use std::process::Abort;
 use tendril_run::Classifier;
+
+/// Fails the test unless a value is what is due. A function, so that a test's proof has no printing in it.
+fn same<T: PartialEq + Debug + Drop>(rt: &impl Abort, found: T, due: T) {
+    assert_eq!(rt; found, due);
+}
 
 // All characters are of one class.
 #[derive(Drop)]

@@ -4,3 +4,11 @@
 mod compared;
 mod items;
 mod strings;
+
+use std::fmt::Debug;
+use std::process::Abort;
+
+/// Fails the test unless a value is what is due. A function, so that a test's proof has no printing in it.
+fn same<T: PartialEq + Debug + Drop>(rt: &impl Abort, found: T, due: T) {
+    assert_eq!(rt; found, due);
+}

@@ -5,8 +5,8 @@ use Rattle.std.proofs.lemmas.Option.{same_Some}
 use Rattle.std.proofs.lemmas.Str.{IsUtf8-append, IsUtf8-nil, chars-append, chars-nil}
 use Rattle.std.specs.Io.KnownBytes.{Appends, Consumes}
 use Rattle.std.specs.List.{FoldsTo}
-use Rattle.tendril.specs.Pushes.{Joins as Pushes}
-use Rattle.tendril.specs.Texts.{Text}
+use Rattle.tendril_text.specs.Pushes.{Joins as Pushes}
+use Rattle.tendril_text.specs.Texts.{Text}
 use Rattle.tendril_block.specs.declared.refusal.Refusal.{Refusal}
 use Rattle.tendril_block.specs.declared.refusal.Refusal.TheVariants.{Failed, TooManyReads}
 use Rattle.tendril_lossy.proofs.Streams.{due-append, due_open-append, kept-append}

@@ -5,7 +5,7 @@ use crate::program::{program, refuse};
 use std::env;
 use std::io::{ErrorKind, Read, Write};
 use std::rt::Env;
-use tendril::block::Refusal;
+use tendril_text::block::Refusal;
 
 /// Runs the program with the arguments behind its name, and answers its status. Where one isn't UTF-8, the words are
 /// one empty word, which asks for nothing.

@@ -9,9 +9,9 @@ use crate::joined::Joined;
 use crate::output::{flush, write_bytes};
 use std::alloc::Global;
 use std::io::{Read, Write};
-use tendril::StrTendril;
-use tendril::block::Refusal;
 use tendril_stream::{Counted, CountedRead, Stopped, Utf8LossyDecoder, read_from};
+use tendril_text::StrTendril;
+use tendril_text::block::Refusal;
 
 /// Decodes all that the input has, and writes the texts: those of one read before the next is made. A failed write is
 /// SinkRefused.

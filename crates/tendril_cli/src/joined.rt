@@ -3,9 +3,9 @@ ghost use Rattle.std.specs.Prelude.{◌≡◌, []};
 
 use std::alloc::Global;
 use std::borrow::CowStr;
-use tendril::StrTendril;
-use tendril::block::Refusal;
 use tendril_stream::TendrilSink;
+use tendril_text::StrTendril;
+use tendril_text::block::Refusal;
 
 /// The texts that were sent, as one.
 #[derive(Drop)]

@@ -4,7 +4,7 @@ ghost use Rattle.std.specs.Io.KnownBytes.{Appends, Keeps};
 ghost use Rattle.tendril_cli.specs.Endings.{TakesFront};
 
 use std::io::{ErrorKind, Write};
-use tendril::block::Refusal;
+use tendril_text::block::Refusal;
 
 /// Writes all bytes, and tries an interrupted write again. A failed write is Io, whatever its error, and the writer has
 /// taken a front of the bytes then, which std's `write_all` leaves open.

@@ -12,7 +12,7 @@ use crate::output::write_bytes;
 use crate::script::run_script;
 use std::alloc::Global;
 use std::io::{Error, ErrorKind, Read, Write};
-use tendril::block::Refusal;
+use tendril_text::block::Refusal;
 
 const DONE: u8 = 0;
 

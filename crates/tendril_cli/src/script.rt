@@ -9,9 +9,9 @@ use crate::output::{flush, write_bytes};
 use crate::white_space::WhiteSpace;
 use std::alloc::{AllocError, Global};
 use std::io::Write;
-use tendril::NonAtomic;
-use tendril::block::Refusal;
 use tendril_run::{Command, Reply, Table, parse_line, print_reply};
+use tendril_text::NonAtomic;
+use tendril_text::block::Refusal;
 
 // How many bytes are held back before they are written.
 const CHUNK: usize = 8192;

@@ -12,10 +12,10 @@ use crate::change::{ByteEdit, Change, Edit};
 use crate::classifier::Classifier;
 use crate::text;
 use std::alloc::Global;
-use tendril::block::Refusal;
-use tendril::fmt::{ASCII, Bytes, Latin1, UTF8, WTF8};
-use tendril::{Atomicity, Tendril};
 use tendril_lines::{ByteList, Kind, Reply};
+use tendril_text::block::Refusal;
+use tendril_text::fmt::{ASCII, Bytes, Latin1, UTF8, WTF8};
+use tendril_text::{Atomicity, Tendril};
 
 /// A text in one of the formats, or nothing any more.
 #[derive(Drop)]

@@ -19,9 +19,9 @@ pub(crate) use chain::run_behind;
 use std::alloc::Global;
 use std::marker::Model;
 use std::mem;
-use tendril::Atomicity;
-use tendril::block::Refusal;
 use tendril_lines::{ByteList, Command, Kind, Reply};
+use tendril_text::Atomicity;
+use tendril_text::block::Refusal;
 
 /// Slots that are numbered from 0, each with a text or gone.
 #[derive(Drop)]

@@ -1,6 +1,6 @@
 //! What commands do to a text, in any format.
 ghost use Rattle.std.specs.Prelude.{◌≡◌, ◌<◌, ◌≤◌, ◌⊎◌, ◌↔◌, length, take, drop, IsTrue, IfOk, IfErr, OnOk, [], nat_eq, if◌then◌else◌};
-ghost use Rattle.tendril.specs.Errors.{refusal_of};
+ghost use Rattle.tendril_text.specs.Errors.{refusal_of};
 ghost use Rattle.tendril_run.specs.CellOf.{cell_of};
 ghost use Rattle.tendril_run.specs.Cells.{text as text_cell, valid_in, IsText};
 ghost use Rattle.tendril_run.specs.Characters.{first_of, without_first, TakesFirstRun};
@@ -9,7 +9,7 @@ ghost use Rattle.tendril_run.specs.Comparisons.{in_order};
 ghost use Rattle.tendril_run.specs.Edits.{TextEdited, BytesEdited};
 ghost use Rattle.tendril_run.specs.OneCell.{CellTold, SendMay};
 ghost use Rattle.tendril_run.specs.Rules.{TextPushed, Answered, Changed};
-ghost use Rattle.tendril.specs.Making.{MakesValidText};
+ghost use Rattle.tendril_text.specs.Making.{MakesValidText};
 ghost use Rattle.tendril_block.specs.Outcomes.{NoneMust, LengthMust, CharMust, BytesMust, SliceMust, NoneMay, MemoryMay, CountMay, Gives};
 
 use crate::change::{ByteEdit, Edit};
@@ -17,10 +17,10 @@ use crate::classifier::Classifier;
 use crate::slot::Slot;
 use std::alloc::Global;
 use std::cmp::Ordering;
-use tendril::block::{MAX_LEN, Refusal};
-use tendril::fmt::{CharFormat, Format};
-use tendril::{Atomicity, ByteTendril, SubtendrilError, Tendril};
 use tendril_lines::{ByteList, Comparison, Kind, Reply};
+use tendril_text::block::{MAX_LEN, Refusal};
+use tendril_text::fmt::{CharFormat, Format};
+use tendril_text::{Atomicity, ByteTendril, SubtendrilError, Tendril};
 
 /// A text of these bytes.
 pub(crate) fn from_bytes<F: Format, A: Atomicity>(

@@ -11,9 +11,9 @@ use std::marker::Send;
 use std::snapshot::Snapshot;
 use std::thread;
 use std::thread::{Promise, PromisedHandle, Threads};
-use tendril::Atomic;
-use tendril::block::Refusal;
 use tendril_lines::{Command, Reply};
+use tendril_text::Atomic;
+use tendril_text::block::Refusal;
 
 /// What one worker does: commands on a table of its own, whose texts may share blocks with those of others.
 #[derive(Drop)]

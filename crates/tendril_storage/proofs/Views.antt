@@ -1,4 +1,4 @@
-use Rattle.std.proofs.Common.{◌≡◌, ℕ, ◌+◌, ◌-◌, ◌≤◌, List, ◌++◌, length, take, drop, replicate, ap, sym, ◌∙◌, arith, append_assoc, length-append}
+use Rattle.std.proofs.Common.{◌≡◌, ℕ, ◌+◌, ◌-◌, ◌≤◌, List, ◌++◌, length, take, drop, replicate, ap, sym, ◌∙◌, arith, append_assoc, length-append, take-add}
 use Rattle.std.proofs.lemmas.List.{drop-take, drop-drop, take-take, drop-append-le, length-drop, length-replicate, length-take-le}
 use Rattle.std.proofs.Math.Seq.{take-length}
 
@@ -35,6 +35,12 @@ pub view_filled : (o l n x : ℕ) (xs : List ℕ) → o + l ≤ length xs → ta
 view_filled o l n x xs h =
     let ys : List ℕ = replicate n x in
     ap (λ k. take (l + k) (drop o (take (o + l) xs ++ ys))) (sym (length-replicate n x)) ∙ view_replaced o l l xs ys h (omega arith) ∙ ap (λ v. v ++ ys) (take-take l l (drop o xs) (omega arith))
+
+-- a view and the bytes right behind it
+pub view_grown : (o l n : ℕ) (xs : List ℕ) → take (l + n) (drop o xs) ≡ take l (drop o xs) ++ take n (drop (o + l) xs)
+view_grown o l n xs = take-add l n (drop o xs) ∙ ap (λ v. take l (drop o xs) ++ take n v) (drop-drop l o xs)
+
+pub ruleset grows = (inline_length, view_length, view_grown)
 
 pub ruleset slices = (inline_length, view_length, view_part)
 

@@ -1,7 +1,7 @@
 -- What was sent to a sink, one run after another.
 use Rattle.std.proofs.Common.{◌≡◌, List, [], ◌∷◌, ◌++◌, refl, sym, ap, ap₂, subst, ◌∙◌, append_assoc, append-nil}
 use Rattle.std.specs.List.{FoldsTo}
-use Rattle.tendril.specs.Texts.{Text}
+use Rattle.tendril_text.specs.Texts.{Text}
 use Rattle.std.proofs.lemmas.List.Elements.{All-append, All-nil, All-cons}
 use Rattle.tendril_lossy.specs.Lossy.{Told}
 use Rattle.tendril_stream.specs.Sinks.{Sent, told, told_of, IsSentOf, Feeds, IsStop, Stops}

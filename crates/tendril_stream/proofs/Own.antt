@@ -1,7 +1,7 @@
 -- A refusal of reading itself is none of a decoder.
 use Rattle.std.proofs.Common.{◌≡◌, ℕ, ◌⊎◌, Bool, true, false, List, [], ◌∷◌, sym, ap, ◌∙◌, ⊎_elim, true≢false, inl, inr, refl}
 use Rattle.std.specs.List.{FoldsTo}
-use Rattle.tendril.specs.Texts.{Text}
+use Rattle.tendril_text.specs.Texts.{Text}
 use Rattle.tendril_block.specs.declared.refusal.Refusal.{Refusal}
 use Rattle.tendril_block.specs.declared.refusal.Refusal.TheVariants.{Count, Failed, Io, Memory, SinkRefused, TooManyReads}
 use Rattle.tendril_stream.specs.Decoders.{DecodingStops, EndStops}

@@ -5,9 +5,9 @@ use Rattle.std.specs.Str.{chars}
 use Rattle.std.proofs.lemmas.List.Elements.{All-weaker}
 use Rattle.std.proofs.lemmas.Str.{chars-nil}
 use Rattle.std.specs.Prelude.{IfSome}
-use Rattle.tendril.proofs.Decoding.{rest-through, handed-through}
-use Rattle.tendril.specs.Decoding.{IsHandedOn, IsRest, PopsText, broken_len, bytes_of, listed}
-use Rattle.tendril.specs.Texts.{Text, Keeps}
+use Rattle.tendril_text.proofs.Decoding.{rest-through, handed-through}
+use Rattle.tendril_text.specs.Decoding.{IsHandedOn, IsRest, PopsText, broken_len, bytes_of, listed}
+use Rattle.tendril_text.specs.Texts.{Text, Keeps}
 use Rattle.tendril_block.specs.declared.refusal.Refusal.{Refusal}
 use Rattle.tendril_lossy.specs.Completions.{CompletesTo}
 use Rattle.tendril_lossy.proofs.Fronts.{IsOpen-nil}

@@ -1,7 +1,7 @@
 -- What a decoder does to its inner sink.
 use Rattle.std.specs.Prelude.{◌≡◌, ℕ, ◌≤◌, ◌⊎◌, Bool, true, false, List, [], ◌++◌, length}
-use Rattle.tendril.specs.Decoding.{IsRest}
-use Rattle.tendril.specs.Texts.{Text}
+use Rattle.tendril_text.specs.Decoding.{IsRest}
+use Rattle.tendril_text.specs.Texts.{Text}
 use Rattle.tendril_block.specs.declared.refusal.Refusal.{Refusal}
 use Rattle.tendril_block.specs.declared.refusal.Refusal.TheVariants.{SinkRefused}
 use Rattle.tendril_lossy.specs.Lossy.{Told, due, due_open, kept}

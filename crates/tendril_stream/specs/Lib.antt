@@ -4,3 +4,4 @@ pub mod Decoders
 pub mod Compositions
 pub mod Reads
 pub mod Readings
+pub mod Stored

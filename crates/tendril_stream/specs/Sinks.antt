@@ -2,8 +2,8 @@
 use Rattle.std.specs.Prelude.{◌≡◌, ℕ, ◌⊎◌, List, [], ◌∷◌, ◌++◌, map, flat_map, chars, All, Option, Some, None}
 use Rattle.std.specs.List.{FoldsTo}
 use Rattle.std.specs.Iterator.{YieldsThen}
-use Rattle.tendril.specs.Decoding.{IsHandedOn}
-use Rattle.tendril.specs.Texts.{Text}
+use Rattle.tendril_text.specs.Decoding.{IsHandedOn}
+use Rattle.tendril_text.specs.Texts.{Text}
 use Rattle.tendril_block.specs.declared.refusal.Refusal.{Refusal}
 use Rattle.tendril_block.specs.declared.refusal.Refusal.TheVariants.{Count, SinkRefused}
 use Rattle.tendril_lossy.specs.Lossy.{Told, Char, Mark}

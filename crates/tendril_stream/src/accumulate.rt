@@ -2,10 +2,11 @@
 ghost use Rattle.std.specs.Prelude.{◌≡◌, [], ◌∷◌, ◌++◌, OnOk, IfErr};
 
 use crate::sink::TendrilSink;
+use crate::tracks::Tracks;
 use std::alloc::Global;
 use std::borrow::CowStr;
-use tendril::{Atomicity, NonAtomic, StrTendril};
 use tendril_block::Refusal;
+use tendril_text::{Atomicity, NonAtomic, StrTendril};
 
 /// A text, or an error.
 #[derive(Drop)]
@@ -83,4 +84,16 @@ impl<A: Atomicity> TendrilSink<StrTendril<A>> for Accumulate<A> {
     {
         Ok(self.events)
     }
+}
+
+/// What it was sent tells what it was told.
+impl<A: Atomicity> Tracks<StrTendril<A>> for Accumulate<A> {
+    ghost use Rattle.std.specs.Prelude.{◌≡◌};
+    ghost use Rattle.tendril_stream.specs.Stored.{stored_on};
+    ghost use Rattle.tendril_stream.specs.Events.{sent};
+    ghost use Rattle.tendril_stream.specs.Sinks.{told};
+
+    ghost after = { λ a t. told (sent a.events.items) ≡ t };
+
+    ghost goes_on = { λ t a e b h c. stored_on (sent a.events.items) (sent b.events.items) e t c h };
 }

@@ -3,7 +3,7 @@ ghost use Rattle.std.specs.Prelude.{◌≡◌, ◌<◌, ◌≤◌, [], ◌++◌,
 ghost use Rattle.tendril_lossy.specs.Lossy.{IsOpen, due, due_open, kept, replaced};
 ghost use Rattle.std.specs.Borrow.{Lends, sem};
 ghost use Rattle.std.specs.List.{FoldsTo};
-ghost use Rattle.tendril.specs.Decoding.{listed};
+ghost use Rattle.tendril_text.specs.Decoding.{listed};
 ghost use Rattle.tendril_stream.specs.Decoders.{Resumes, nothing};
 ghost use Rattle.tendril_stream.specs.Sinks.{Piece, Feeds, Stops, IsStop};
 
@@ -11,9 +11,9 @@ use crate::sink::TendrilSink;
 use std::alloc::Global;
 use std::borrow::CowStr;
 use std::marker::PhantomData;
-use tendril::{Atomicity, ByteTendril, IncompleteUtf8, NonAtomic, StrTendril};
 use tendril_block::Refusal;
 use tendril_lossy::Ending;
+use tendril_text::{Atomicity, ByteTendril, IncompleteUtf8, NonAtomic, StrTendril};
 
 const INVALID: &str = "invalid byte sequence";
 

@@ -6,8 +6,8 @@ ghost use Rattle.tendril_stream.specs.Reads.{Reads};
 
 use crate::counted_read::{CountedRead, ReadFault};
 use crate::reading::read_into;
-use tendril::{Atomicity, ByteTendril};
 use tendril_block::{MAX_LEN, Refusal};
+use tendril_text::{Atomicity, ByteTendril};
 
 /// How many bytes the first read is offered.
 const FIRST: u32 = 32;

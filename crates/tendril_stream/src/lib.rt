@@ -11,13 +11,15 @@ mod pieces;
 mod reading;
 mod sink;
 mod theorems;
+mod tracks;
 
 pub use accumulate::{Accumulate, Event};
 pub use counted::Counted;
 pub use counted_read::{CountedRead, ReadFault};
 pub use decoder::{LossyDecoder, Utf8LossyDecoder};
 pub use fill::ReadExt;
-pub use pieces::decode_pieces;
+pub use pieces::{decode_pieces, decode_pieces_into};
 pub use reading::{Stopped, decode_reader, from_file, read_decoded, read_from};
 pub use sink::{Streamed, TendrilSink};
 pub use theorems::laws;
+pub use tracks::Tracks;

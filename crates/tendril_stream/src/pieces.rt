@@ -1,7 +1,7 @@
 //! A stream in any pieces.
-ghost use Rattle.std.specs.Prelude.{◌≡◌, List, None, flat_map, IfOk};
+ghost use Rattle.std.specs.Prelude.{◌≡◌, List, [], None, flat_map, IfOk};
 ghost use Rattle.std.specs.Iterator.{IsFiniteIterable, YieldsThen};
-ghost use Rattle.tendril.specs.Texts.{Text};
+ghost use Rattle.tendril_text.specs.Texts.{Text};
 ghost use Rattle.tendril_lossy.specs.Lossy.{due};
 ghost use Rattle.tendril_stream.specs.Events.{sent};
 ghost use Rattle.tendril_stream.specs.Sinks.{told};
@@ -9,9 +9,10 @@ ghost use Rattle.tendril_stream.specs.Sinks.{told};
 use crate::accumulate::{Accumulate, Event};
 use crate::decoder::Utf8LossyDecoder;
 use crate::sink::TendrilSink;
+use crate::tracks::Tracks;
 use std::alloc::Global;
-use tendril::{Atomicity, ByteTendril};
 use tendril_block::Refusal;
+use tendril_text::{Atomicity, ByteTendril, StrTendril};
 
 /// Decodes pieces to a list of texts and errors.
 pub fn decode_pieces<A: Atomicity, I: IntoIterator<Item = ByteTendril<A>>>(
@@ -23,5 +24,20 @@ pub fn decode_pieces<A: Atomicity, I: IntoIterator<Item = ByteTendril<A>>>(
         × I.into_iter_gives pieces it × YieldsThen I.IntoIter.next_gives it read None end
         × (told (sent events.items) ≡ due (flat_map (λ p. p.bytes) read))) }
 {
-    Utf8LossyDecoder::new(alloc, Accumulate::new(alloc)).from_iter(pieces)
+    decode_pieces_into(alloc, Accumulate::new(alloc), pieces)
+}
+
+/// Decodes pieces into a sink, and ends the stream.
+pub fn decode_pieces_into<
+    A: Atomicity,
+    S: Tracks<StrTendril<A>>,
+    I: IntoIterator<Item = ByteTendril<A>>,
+>(alloc: Global, sink: S, pieces: I) -> Result<S::Output, Refusal>
+    requires new { S.after sink [] }
+    requires finite { IsFiniteIterable I.into_iter_gives I.IntoIter.can_next I.IntoIter.remaining pieces }
+    ensures { IfOk result (λ out. (it : I.IntoIter) × (end : I.IntoIter) × (read : List Text)
+        × I.into_iter_gives pieces it × YieldsThen I.IntoIter.next_gives it read None end
+        × ((last : S) × S.after last (due (flat_map (λ p. p.bytes) read)) × S.finishes last out)) }
+{
+    Utf8LossyDecoder::new(alloc, sink).from_iter(pieces)
 }

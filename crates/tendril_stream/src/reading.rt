@@ -15,8 +15,8 @@ use crate::decoder::Utf8LossyDecoder;
 use crate::sink::TendrilSink;
 use std::alloc::Global;
 use std::fs::{self, Files};
-use tendril::{Atomicity, ByteTendril, StrTendril};
 use tendril_block::Refusal;
+use tendril_text::{Atomicity, ByteTendril, StrTendril};
 
 /// How many bytes each read is offered.
 const PIECE: u32 = 4096;
@@ -116,7 +116,7 @@ pub fn decode_reader<A: Atomicity, R: CountedRead>(
     ensures stopped { IfErr result (λ s. (these : Reads) × Makes R.history R.remaining reader.old these reader.new
         × (IsOfReading s.refusal → StopsBetween most these s.refusal × (these.empty ≡ 0)
         × ((d : _) × (s.sink ≡ Some d) × (d.failed ≡ false)
-        × StandsAt (λ a. sent a.events.items) d.inner_sink d.kept these.given))) }
+        × StandsAt (λ a t. told (sent a.events.items) ≡ t) d.inner_sink d.kept these.given))) }
 {
     read_decoded(
         alloc,

@@ -1,13 +1,13 @@
 //! What takes a stream of texts.
 
 use std::borrow::CowStr;
-use tendril::{Atomicity, Format, Tendril};
 use tendril_block::Refusal;
+use tendril_text::{Atomicity, Format, Tendril};
 
 /// A text that a sink may take: a `Tendril` in any format, over any kind of block.
 pub trait Streamed: Drop {
     ghost use Rattle.std.specs.Prelude.{◌≡◌, length};
-    ghost use Rattle.tendril.specs.Texts.{Text};
+    ghost use Rattle.tendril_text.specs.Texts.{Text};
 
     /// The text, as contracts see it.
     ghost text: { Self → Text };

@@ -1,6 +1,7 @@
 //! Texts that join, and texts that change their format.
 
 use crate::pairs::Pairs;
+use crate::tests::same;
 use std::test::Fail;
 use tendril::block::Refusal;
 use tendril::fmt::{ASCII, Bytes, UTF8, WTF8};
@@ -13,19 +14,19 @@ type Wtf8Tendril = Tendril<WTF8, NonAtomic>;
 #[test]
 fn pieces_of_a_character(rt: HostRuntime) -> Result<(), Fail> {
     let mut text: StrTendril = Tendril::new(rt.alloc());
-    assert_eq!(rt; text.try_push_bytes(b"\xea\x99"), Err(Refusal::Invalid));
-    assert_eq!(rt; text.try_push_bytes(b"\xae"), Err(Refusal::Invalid));
-    assert_eq!(rt; text.try_push_bytes(b"\xea\x99\xae"), Ok(()));
-    assert_eq!(rt; text.as_byte_slice(), "\u{a66e}".as_bytes());
+    same(&rt, text.try_push_bytes(b"\xea\x99"), Err(Refusal::Invalid));
+    same(&rt, text.try_push_bytes(b"\xae"), Err(Refusal::Invalid));
+    same(&rt, text.try_push_bytes(b"\xea\x99\xae"), Ok(()));
+    same(&rt, text.as_byte_slice(), "\u{a66e}".as_bytes());
     Ok(())
 }
 
 #[test]
 fn pushes_in_a_format_of_a_users_own(rt: HostRuntime) -> Result<(), Fail> {
     let mut text: Tendril<Pairs, NonAtomic> = Tendril::new(rt.alloc());
-    assert_eq!(rt; text.try_push_bytes(b"ab"), Ok(()));
-    assert_eq!(rt; text.try_push_bytes(b"c"), Err(Refusal::Invalid));
-    assert_eq!(rt; text.as_byte_slice(), b"ab".as_slice());
+    same(&rt, text.try_push_bytes(b"ab"), Ok(()));
+    same(&rt, text.try_push_bytes(b"c"), Err(Refusal::Invalid));
+    same(&rt, text.as_byte_slice(), b"ab".as_slice());
     Ok(())
 }
 
@@ -33,7 +34,7 @@ fn pushes_in_a_format_of_a_users_own(rt: HostRuntime) -> Result<(), Fail> {
 fn surrogates_meet_inline(rt: HostRuntime) -> Result<(), Fail> {
     let mut text: Wtf8Tendril = Tendril::try_from_byte_slice(rt.alloc(), b"aaaa\xed\xa0\xbd")?;
     text.try_push_bytes(b"\xed\xb2\xa9")?;
-    assert_eq!(rt; text.as_byte_slice(), "aaaa\u{1f4a9}".as_bytes());
+    same(&rt, text.as_byte_slice(), "aaaa\u{1f4a9}".as_bytes());
     assert!(rt; !text.is_shared());
     Ok(())
 }
@@ -49,13 +50,12 @@ fn surrogates_meet_across_the_inline_length(rt: HostRuntime) -> Result<(), Fail>
         let clone = text.clone()?;
         text.try_push_bytes(b"\xed\xb2\xa9bcdefghi")?;
         let (_, joined) = text.as_byte_slice().split_at_checked(len).ok_or("short")?;
-        assert_eq!(rt;
-            joined,
-            "\u{1f4a9}bcdefghi".as_bytes(),
+        assert!(rt;
+            joined == "\u{1f4a9}bcdefghi".as_bytes(),
             "{len} bytes before"
         );
         let (_, kept) = clone.as_byte_slice().split_at_checked(len).ok_or("short")?;
-        assert_eq!(rt; kept, b"\xed\xa0\xbd".as_slice(), "the clone of {len}");
+        assert!(rt; kept == b"\xed\xa0\xbd".as_slice(), "the clone of {len}");
     }
     Ok(())
 }
@@ -66,11 +66,11 @@ fn lone_lead_before_a_pair(rt: HostRuntime) -> Result<(), Fail> {
     text.try_push_bytes(b"\xed\xa0\xbd")?;
     text.try_push_bytes(b"\xed\xb2\xa9")?;
     let joined = b"\xed\xa0\xbb\xf0\x9f\x92\xa9".as_slice();
-    assert_eq!(rt; text.as_byte_slice(), joined);
+    same(&rt, text.as_byte_slice(), joined);
     let Err(text) = text.try_reinterpret::<UTF8>() else {
         return Err(Fail::from("a lone surrogate is no UTF-8"));
     };
-    assert_eq!(rt; text.as_byte_slice(), joined);
+    same(&rt, text.as_byte_slice(), joined);
     Ok(())
 }
 
@@ -78,7 +78,7 @@ fn lone_lead_before_a_pair(rt: HostRuntime) -> Result<(), Fail> {
 fn unjoined_pair_refused(rt: HostRuntime) {
     for bytes in [b"\xed\xa0\xbd\xed\xb2\xa9".as_slice(), b"\xc5\x91\x91"] {
         let text: Result<Wtf8Tendril, Refusal> = Tendril::try_from_byte_slice(rt.alloc(), bytes);
-        assert_eq!(rt; text.err(), Some(Refusal::Invalid));
+        same(&rt, text.err(), Some(Refusal::Invalid));
     }
 }
 
@@ -95,52 +95,66 @@ fn halves_of_a_pair(rt: HostRuntime) -> Result<(), Fail> {
         return Err(Fail::from("the end is WTF-8"));
     };
     front.push_tendril(&end)?;
-    assert_eq!(rt; front.as_byte_slice(), "aaaaaa\u{1f4a9}aaaaaa".as_bytes());
-    assert_eq!(rt; front.len32(), 16);
-    assert_eq!(rt; text.len32(), 18);
+    same(
+        &rt,
+        front.as_byte_slice(),
+        "aaaaaa\u{1f4a9}aaaaaa".as_bytes(),
+    );
+    same(&rt, front.len32(), 16);
+    same(&rt, text.len32(), 18);
     Ok(())
 }
 
 #[test]
 fn ascii_within_utf8(rt: HostRuntime) -> Result<(), Fail> {
     let text: AsciiTendril = Tendril::try_from_byte_slice(rt.alloc(), b"hello")?;
-    assert_eq!(rt; text.as_superset::<UTF8>().as_str(), "hello");
+    same(&rt, text.as_superset::<UTF8>().as_str(), "hello");
     let text: StrTendril = text.into_superset();
-    assert_eq!(rt; text.as_byte_slice(), b"hello".as_slice());
+    same(&rt, text.as_byte_slice(), b"hello".as_slice());
     assert!(rt; text.try_as_subset::<ASCII>().is_ok());
     let Ok(text) = text.try_into_subset::<ASCII>() else {
         return Err(Fail::from("hello is ASCII"));
     };
-    assert_eq!(rt; text.into_bytes().as_byte_slice(), b"hello".as_slice());
+    same(&rt, text.into_bytes().as_byte_slice(), b"hello".as_slice());
     Ok(())
 }
 
 #[test]
 fn no_ascii_in_a_long_character(rt: HostRuntime) -> Result<(), Fail> {
     let text: StrTendril = str_to_tendril(rt.alloc(), "\u{151}")?;
-    assert_eq!(rt; text.try_as_subset::<ASCII>().err(), Some(Refusal::Invalid));
+    same(
+        &rt,
+        text.try_as_subset::<ASCII>().err(),
+        Some(Refusal::Invalid),
+    );
     let Err(text) = text.try_into_subset::<ASCII>() else {
         return Err(Fail::from("no ASCII"));
     };
-    assert_eq!(rt; text.as_byte_slice(), "\u{151}".as_bytes());
+    same(&rt, text.as_byte_slice(), "\u{151}".as_bytes());
     Ok(())
 }
 
 #[test]
 fn views_in_another_format(rt: HostRuntime) -> Result<(), Fail> {
     let text: ByteTendril = Tendril::try_from_byte_slice(rt.alloc(), b"xy\xff")?;
-    assert_eq!(rt;
+    same(
+        &rt,
         text.try_reinterpret_view::<UTF8>().err(),
-        Some(Refusal::Invalid)
+        Some(Refusal::Invalid),
     );
     let text: ByteTendril = Tendril::try_from_byte_slice(rt.alloc(), b"xy\xc5\x8b")?;
-    assert_eq!(rt; text.try_reinterpret_view::<UTF8>()?.as_str(), "xy\u{14b}");
-    assert_eq!(rt;
+    same(
+        &rt,
+        text.try_reinterpret_view::<UTF8>()?.as_str(),
+        "xy\u{14b}",
+    );
+    same(
+        &rt,
         text.reinterpret_view_without_validating::<Bytes>()
             .as_byte_slice(),
-        b"xy\xc5\x8b".as_slice()
+        b"xy\xc5\x8b".as_slice(),
     );
     let text: ByteTendril = text.reinterpret_without_validating();
-    assert_eq!(rt; text.len32(), 4);
+    same(&rt, text.len32(), 4);
     Ok(())
 }

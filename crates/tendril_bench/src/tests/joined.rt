@@ -1,6 +1,7 @@
 //! What a join changes at its seam.
 
 use crate::pairs::Pairs;
+use crate::tests::same;
 use tendril_fmt::fmt::{ASCII, Bytes, Fixup, Format, Latin1, UTF8, WTF8, laws};
 
 // The fixup of two texts, if they are valid.
@@ -22,25 +23,32 @@ fn joins_surrogates_that_meet(rt: HostRuntime) {
     };
     let lead = [0x61, 0xED, 0xA0, 0xBD];
     let trail = [0xED, 0xB2, 0xA9, 0x7A];
-    assert_eq!(rt; fixup_of::<WTF8>(&lead[1..], &trail[..3]), Some(pair));
-    assert_eq!(rt; fixup_of::<WTF8>(&lead, &trail), Some(pair));
+    same(&rt, fixup_of::<WTF8>(&lead[1..], &trail[..3]), Some(pair));
+    same(&rt, fixup_of::<WTF8>(&lead, &trail), Some(pair));
 
     // a trail before a lead, a lead before a lead, one side without a surrogate, empty sides
-    assert_eq!(rt;
+    same(
+        &rt,
         fixup_of::<WTF8>(&trail[..3], &lead[1..]),
-        Some(Fixup::default())
+        Some(Fixup::default()),
     );
-    assert_eq!(rt; fixup_of::<WTF8>(&lead, &lead[1..]), Some(Fixup::default()));
-    assert_eq!(rt;
+    same(
+        &rt,
+        fixup_of::<WTF8>(&lead, &lead[1..]),
+        Some(Fixup::default()),
+    );
+    same(
+        &rt,
         fixup_of::<WTF8>(&lead, &trail[3..]),
-        Some(Fixup::default())
+        Some(Fixup::default()),
     );
-    assert_eq!(rt;
+    same(
+        &rt,
         fixup_of::<WTF8>(&lead[..1], &trail),
-        Some(Fixup::default())
+        Some(Fixup::default()),
     );
-    assert_eq!(rt; fixup_of::<WTF8>(&[], &trail), Some(Fixup::default()));
-    assert_eq!(rt; fixup_of::<WTF8>(&lead, &[]), Some(Fixup::default()));
+    same(&rt, fixup_of::<WTF8>(&[], &trail), Some(Fixup::default()));
+    same(&rt, fixup_of::<WTF8>(&lead, &[]), Some(Fixup::default()));
 }
 
 #[test]
@@ -60,22 +68,24 @@ fn joins_every_pair_to_its_character(rt: HostRuntime) {
             insert_len: 4,
             insert_bytes,
         };
-        assert_eq!(rt; fixup_of::<WTF8>(&left, &right), Some(want), "{code}");
+        assert!(rt; fixup_of::<WTF8>(&left, &right) == Some(want), "{code}");
     }
 }
 
 #[test]
 fn leaves_the_bytes_of_the_other_formats(rt: HostRuntime) {
     laws();
-    assert_eq!(rt;
+    same(
+        &rt,
         fixup_of::<Bytes>(&[0xED, 0xA0, 0xBD], &[0xED, 0xB2, 0xA9]),
-        Some(Fixup::default())
+        Some(Fixup::default()),
     );
-    assert_eq!(rt;
+    same(
+        &rt,
         fixup_of::<Latin1>(&[0xED, 0xA0, 0xBD], &[0xED, 0xB2, 0xA9]),
-        Some(Fixup::default())
+        Some(Fixup::default()),
     );
-    assert_eq!(rt; fixup_of::<ASCII>(b"ab", b"c"), Some(Fixup::default()));
-    assert_eq!(rt; fixup_of::<UTF8>(b"ab", b"c"), Some(Fixup::default()));
-    assert_eq!(rt; fixup_of::<Pairs>(b"ab", b"cd"), Some(Fixup::default()));
+    same(&rt, fixup_of::<ASCII>(b"ab", b"c"), Some(Fixup::default()));
+    same(&rt, fixup_of::<UTF8>(b"ab", b"c"), Some(Fixup::default()));
+    same(&rt, fixup_of::<Pairs>(b"ab", b"cd"), Some(Fixup::default()));
 }

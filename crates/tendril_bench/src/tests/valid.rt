@@ -22,8 +22,14 @@ fn accepts_what_the_table_accepts(rt: HostRuntime) {
                 *byte = BORDERS[(left % 20) as usize];
                 left /= 20;
             }
-            assert_eq!(rt; UTF8::validate(bytes), is_utf8(bytes), "UTF8 of {bytes:?}");
-            assert_eq!(rt; WTF8::validate(bytes), is_wtf8(bytes), "WTF8 of {bytes:?}");
+            assert!(rt;
+                UTF8::validate(bytes) == is_utf8(bytes),
+                "UTF8 of {bytes:?}"
+            );
+            assert!(rt;
+                WTF8::validate(bytes) == is_wtf8(bytes),
+                "WTF8 of {bytes:?}"
+            );
         }
         lists = lists.saturating_mul(20);
     }

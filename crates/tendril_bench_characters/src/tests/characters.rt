@@ -1,5 +1,6 @@
 //! Characters: their encodings in each format, and the places of a text's own.
 
+use crate::tests::same;
 use std::test::Fail;
 use tendril_bench::callers::leading_digits;
 use tendril_bench::doubled::Doubled;
@@ -98,27 +99,30 @@ fn one_byte_formats_have_the_first_characters(rt: HostRuntime) {
 
 #[test]
 fn no_character_comes_first_in_the_empty_text(rt: HostRuntime) {
-    assert_eq!(rt; first_of::<ASCII>(&[]), None);
-    assert_eq!(rt; first_of::<Latin1>(&[]), None);
-    assert_eq!(rt; first_of::<UTF8>(&[]), None);
+    same(&rt, first_of::<ASCII>(&[]), None);
+    same(&rt, first_of::<Latin1>(&[]), None);
+    same(&rt, first_of::<UTF8>(&[]), None);
 }
 
 #[test]
 fn only_the_first_character_is_taken(rt: HostRuntime) {
-    assert_eq!(rt; first_of::<ASCII>(b"xyz"), Some(('x', 1)));
-    assert_eq!(rt; first_of::<Latin1>(b"\xC5\x91"), Some(('\u{C5}', 1)));
-    assert_eq!(rt; first_of::<UTF8>("xyz".as_bytes()), Some(('x', 1)));
-    assert_eq!(rt;
+    same(&rt, first_of::<ASCII>(b"xyz"), Some(('x', 1)));
+    same(&rt, first_of::<Latin1>(b"\xC5\x91"), Some(('\u{C5}', 1)));
+    same(&rt, first_of::<UTF8>("xyz".as_bytes()), Some(('x', 1)));
+    same(
+        &rt,
         first_of::<UTF8>("\u{151}o".as_bytes()),
-        Some(('\u{151}', 2))
+        Some(('\u{151}', 2)),
     );
-    assert_eq!(rt;
+    same(
+        &rt,
         first_of::<UTF8>("\u{4E2D} ".as_bytes()),
-        Some(('\u{4E2D}', 3))
+        Some(('\u{4E2D}', 3)),
     );
-    assert_eq!(rt;
+    same(
+        &rt,
         first_of::<UTF8>("\u{1F4A9}\u{151}".as_bytes()),
-        Some(('\u{1F4A9}', 4))
+        Some(('\u{1F4A9}', 4)),
     );
 }
 
@@ -126,7 +130,7 @@ fn only_the_first_character_is_taken(rt: HostRuntime) {
 fn an_encoding_is_the_bytes_that_it_was_made_of(rt: HostRuntime) {
     let bytes = [1, 0, 3, 0];
     for len in 0..5 {
-        assert_eq!(rt; Encoded::new(&bytes[..len]).as_slice(), &bytes[..len]);
+        same(&rt, Encoded::new(&bytes[..len]).as_slice(), &bytes[..len]);
     }
 }
 
@@ -143,7 +147,7 @@ fn places_in_utf8_are_those_of_the_bytes(rt: HostRuntime) -> Result<(), Fail> {
         (12, 'z'),
     ];
     let items: Vec<(usize, char)> = Utf8CharIndices::new(text.as_bytes()).collect(rt.alloc())?;
-    assert_eq!(rt; items.as_slice(), want.as_slice());
+    same(&rt, items.as_slice(), want.as_slice());
     Ok(())
 }
 
@@ -153,7 +157,7 @@ fn each_byte_is_a_character_of_latin1(rt: HostRuntime) -> Result<(), Fail> {
     let items: Vec<(usize, char)> = SingleByteCharIndices::new(b"x\0\xA0\xFFy").collect(
         rt.alloc(),
     )?;
-    assert_eq!(rt; items.as_slice(), want.as_slice());
+    same(&rt, items.as_slice(), want.as_slice());
     Ok(())
 }
 
@@ -162,8 +166,8 @@ fn the_empty_text_yields_nothing_again_and_again(rt: HostRuntime) {
     let mut bytes = SingleByteCharIndices::new(&[]);
     let mut characters = Utf8CharIndices::new(&[]);
     for _ in 0..2 {
-        assert_eq!(rt; bytes.next(), None);
-        assert_eq!(rt; characters.next(), None);
+        same(&rt, bytes.next(), None);
+        same(&rt, characters.next(), None);
     }
 }
 
@@ -171,19 +175,22 @@ fn the_empty_text_yields_nothing_again_and_again(rt: HostRuntime) {
 fn digits_are_taken_off_the_front(rt: HostRuntime) {
     let text = b"12\xD9\xA34".as_slice();
     let parts = Some((b"12".as_slice(), b"\xD9\xA34".as_slice()));
-    assert_eq!(rt; split_digits::<UTF8>(text), parts);
-    assert_eq!(rt; split_digits::<Latin1>(text), parts);
-    assert_eq!(rt;
+    same(&rt, split_digits::<UTF8>(text), parts);
+    same(&rt, split_digits::<Latin1>(text), parts);
+    same(
+        &rt,
         split_digits::<ASCII>(b"12a"),
-        Some((b"12".as_slice(), b"a".as_slice()))
+        Some((b"12".as_slice(), b"a".as_slice())),
     );
-    assert_eq!(rt;
+    same(
+        &rt,
         split_digits::<ASCII>(b"12"),
-        Some((b"12".as_slice(), b"".as_slice()))
+        Some((b"12".as_slice(), b"".as_slice())),
     );
-    assert_eq!(rt;
+    same(
+        &rt,
         split_digits::<ASCII>(b""),
-        Some((b"".as_slice(), b"".as_slice()))
+        Some((b"".as_slice(), b"".as_slice())),
     );
 }
 
@@ -191,10 +198,11 @@ fn digits_are_taken_off_the_front(rt: HostRuntime) {
 fn characters_in_a_format_of_a_users_own(rt: HostRuntime) {
     assert!(rt; is_encoded_as::<Doubled>('x', b"xx"));
     assert!(rt; Doubled::encode_char('\u{80}').is_none());
-    assert_eq!(rt; first_of::<Doubled>(b"xxyy"), Some(('x', 2)));
-    assert_eq!(rt; first_of::<Doubled>(b"xxy"), None);
-    assert_eq!(rt;
+    same(&rt, first_of::<Doubled>(b"xxyy"), Some(('x', 2)));
+    same(&rt, first_of::<Doubled>(b"xxy"), None);
+    same(
+        &rt,
         split_digits::<Doubled>(b"1122xx"),
-        Some((b"1122".as_slice(), b"xx".as_slice()))
+        Some((b"1122".as_slice(), b"xx".as_slice())),
     );
 }

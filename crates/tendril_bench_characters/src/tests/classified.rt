@@ -67,7 +67,7 @@ fn answers_by_the_table(rt: HostRuntime) {
             rewind,
             meaning,
         });
-        assert_eq!(rt; classify(buf, idx), want, "at {idx} of {buf:?}");
+        assert!(rt; classify(buf, idx) == want, "at {idx} of {buf:?}");
     }
 }
 
@@ -85,7 +85,7 @@ fn finds_each_character_from_each_of_its_bytes(rt: HostRuntime) {
                 rewind,
                 meaning: Meaning::Whole(c),
             };
-            assert_eq!(rt; classify(bytes, rewind), Some(want), "{code}");
+            assert!(rt; classify(bytes, rewind) == Some(want), "{code}");
         }
     }
 }
@@ -109,7 +109,7 @@ fn finds_each_surrogate_from_each_of_its_bytes(rt: HostRuntime) {
                 rewind,
                 meaning,
             };
-            assert_eq!(rt; classify(bytes, rewind), Some(want), "{index}");
+            assert!(rt; classify(bytes, rewind) == Some(want), "{index}");
         }
     }
 }

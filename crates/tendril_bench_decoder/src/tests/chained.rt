@@ -1,6 +1,7 @@
 //! A decoder that sends its texts to another decoder.
 
 use crate::tests::due::joined_events;
+use crate::tests::same;
 use std::borrow::CowStr;
 use std::test::Fail;
 use tendril::block::Refusal;
@@ -59,6 +60,10 @@ fn texts_that_are_decoded_again(rt: HostRuntime) -> Result<(), Fail> {
     let once = decode_pieces(alloc, same_pieces)?;
     let joined = joined_events(&rt, &once)?;
     assert!(rt; !joined.is_empty());
-    assert_eq!(rt; joined_events(&rt, &twice)?.as_slice(), joined.as_slice());
+    same(
+        &rt,
+        joined_events(&rt, &twice)?.as_slice(),
+        joined.as_slice(),
+    );
     Ok(())
 }

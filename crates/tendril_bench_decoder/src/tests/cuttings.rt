@@ -51,7 +51,7 @@ fn check_cuttings(
     for cuts in 0..cuttings {
         let events = decode_cut(rt.alloc(), bytes, cuts)?;
         let joined = joined_events(rt, &events)?;
-        assert_eq!(rt; joined.as_slice(), expected, "of {bytes:?}, cut {cuts}");
+        assert!(rt; joined.as_slice() == expected, "of {bytes:?}, cut {cuts}");
     }
     Ok(())
 }

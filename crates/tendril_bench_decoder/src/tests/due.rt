@@ -1,5 +1,6 @@
 //! What a decoder has to send, and what it sent, both written as bytes.
 
+use crate::tests::same;
 use std::alloc::{AllocError, Global};
 use std::process::Abort;
 use std::test::Fail;
@@ -65,6 +66,6 @@ pub(crate) fn check_events<A: Atomicity>(
 ) -> Result<(), Fail> {
     let sent = joined_events(rt, events)?;
     let expected = joined_due(rt.alloc(), due)?;
-    assert_eq!(rt; sent.as_slice(), expected.as_slice());
+    same(rt, sent.as_slice(), expected.as_slice());
     Ok(())
 }

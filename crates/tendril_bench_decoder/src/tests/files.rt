@@ -2,6 +2,7 @@
 
 use crate::tests::due::{Due, INVALID};
 use crate::tests::noted::Noted;
+use crate::tests::same;
 use std::alloc::Global;
 use std::fs::{self, Files};
 use std::test::Fail;
@@ -61,7 +62,7 @@ fn a_file_that_is_not_there(rt: HostRuntime) -> Result<(), Fail> {
     let Err(stopped) = decode_file(&rt, rt.alloc(), "tendril_bench_decoder_no_file.txt", 9) else {
         return Err(Fail::from("there is no such file"));
     };
-    assert_eq!(rt; stopped.refusal, Refusal::Io);
+    same(&rt, stopped.refusal, Refusal::Io);
     let decoder = stopped.sink.ok_or("the decoder comes back")?;
     decoder.inner_sink().check(&rt, &[])
 }
@@ -71,7 +72,7 @@ fn a_folder(rt: HostRuntime) -> Result<(), Fail> {
     let Err(stopped) = decode_file(&rt, rt.alloc(), ".", 9) else {
         return Err(Fail::from("a folder can't be read"));
     };
-    assert_eq!(rt; stopped.refusal, Refusal::Io);
+    same(&rt, stopped.refusal, Refusal::Io);
     let decoder = stopped.sink.ok_or("the decoder comes back")?;
     decoder.inner_sink().check(&rt, &[])
 }

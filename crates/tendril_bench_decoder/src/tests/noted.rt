@@ -1,6 +1,7 @@
 //! A sink that notes what it is sent as bytes, for the other files.
 
 use crate::tests::due::{Due, joined_due, push_error};
+use crate::tests::same;
 use std::alloc::Global;
 use std::borrow::CowStr;
 use std::process::Abort;
@@ -30,7 +31,7 @@ impl Noted {
     /// What was sent is what has to be, and no text of it is empty.
     pub(crate) fn check(&self, rt: &(impl Abort + AllocGlobal), due: &[Due]) -> Result<(), Fail> {
         let expected = joined_due(rt.alloc(), due)?;
-        assert_eq!(rt; self.joined.as_slice(), expected.as_slice());
+        same(rt, self.joined.as_slice(), expected.as_slice());
         assert!(rt; !self.had_empty, "an empty text");
         Ok(())
     }

@@ -2,6 +2,7 @@
 
 use crate::tests::due::{Due, INCOMPLETE, INVALID, check_events};
 use crate::tests::noted::Noted;
+use crate::tests::same;
 use crate::tests::script::{Interrupted, Script, Step};
 use std::process::Abort;
 use std::test::Fail;
@@ -151,12 +152,12 @@ fn check_read_from(rt: &(impl Abort + AllocGlobal), row: Row) -> Result<(), Fail
             noted.check(rt, row.due)?;
         }
         Err(stopped) => {
-            assert_eq!(rt; Some(stopped.refusal), row.stops);
+            same(rt, Some(stopped.refusal), row.stops);
             let decoder = stopped.sink.ok_or("the decoder comes back")?;
             decoder.inner_sink().check(rt, row.due)?;
         }
     }
-    assert_eq!(rt; script.offered.len(), row.reads);
+    same(rt, script.offered.len(), row.reads);
     assert!(rt; script.offered.iter().all(|offered| *offered == 4096));
     Ok(())
 }
@@ -172,11 +173,32 @@ fn check_decode_reader<A: Atomicity>(
             check_events(rt, &events, row.due)?;
         }
         Err(stopped) => {
-            assert_eq!(rt; Some(stopped.refusal), row.stops);
+            same(rt, Some(stopped.refusal), row.stops);
             let decoder = stopped.sink.ok_or("the decoder comes back")?;
             check_events(rt, decoder.inner_sink().events(), row.due)?;
         }
     }
+    Ok(())
+}
+
+// Reads into a list, which then has one event for each that is due, and no more.
+fn check_accumulated(rt: &(impl Abort + AllocGlobal), row: Row) -> Result<(), Fail> {
+    let mut reader = Counted::new(Script::new(rt.alloc(), row.steps));
+    let count = match decode_reader::<NonAtomic, _>(rt.alloc(), &mut reader, row.most) {
+        Ok(events) => {
+            assert!(rt; row.stops.is_none());
+            check_events(rt, &events, row.due)?;
+            events.len()
+        }
+        Err(stopped) => {
+            same(rt, Some(stopped.refusal), row.stops);
+            let decoder = stopped.sink.ok_or("the decoder comes back")?;
+            let events = decoder.inner_sink().events();
+            check_events(rt, events, row.due)?;
+            events.len()
+        }
+    };
+    same(rt, count, row.due.len());
     Ok(())
 }
 
@@ -196,8 +218,8 @@ fn check_read_to_tendril<A: Atomicity>(
     let mut expected = Vec::new(rt.alloc());
     expected.extend_from_slice(before)?;
     expected.extend_from_slice(row.read)?;
-    assert_eq!(rt; text.as_byte_slice(), expected.as_slice());
-    assert_eq!(rt; script.offered.len(), row.reads);
+    same(rt, text.as_byte_slice(), expected.as_slice());
+    same(rt, script.offered.len(), row.reads);
     Ok(())
 }
 
@@ -207,6 +229,15 @@ fn readers_that_are_decoded(rt: HostRuntime) -> Result<(), Fail> {
         check_read_from(&rt, row)?;
         check_decode_reader::<NonAtomic>(&rt, row)?;
         check_decode_reader::<Atomic>(&rt, row)?;
+    }
+    Ok(())
+}
+
+#[test]
+fn readers_whose_characters_are_not_parted(rt: HostRuntime) -> Result<(), Fail> {
+    // All rows but the last, whose character comes in two reads and is sent as a text of its own.
+    for row in ROWS.iter().take(11) {
+        check_accumulated(&rt, *row)?;
     }
     Ok(())
 }
@@ -228,7 +259,7 @@ fn a_reader_that_fails_behind_what_a_text_has(rt: HostRuntime) -> Result<(), Fai
     let mut text: ByteTendril = ByteTendril::from_slice(rt.alloc(), b"ab")?;
     let answer = Counted::new(&mut script).read_to_tendril(&mut text, 5);
     assert!(rt; answer == Err(Refusal::Io));
-    assert_eq!(rt; text.as_byte_slice(), b"abcd".as_slice());
+    same(&rt, text.as_byte_slice(), b"abcd".as_slice());
     Ok(())
 }
 
@@ -252,15 +283,15 @@ fn a_reader_that_is_interrupted_for_ever(rt: HostRuntime) -> Result<(), Fail> {
     let Err(stopped) = answer else {
         return Err(Fail::from("the reader gives nothing"));
     };
-    assert_eq!(rt; stopped.refusal, Refusal::TooManyReads);
+    same(&rt, stopped.refusal, Refusal::TooManyReads);
     let decoder = stopped.sink.ok_or("the decoder comes back")?;
     assert!(rt; decoder.inner_sink().events().is_empty());
-    assert_eq!(rt; reader.reads, 1000);
+    same(&rt, reader.reads, 1000);
 
     let mut text: ByteTendril = ByteTendril::new(rt.alloc());
     let answer = Counted::new(&mut reader).read_to_tendril(&mut text, 1000);
     assert!(rt; answer == Err(Refusal::TooManyReads));
-    assert_eq!(rt; text.len32(), 0);
-    assert_eq!(rt; reader.reads, 2000);
+    same(&rt, text.len32(), 0);
+    same(&rt, reader.reads, 2000);
     Ok(())
 }

@@ -2,6 +2,7 @@
 
 use crate::tests::due::{Due, INVALID};
 use crate::tests::noted::Noted;
+use crate::tests::same;
 use crate::tests::script::{Script, Step};
 use std::alloc::Global;
 use std::borrow::CowStr;
@@ -129,7 +130,7 @@ fn send_pieces(alloc: Global, decoder: &mut Decoder) -> Result<(usize, Option<Re
 fn check_noted(rt: &(impl Abort + AllocGlobal), decoder: &Decoder, at: u32) -> Result<(), Fail> {
     let noted = &decoder.inner_sink().noted;
     let count = at.saturating_sub(1) as usize;
-    assert_eq!(rt; noted.count, count, "call {at} is refused");
+    assert!(rt; noted.count == count, "call {at} is refused");
     noted.check(rt, DUE.get(..count).ok_or("too many")?)
 }
 
@@ -155,7 +156,7 @@ fn check_failed(
         matches!(ended, Err(Refusal::Failed)),
         "call {at} was refused"
     );
-    assert_eq!(rt; calls.get(), at);
+    same(rt, calls.get(), at);
     Ok(())
 }
 
@@ -164,9 +165,12 @@ fn check_refused_call(rt: &(impl Abort + AllocGlobal), at: u32) -> Result<(), Fa
     let sink = RefuseAt::new(rt.alloc(), at, &calls)?;
     let mut decoder = Utf8LossyDecoder::new(rt.alloc(), sink);
     let (count, refusal) = send_pieces(rt.alloc(), &mut decoder)?;
-    assert_eq!(rt; count, accepted_before(at), "call {at} is refused");
-    assert_eq!(rt; refusal, Some(Refusal::SinkRefused), "call {at} is refused");
-    assert_eq!(rt; calls.get(), at);
+    assert!(rt; count == accepted_before(at), "call {at} is refused");
+    assert!(rt;
+        refusal == Some(Refusal::SinkRefused),
+        "call {at} is refused"
+    );
+    same(rt, calls.get(), at);
     check_noted(rt, &decoder, at)?;
     check_failed(rt, decoder, at, &calls)
 }
@@ -185,11 +189,11 @@ fn the_end_is_refused(rt: HostRuntime) -> Result<(), Fail> {
     let sink = RefuseAt::new(rt.alloc(), LAST, &calls)?;
     let mut decoder = Utf8LossyDecoder::new(rt.alloc(), sink);
     let (count, refusal) = send_pieces(rt.alloc(), &mut decoder)?;
-    assert_eq!(rt; count, 3);
+    same(&rt, count, 3);
     assert!(rt; refusal.is_none());
     check_noted(&rt, &decoder, LAST)?;
     assert!(rt; matches!(decoder.finish(), Err(Refusal::SinkRefused)));
-    assert_eq!(rt; calls.get(), LAST);
+    same(&rt, calls.get(), LAST);
     Ok(())
 }
 
@@ -199,11 +203,11 @@ fn no_call_is_refused(rt: HostRuntime) -> Result<(), Fail> {
     let sink = RefuseAt::new(rt.alloc(), 0, &calls)?;
     let mut decoder = Utf8LossyDecoder::new(rt.alloc(), sink);
     let (count, _) = send_pieces(rt.alloc(), &mut decoder)?;
-    assert_eq!(rt; count, 3);
+    same(&rt, count, 3);
     let sink = decoder.finish()?;
-    assert_eq!(rt; sink.noted.count, 10);
+    same(&rt, sink.noted.count, 10);
     sink.noted.check(&rt, &DUE)?;
-    assert_eq!(rt; calls.get(), LAST);
+    same(&rt, calls.get(), LAST);
     Ok(())
 }
 
@@ -227,7 +231,7 @@ fn a_refused_end_inside_a_character(rt: HostRuntime) -> Result<(), Fail> {
         let mut decoder: Decoder = Utf8LossyDecoder::new(rt.alloc(), sink);
         decoder.process(slice_to_tendril(rt.alloc(), b"\xEA\x99")?)?;
         assert!(rt; matches!(decoder.finish(), Err(Refusal::SinkRefused)));
-        assert_eq!(rt; calls.get(), at);
+        same(&rt, calls.get(), at);
     }
     Ok(())
 }
@@ -254,9 +258,8 @@ fn a_refused_call_while_reading(rt: HostRuntime) -> Result<(), Fail> {
         let Err(stopped) = read_pieces(rt.alloc(), sink) else {
             return Err(Fail::from("a call is refused"));
         };
-        assert_eq!(rt;
-            stopped.refusal,
-            Refusal::SinkRefused,
+        assert!(rt;
+            stopped.refusal == Refusal::SinkRefused,
             "call {at} is refused"
         );
         let decoder = stopped.sink.ok_or("the sink comes back")?;
@@ -273,9 +276,9 @@ fn a_refused_end_while_reading(rt: HostRuntime) -> Result<(), Fail> {
     let Err(stopped) = read_pieces(rt.alloc(), sink) else {
         return Err(Fail::from("the end is refused"));
     };
-    assert_eq!(rt; stopped.refusal, Refusal::SinkRefused);
+    same(&rt, stopped.refusal, Refusal::SinkRefused);
     assert!(rt; stopped.sink.is_none());
-    assert_eq!(rt; calls.get(), LAST);
+    same(&rt, calls.get(), LAST);
     Ok(())
 }
 

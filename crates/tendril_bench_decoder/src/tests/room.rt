@@ -1,5 +1,6 @@
 //! How many bytes a read into a text is offered, and texts that share their bytes.
 
+use crate::tests::same;
 use crate::tests::script::Parts;
 use std::alloc::Global;
 use std::test::Fail;
@@ -29,7 +30,7 @@ fn two_hundred_thousand_bytes(rt: HostRuntime) -> Result<(), Fail> {
     let expected = [
         32, 64, 128, 256, 512, 1024, 2048, 4096, 8192, 16384, 32768, 65536, 65536, 65536, 62112,
     ];
-    assert_eq!(rt; reader.offered.as_slice(), expected.as_slice());
+    same(&rt, reader.offered.as_slice(), expected.as_slice());
     Ok(())
 }
 
@@ -50,10 +51,10 @@ fn short_reads_are_offered_what_is_left(rt: HostRuntime) -> Result<(), Fail> {
     let mut text: ByteTendril = ByteTendril::new(rt.alloc());
     let answer = Counted::new(&mut reader).read_to_tendril(&mut text, 100);
     assert!(rt; answer == Ok(40));
-    assert_eq!(rt; text.as_byte_slice(), bytes.as_slice());
+    same(&rt, text.as_byte_slice(), bytes.as_slice());
     // The seventh read fills the first offer with two bytes. Then 5, 3 and none are read.
     let expected = [32, 27, 22, 17, 12, 7, 2, 64, 59, 56];
-    assert_eq!(rt; reader.offered.as_slice(), expected.as_slice());
+    same(&rt, reader.offered.as_slice(), expected.as_slice());
     Ok(())
 }
 
@@ -65,11 +66,11 @@ fn a_clone_stays(rt: HostRuntime) -> Result<(), Fail> {
         let bytes = counted_bytes(rt.alloc(), 100)?;
         let answer = Counted::new(bytes.as_slice()).read_to_tendril(&mut text, 100);
         assert!(rt; answer == Ok(100));
-        assert_eq!(rt; clone.as_byte_slice(), before);
+        same(&rt, clone.as_byte_slice(), before);
         let mut expected = Vec::new(rt.alloc());
         expected.extend_from_slice(before)?;
         expected.extend_from_slice(&bytes)?;
-        assert_eq!(rt; text.as_byte_slice(), expected.as_slice());
+        same(&rt, text.as_byte_slice(), expected.as_slice());
     }
     Ok(())
 }

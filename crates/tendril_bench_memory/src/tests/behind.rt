@@ -2,6 +2,7 @@
 //! and meets the refusal only in the requests that it makes behind that. So the other test's calls made fewer.
 
 use super::few::change_few;
+use super::grown::push_parts;
 use super::long::{cut_long_text, send_long_text, write_long_text};
 use super::make_requests;
 use super::short::change_short_texts;
@@ -47,5 +48,12 @@ fn short_texts(rt: HostRuntime) -> Result<(), Fail> {
 fn few_bytes(rt: HostRuntime) -> Result<(), Fail> {
     change_few(&rt)?;
     make_requests(rt.alloc(), 2)?;
+    Ok(())
+}
+
+#[test]
+fn parts_pushed(rt: HostRuntime) -> Result<(), Fail> {
+    push_parts(&rt)?;
+    make_requests(rt.alloc(), 4)?;
     Ok(())
 }

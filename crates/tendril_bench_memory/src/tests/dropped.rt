@@ -2,6 +2,7 @@
 //! changes where it stands.
 
 use super::refuse_request;
+use crate::tests::same;
 use std::alloc::Global;
 use std::test::Fail;
 use tendril::{ByteTendril, slice_to_tendril};
@@ -21,7 +22,7 @@ fn left_of_a_long_text(alloc: Global) -> Result<ByteTendril, Fail> {
 fn a_push(rt: HostRuntime) -> Result<(), Fail> {
     let mut text = left_of_a_long_text(rt.alloc())?;
     text.push_slice(b"abc")?;
-    assert_eq!(rt; text.as_byte_slice(), b"0123456789abc".as_slice());
+    same(&rt, text.as_byte_slice(), b"0123456789abc".as_slice());
     Ok(())
 }
 
@@ -29,7 +30,11 @@ fn a_push(rt: HostRuntime) -> Result<(), Fail> {
 fn zeros(rt: HostRuntime) -> Result<(), Fail> {
     let mut text = left_of_a_long_text(rt.alloc())?;
     text.push_uninitialized(3)?;
-    assert_eq!(rt; text.as_byte_slice(), b"0123456789\x00\x00\x00".as_slice());
+    same(
+        &rt,
+        text.as_byte_slice(),
+        b"0123456789\x00\x00\x00".as_slice(),
+    );
     Ok(())
 }
 
@@ -37,7 +42,7 @@ fn zeros(rt: HostRuntime) -> Result<(), Fail> {
 fn room(rt: HostRuntime) -> Result<(), Fail> {
     let mut text = left_of_a_long_text(rt.alloc())?;
     text.reserve(10)?;
-    assert_eq!(rt; text.as_byte_slice(), b"0123456789".as_slice());
+    same(&rt, text.as_byte_slice(), b"0123456789".as_slice());
     Ok(())
 }
 
@@ -45,6 +50,6 @@ fn room(rt: HostRuntime) -> Result<(), Fail> {
 fn bytes_written(rt: HostRuntime) -> Result<(), Fail> {
     let mut text = left_of_a_long_text(rt.alloc())?;
     text.bytes_mut(|bytes| bytes.reverse())?;
-    assert_eq!(rt; text.as_byte_slice(), b"9876543210".as_slice());
+    same(&rt, text.as_byte_slice(), b"9876543210".as_slice());
     Ok(())
 }

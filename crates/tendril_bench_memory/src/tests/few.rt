@@ -1,6 +1,7 @@
 //! A text of 9 to 40 bytes is one request for memory, and no more while it has its block alone and no more bytes.
 
 use super::refuse_request;
+use crate::tests::same;
 use std::process::Abort;
 use std::test::Fail;
 use tendril::{ByteTendril, Tendril, slice_to_tendril};
@@ -20,17 +21,17 @@ pub(super) fn change_few(rt: &(impl Abort + AllocGlobal)) -> Result<(), Fail> {
     text.try_pop_back(20)?;
     text.reserve(20)?;
     text.push_slice(FEW.get(20..).ok_or("an end")?)?;
-    assert_eq!(rt; text.as_byte_slice(), FEW);
+    same(rt, text.as_byte_slice(), FEW);
     Ok(())
 }
 
 fn cut_few(rt: &(impl Abort + AllocGlobal), text: &ByteTendril) -> Result<(), Fail> {
     let mut clone = text.clone()?;
     let slice = text.try_subtendril(3, 30)?;
-    assert_eq!(rt; slice.as_byte_slice(), FEW.get(3..33).ok_or("a slice")?);
+    same(rt, slice.as_byte_slice(), FEW.get(3..33).ok_or("a slice")?);
     clone.try_pop_front(10)?;
     clone.try_pop_back(10)?;
-    assert_eq!(rt; clone.as_byte_slice(), FEW.get(10..30).ok_or("a part")?);
+    same(rt, clone.as_byte_slice(), FEW.get(10..30).ok_or("a part")?);
     Ok(())
 }
 
@@ -48,7 +49,7 @@ fn pushes_up_to_forty_bytes_where_the_second_request_is_refused(
     for byte in FEW {
         text.push_slice(&[*byte])?;
     }
-    assert_eq!(rt; text.as_byte_slice(), FEW);
+    same(&rt, text.as_byte_slice(), FEW);
     Ok(())
 }
 
@@ -57,6 +58,6 @@ fn room_for_forty_bytes_where_the_second_request_is_refused(rt: HostRuntime) -> 
     refuse_request(rt.alloc(), 2)?;
     let mut text: ByteTendril = Tendril::with_capacity(rt.alloc(), 40)?;
     text.push_uninitialized(40)?;
-    assert_eq!(rt; text.len32(), 40);
+    same(&rt, text.len32(), 40);
     Ok(())
 }

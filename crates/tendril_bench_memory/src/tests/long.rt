@@ -1,6 +1,7 @@
 //! Cutting a text of a million bytes, and writing into or sending one that has its block alone, asks for no memory.
 
 use super::refuse_request;
+use crate::tests::same;
 use std::alloc::Global;
 use std::process::Abort;
 use std::test::Fail;
@@ -69,7 +70,7 @@ pub(super) fn write_long_text(rt: &(impl Abort + AllocGlobal), number: usize) ->
             *byte = b'!';
         }
     })?;
-    assert_eq!(rt; text.len32() as usize, LEN);
+    same(rt, text.len32() as usize, LEN);
     assert!(rt; text.as_byte_slice().get(699999..700002).ok_or("a slice")? == b" ! ".as_slice());
     Ok(())
 }
@@ -83,7 +84,7 @@ pub(super) fn send_long_text(rt: &(impl Abort + AllocGlobal), number: usize) -> 
     };
     let sent = text.into_send().ok().ok_or("into_send")?;
     let text = receive(rt, sent)?;
-    assert_eq!(rt; text.len32() as usize, LEN);
+    same(rt, text.len32() as usize, LEN);
     assert!(rt; text.as_byte_slice().get(499999..500001).ok_or("a slice")? == b"a ".as_slice());
     Ok(())
 }
@@ -94,7 +95,7 @@ fn receive(rt: &impl Abort, sent: SendTendril<UTF8>) -> Result<StrTendril, Fail>
         Ok(text) => return Ok(text),
         Err(refused) => refused,
     };
-    assert_eq!(rt; refusal, Refusal::Memory);
+    same(rt, refusal, Refusal::Memory);
     Ok(Tendril::from_send(sent).ok().ok_or("from_send")?)
 }
 

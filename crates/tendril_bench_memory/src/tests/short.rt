@@ -1,6 +1,7 @@
 //! Texts of at most 8 bytes ask for no memory, whatever is done to them.
 
 use super::refuse_request;
+use crate::tests::same;
 use std::process::Abort;
 use std::test::Fail;
 use tendril::{ByteTendril, StrTendril, Tendril};
@@ -24,9 +25,9 @@ fn join_short_texts(rt: &(impl Abort + AllocGlobal), len: u32) -> Result<ByteTen
     let mut text: ByteTendril = Tendril::try_from_byte_slice(rt.alloc(), front)?;
     let mut clone = text.clone()?;
     clone.try_push_bytes(end)?;
-    assert_eq!(rt; clone.as_byte_slice(), DIGITS);
+    same(rt, clone.as_byte_slice(), DIGITS);
     text.push_tendril(&clone.try_subtendril(len, 8u32.saturating_sub(len))?)?;
-    assert_eq!(rt; text.as_byte_slice(), DIGITS);
+    same(rt, text.as_byte_slice(), DIGITS);
     Ok(text)
 }
 
@@ -35,7 +36,7 @@ fn change_short_text(rt: &impl Abort, text: &mut ByteTendril, len: u32) -> Resul
     text.reserve(0)?;
     text.try_pop_front(len)?;
     text.push_uninitialized(len)?;
-    assert_eq!(rt; text.len32(), 8);
+    same(rt, text.len32(), 8);
     Ok(())
 }
 
@@ -53,13 +54,13 @@ fn push_characters(rt: &(impl Abort + AllocGlobal)) -> Result<(), Fail> {
     text.try_push_char('c')?;
     let other: StrTendril = StrTendril::from_char(rt.alloc(), '\u{1f4a9}')?;
     text.push_tendril(&other)?;
-    assert_eq!(rt; text.as_str(), "ab c\u{1f4a9}");
+    same(rt, text.as_str(), "ab c\u{1f4a9}");
 
     let run = text.pop_front_char_run(char::is_whitespace)?;
     let (run, is_space) = run.ok_or("a run")?;
     assert!(rt; !is_space);
-    assert_eq!(rt; run.as_str(), "ab");
-    assert_eq!(rt; text.as_str(), " c\u{1f4a9}");
+    same(rt, run.as_str(), "ab");
+    same(rt, text.as_str(), " c\u{1f4a9}");
     Ok(())
 }
 

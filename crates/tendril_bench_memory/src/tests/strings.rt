@@ -1,6 +1,7 @@
 //! A text of a string that is handed over: one request, for the node of the block, so none for a copy of the bytes.
 
 use super::refuse_request;
+use crate::tests::same;
 use std::process::Abort;
 use std::test::Fail;
 use tendril::StrTendril;
@@ -16,10 +17,10 @@ pub(super) fn take_strings(rt: &(impl Abort + AllocGlobal), number: usize) -> Re
     };
     let made: Result<StrTendril, Refusal> = StrTendril::from_string(rt.alloc(), string);
     match made {
-        Ok(text) => assert_eq!(rt; text.as_str(), DIGITS),
+        Ok(text) => same(rt, text.as_str(), DIGITS),
         Err(refusal) => {
-            assert_eq!(rt; refusal, Refusal::Memory);
-            assert_eq!(rt; number, 2);
+            same(rt, refusal, Refusal::Memory);
+            same(rt, number, 2);
         }
     }
     Ok(())

@@ -1,5 +1,6 @@
 //! Texts that are handed on, in a list, for the other files.
 
+use crate::tests::same;
 use std::alloc::{AllocError, Global};
 use std::process::Abort;
 use std::test::Fail;
@@ -65,8 +66,8 @@ pub(crate) fn check_texts<A: Atomicity>(
     texts: &[StrTendril<A>],
     expected: &[&str],
 ) {
-    assert_eq!(rt; texts.len(), expected.len(), "in place of {expected:?}");
+    assert!(rt; texts.len() == expected.len(), "in place of {expected:?}");
     for (text, expected) in texts.iter().zip(expected) {
-        assert_eq!(rt; text.as_byte_slice(), expected.as_bytes());
+        same(rt, text.as_byte_slice(), expected.as_bytes());
     }
 }

@@ -1,6 +1,7 @@
 //! Pieces in blocks that have as many holders as they may have.
 
 use crate::tests::collected::{check_texts, decode, decode_all};
+use crate::tests::same;
 use std::test::Fail;
 use tendril::block::{AtomicUpTo, Refusal};
 use tendril::{ByteTendril, StrTendril, slice_to_tendril};
@@ -8,6 +9,8 @@ use tendril::{ByteTendril, StrTendril, slice_to_tendril};
 type ThreeHolders = AtomicUpTo<3>;
 
 const ONE_FAULT: &[u8] = b"0123456789\xFFabcdefghijk";
+
+const DIGITS_TWICE: &[u8] = b"0123456789\xFF0123456789";
 
 const TWO_FAULTS: &[u8] = b"0123456789\xFFabcdefghijk\xFFABCDEFGHIJKL";
 
@@ -20,15 +23,41 @@ fn a_piece_whose_block_is_full(rt: HostRuntime) -> Result<(), Fail> {
     let Err((refusal, rest)) = answer else {
         return Err(Fail::from("a fourth holder"));
     };
-    assert_eq!(rt; refusal, Refusal::Count);
-    assert_eq!(rt; rest.as_byte_slice(), ONE_FAULT);
+    same(&rt, refusal, Refusal::Count);
+    same(&rt, rest.as_byte_slice(), ONE_FAULT);
     assert!(rt; texts.is_empty());
 
     drop(first);
     let (texts, kept) = decode_all(rt.alloc(), rest)?;
     check_texts(&rt, &texts, &["0123456789", "\u{FFFD}", "abcdefghijk"]);
     assert!(rt; kept.is_none());
-    assert_eq!(rt; second.as_byte_slice(), ONE_FAULT);
+    same(&rt, second.as_byte_slice(), ONE_FAULT);
+    Ok(())
+}
+
+#[test]
+fn a_piece_beside_two_clones(rt: HostRuntime) -> Result<(), Fail> {
+    let piece: ByteTendril<ThreeHolders> = slice_to_tendril(rt.alloc(), DIGITS_TWICE)?;
+    let _first = piece.clone()?;
+    let _second = piece.clone()?;
+    let (texts, answer) = decode(rt.alloc(), piece)?;
+    let Err((refusal, rest)) = answer else {
+        return Err(Fail::from("a fourth holder"));
+    };
+    same(&rt, refusal, Refusal::Count);
+    same(&rt, rest.as_byte_slice(), DIGITS_TWICE);
+    assert!(rt; texts.is_empty());
+    Ok(())
+}
+
+#[test]
+fn a_piece_beside_one_clone(rt: HostRuntime) -> Result<(), Fail> {
+    let piece: ByteTendril<ThreeHolders> = slice_to_tendril(rt.alloc(), DIGITS_TWICE)?;
+    let clone = piece.clone()?;
+    let (texts, kept) = decode_all(rt.alloc(), piece)?;
+    check_texts(&rt, &texts, &["0123456789", "\u{FFFD}", "0123456789"]);
+    assert!(rt; kept.is_none());
+    same(&rt, clone.as_byte_slice(), DIGITS_TWICE);
     Ok(())
 }
 
@@ -42,10 +71,11 @@ fn a_block_that_fills_up_while_a_piece_is_decoded(rt: HostRuntime) -> Result<(),
     let Err((refusal, rest)) = answer else {
         return Err(Fail::from("a fourth holder"));
     };
-    assert_eq!(rt; refusal, Refusal::Count);
-    assert_eq!(rt;
+    same(&rt, refusal, Refusal::Count);
+    same(
+        &rt,
         rest.as_byte_slice(),
-        b"abcdefghijk\xFFABCDEFGHIJKL".as_slice()
+        b"abcdefghijk\xFFABCDEFGHIJKL".as_slice(),
     );
     check_texts(&rt, &texts, &["0123456789", "\u{FFFD}"]);
 
@@ -67,8 +97,8 @@ fn texts_that_are_dropped_at_once_do_not_fill_a_block(rt: HostRuntime) -> Result
         count = count.saturating_add(1);
     });
     assert!(rt; matches!(answer, Ok(None)));
-    assert_eq!(rt; count, 5);
-    assert_eq!(rt; clone.as_byte_slice(), TWO_FAULTS);
+    same(&rt, count, 5);
+    same(&rt, clone.as_byte_slice(), TWO_FAULTS);
     Ok(())
 }
 
@@ -78,7 +108,7 @@ fn a_refused_pop_of_a_text_leaves_the_piece(rt: HostRuntime) -> Result<(), Fail>
     let _first = piece.clone()?;
     let _second = piece.clone()?;
     assert!(rt; matches!(piece.pop_text(), Err(Refusal::Count)));
-    assert_eq!(rt; piece.as_byte_slice(), ONE_FAULT);
+    same(&rt, piece.as_byte_slice(), ONE_FAULT);
     Ok(())
 }
 

@@ -1,6 +1,7 @@
 //! Bytes that are kept of a piece, and completed from the next one.
 
 use crate::tests::collected::{Collected, check_texts};
+use crate::tests::same;
 use std::process::Abort;
 use std::test::Fail;
 use tendril::{
@@ -77,7 +78,7 @@ const ROWS: [Row<'static>; 21] = [
 fn bytes_that_begin_a_character(rt: HostRuntime) -> Result<(), Fail> {
     for bytes in [b"".as_slice(), b"\xC5", b"\xED\x9F", b"\xF0\x9F\x92"] {
         let kept = IncompleteUtf8::new(bytes).ok_or("they begin a character")?;
-        assert_eq!(rt; kept.kept(), bytes);
+        same(&rt, kept.kept(), bytes);
     }
     Ok(())
 }
@@ -106,17 +107,17 @@ fn check_slice(rt: &impl Abort, row: Row) -> Result<(), Fail> {
     let mut kept = IncompleteUtf8::new(bytes).ok_or("the bytes begin no character")?;
     match (kept.try_to_complete_codepoint(input), due) {
         (Some((Ok(text), rest)), Due::Text(expected, left)) => {
-            assert_eq!(rt; text.as_str(), expected, "{bytes:?} and {input:?}");
-            assert_eq!(rt; rest, left, "{bytes:?} and {input:?}");
+            assert!(rt; text.as_str() == expected, "{bytes:?} and {input:?}");
+            assert!(rt; rest == left, "{bytes:?} and {input:?}");
             assert!(rt; kept.kept().is_empty(), "{bytes:?} and {input:?}");
         }
         (Some((Err(broken), rest)), Due::Broken(expected, left)) => {
-            assert_eq!(rt; broken.as_slice(), expected, "{bytes:?} and {input:?}");
-            assert_eq!(rt; rest, left, "{bytes:?} and {input:?}");
+            assert!(rt; broken.as_slice() == expected, "{bytes:?} and {input:?}");
+            assert!(rt; rest == left, "{bytes:?} and {input:?}");
             assert!(rt; kept.kept().is_empty(), "{bytes:?} and {input:?}");
         }
         (None, Due::Waiting(expected)) => {
-            assert_eq!(rt; kept.kept(), expected, "{bytes:?} and {input:?}");
+            assert!(rt; kept.kept() == expected, "{bytes:?} and {input:?}");
         }
         _ => return Err(Fail::from("another completion")),
     }
@@ -134,17 +135,17 @@ fn check_piece<A: Atomicity>(rt: &(impl Abort + AllocGlobal), row: Row) -> Resul
     match (completed, due) {
         (Ok(rest), Due::Text(expected, left)) => {
             check_texts(rt, &texts, &[expected]);
-            assert_eq!(rt; rest.as_byte_slice(), left, "{bytes:?} and {input:?}");
+            assert!(rt; rest.as_byte_slice() == left, "{bytes:?} and {input:?}");
             assert!(rt; kept.kept().is_empty(), "{bytes:?} and {input:?}");
         }
         (Ok(rest), Due::Broken(_, left)) => {
             check_texts(rt, &texts, &["\u{FFFD}"]);
-            assert_eq!(rt; rest.as_byte_slice(), left, "{bytes:?} and {input:?}");
+            assert!(rt; rest.as_byte_slice() == left, "{bytes:?} and {input:?}");
             assert!(rt; kept.kept().is_empty(), "{bytes:?} and {input:?}");
         }
         (Err(()), Due::Waiting(expected)) => {
             assert!(rt; texts.is_empty(), "{bytes:?} and {input:?}");
-            assert_eq!(rt; kept.kept(), expected, "{bytes:?} and {input:?}");
+            assert!(rt; kept.kept() == expected, "{bytes:?} and {input:?}");
         }
         _ => return Err(Fail::from("another completion")),
     }
@@ -180,7 +181,7 @@ fn a_character_byte_by_byte(rt: HostRuntime) -> Result<(), Fail> {
     let Some((Ok(text), rest)) = kept.try_to_complete_codepoint(b"\xA9") else {
         return Err(Fail::from("the character is whole"));
     };
-    assert_eq!(rt; text.as_str(), "\u{1f4a9}");
+    same(&rt, text.as_str(), "\u{1f4a9}");
     assert!(rt; rest.is_empty());
     assert!(rt; kept.kept().is_empty());
     Ok(())

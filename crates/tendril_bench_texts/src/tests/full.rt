@@ -1,5 +1,6 @@
 //! Texts in blocks that have as many holders as they may have.
 
+use crate::tests::same;
 use std::test::Fail;
 use tendril::block::{AtomicUpTo, Refusal};
 use tendril::{ByteTendril, StrTendril, slice_to_tendril, str_to_tendril};
@@ -15,13 +16,13 @@ fn a_full_count(rt: HostRuntime) -> Result<(), Fail> {
     let text: ByteTendril<ThreeHolders> = slice_to_tendril(rt.alloc(), DIGITS)?;
     let first = text.clone()?;
     let second = text.clone()?;
-    assert_eq!(rt; text.clone().err(), Some(Refusal::Count));
+    same(&rt, text.clone().err(), Some(Refusal::Count));
     drop(first);
     let third = text.clone()?;
-    assert_eq!(rt; text.clone().err(), Some(Refusal::Count));
-    assert_eq!(rt; text.as_byte_slice(), DIGITS);
-    assert_eq!(rt; second.as_byte_slice(), DIGITS);
-    assert_eq!(rt; third.as_byte_slice(), DIGITS);
+    same(&rt, text.clone().err(), Some(Refusal::Count));
+    same(&rt, text.as_byte_slice(), DIGITS);
+    same(&rt, second.as_byte_slice(), DIGITS);
+    same(&rt, third.as_byte_slice(), DIGITS);
     Ok(())
 }
 
@@ -36,8 +37,8 @@ fn a_run_of_a_text_whose_block_is_full(rt: HostRuntime) -> Result<(), Fail> {
         c.is_whitespace()
     });
     assert!(rt; refused.err() == Some(Refusal::Count));
-    assert_eq!(rt; asked, 11);
-    assert_eq!(rt; text.as_byte_slice(), TWO_WORDS.as_bytes());
+    same(&rt, asked, 11);
+    same(&rt, text.as_byte_slice(), TWO_WORDS.as_bytes());
     Ok(())
 }
 
@@ -46,10 +47,10 @@ fn clones_slices_and_pops_of_a_text_whose_block_is_full(rt: HostRuntime) -> Resu
     let mut text: StrTendril<ThreeHolders> = str_to_tendril(rt.alloc(), TWO_WORDS)?;
     let _first = text.clone()?;
     let _second = text.clone()?;
-    assert_eq!(rt; text.clone().err(), Some(Refusal::Count));
+    same(&rt, text.clone().err(), Some(Refusal::Count));
     let short = text.try_subtendril(0, 8)?;
-    assert_eq!(rt; short.as_byte_slice(), b"aaaaaaaa".as_slice());
+    same(&rt, short.as_byte_slice(), b"aaaaaaaa".as_slice());
     text.try_pop_front(1)?;
-    assert_eq!(rt; text.as_byte_slice(), b"aaaaaaaaa bbbbbbbbb".as_slice());
+    same(&rt, text.as_byte_slice(), b"aaaaaaaaa bbbbbbbbb".as_slice());
     Ok(())
 }

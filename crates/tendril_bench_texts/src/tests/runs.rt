@@ -1,5 +1,6 @@
 //! Characters of texts, and runs of them: pushes, pops, and how often a classifier is asked.
 
+use crate::tests::same;
 use std::test::Fail;
 use tendril::block::Refusal;
 use tendril::fmt::{ASCII, Latin1};
@@ -27,10 +28,10 @@ fn pop_words_run(text: &mut StrTendril) -> Result<(Option<(StrTendril, bool)>, u
 fn characters_one_by_one(rt: HostRuntime) -> Result<(), Fail> {
     let mut text: StrTendril = str_to_tendril(rt.alloc(), "f\u{151}o-")?;
     for character in ['f', '\u{151}', 'o', '-'] {
-        assert_eq!(rt; text.pop_front_char(), Some(character));
+        same(&rt, text.pop_front_char(), Some(character));
     }
-    assert_eq!(rt; text.pop_front_char(), None);
-    assert_eq!(rt; text.len32(), 0);
+    same(&rt, text.pop_front_char(), None);
+    same(&rt, text.len32(), 0);
     Ok(())
 }
 
@@ -38,9 +39,9 @@ fn characters_one_by_one(rt: HostRuntime) -> Result<(), Fail> {
 fn a_pop_of_a_character_leaves_a_clone(rt: HostRuntime) -> Result<(), Fail> {
     let mut text: StrTendril = str_to_tendril(rt.alloc(), "\u{4e2d}0123456789")?;
     let clone = text.clone()?;
-    assert_eq!(rt; text.pop_front_char(), Some('\u{4e2d}'));
-    assert_eq!(rt; text.as_byte_slice(), b"0123456789".as_slice());
-    assert_eq!(rt; clone.as_byte_slice(), "\u{4e2d}0123456789".as_bytes());
+    same(&rt, text.pop_front_char(), Some('\u{4e2d}'));
+    same(&rt, text.as_byte_slice(), b"0123456789".as_slice());
+    same(&rt, clone.as_byte_slice(), "\u{4e2d}0123456789".as_bytes());
     Ok(())
 }
 
@@ -51,18 +52,18 @@ fn a_run_of_one_character(rt: HostRuntime) -> Result<(), Fail> {
     let Some((run, is_space)) = found else {
         return Err(Fail::from("the text isn't empty"));
     };
-    assert_eq!(rt; run.as_byte_slice(), "\u{4e2d}".as_bytes());
+    same(&rt, run.as_byte_slice(), "\u{4e2d}".as_bytes());
     assert!(rt; !is_space);
-    assert_eq!(rt; asked, 2);
-    assert_eq!(rt; text.as_byte_slice(), b" ".as_slice());
+    same(&rt, asked, 2);
+    same(&rt, text.as_byte_slice(), b" ".as_slice());
 
     // A function serves as well.
     let Some((run, is_space)) = text.pop_front_char_run(char::is_whitespace)? else {
         return Err(Fail::from("the text isn't empty"));
     };
-    assert_eq!(rt; run.as_byte_slice(), b" ".as_slice());
+    same(&rt, run.as_byte_slice(), b" ".as_slice());
     assert!(rt; is_space);
-    assert_eq!(rt; text.len32(), 0);
+    same(&rt, text.len32(), 0);
     Ok(())
 }
 
@@ -74,14 +75,14 @@ fn runs_until_the_text_is_empty(rt: HostRuntime) -> Result<(), Fail> {
         let Some((run, is_space)) = found else {
             return Err(Fail::from("the text isn't empty"));
         };
-        assert_eq!(rt; run.as_byte_slice(), want.as_bytes());
-        assert_eq!(rt; is_space, want_space, "the class of {want:?}");
-        assert_eq!(rt; asked, times, "asked for {want:?}");
+        same(&rt, run.as_byte_slice(), want.as_bytes());
+        assert!(rt; is_space == want_space, "the class of {want:?}");
+        assert!(rt; asked == times, "asked for {want:?}");
     }
     let (found, asked) = pop_words_run(&mut text)?;
     assert!(rt; found.is_none());
-    assert_eq!(rt; asked, 0);
-    assert_eq!(rt; text.len32(), 0);
+    same(&rt, asked, 0);
+    same(&rt, text.len32(), 0);
     Ok(())
 }
 
@@ -97,10 +98,10 @@ fn runs_of_one_answer_among_many(rt: HostRuntime) -> Result<(), Fail> {
         let Some((run, class)) = text.pop_front_char_run(|c: char| c.to_digit(10))? else {
             return Err(Fail::from("the text isn't empty"));
         };
-        assert_eq!(rt; run.as_byte_slice(), want.as_bytes());
-        assert_eq!(rt; class, digit, "the class of {want:?}");
+        same(&rt, run.as_byte_slice(), want.as_bytes());
+        assert!(rt; class == digit, "the class of {want:?}");
     }
-    assert_eq!(rt; text.len32(), 0);
+    same(&rt, text.len32(), 0);
     Ok(())
 }
 
@@ -123,10 +124,10 @@ fn words_of_a_line(rt: HostRuntime) -> Result<(), Fail> {
         let Some(word) = next_word(&mut line)? else {
             return Err(Fail::from("the line has more words"));
         };
-        assert_eq!(rt; word.as_byte_slice(), want.as_bytes());
+        same(&rt, word.as_byte_slice(), want.as_bytes());
     }
     assert!(rt; next_word(&mut line)?.is_none());
-    assert_eq!(rt; line.len32(), 0);
+    same(&rt, line.len32(), 0);
     Ok(())
 }
 
@@ -141,14 +142,12 @@ fn runs_and_rests_round_the_inline_length(rt: HostRuntime) -> Result<(), Fail> {
                 return Err(Fail::from("the text isn't empty"));
             };
             assert!(rt; !is_space);
-            assert_eq!(rt;
-                run.as_byte_slice(),
-                &LETTERS[..len],
+            assert!(rt;
+                run.as_byte_slice() == &LETTERS[..len],
                 "a run of {len} and a rest of {rest}"
             );
-            assert_eq!(rt;
-                text.as_byte_slice(),
-                &SPACES[..rest],
+            assert!(rt;
+                text.as_byte_slice() == &SPACES[..rest],
                 "a run of {len} and a rest of {rest}"
             );
             if len > 8 && rest > 8 {
@@ -166,10 +165,14 @@ fn a_run_over_the_whole_text(rt: HostRuntime) -> Result<(), Fail> {
     let Some((run, is_space)) = found else {
         return Err(Fail::from("the text isn't empty"));
     };
-    assert_eq!(rt; run.as_byte_slice(), "abcdefghijklmno\u{151}".as_bytes());
+    same(
+        &rt,
+        run.as_byte_slice(),
+        "abcdefghijklmno\u{151}".as_bytes(),
+    );
     assert!(rt; !is_space);
-    assert_eq!(rt; asked, 16);
-    assert_eq!(rt; text.len32(), 0);
+    same(&rt, asked, 16);
+    same(&rt, text.len32(), 0);
     Ok(())
 }
 
@@ -186,8 +189,8 @@ fn long_parts_share(rt: HostRuntime) -> Result<(), Fail> {
     // A push onto the run leaves the rest, and one onto the rest the run.
     run.push_char('!')?;
     text.push_char('?')?;
-    assert_eq!(rt; run.as_byte_slice(), b"0123456789!".as_slice());
-    assert_eq!(rt; text.as_byte_slice(), b"          ?".as_slice());
+    same(&rt, run.as_byte_slice(), b"0123456789!".as_slice());
+    same(&rt, text.as_byte_slice(), b"          ?".as_slice());
     Ok(())
 }
 
@@ -195,16 +198,24 @@ fn long_parts_share(rt: HostRuntime) -> Result<(), Fail> {
 fn characters_that_latin1_has(rt: HostRuntime) -> Result<(), Fail> {
     let mut text: Latin1Tendril = Tendril::new(rt.alloc());
     for character in ['x', '\0', '\u{a0}'] {
-        assert_eq!(rt; text.try_push_char(character), Ok(()));
+        same(&rt, text.try_push_char(character), Ok(()));
     }
-    assert_eq!(rt; text.try_push_char('\u{151}'), Err(Refusal::NotInFormat));
-    assert_eq!(rt; text.try_push_char('\u{100}'), Err(Refusal::NotInFormat));
-    assert_eq!(rt; text.as_byte_slice(), b"\x78\x00\xa0".as_slice());
+    same(
+        &rt,
+        text.try_push_char('\u{151}'),
+        Err(Refusal::NotInFormat),
+    );
+    same(
+        &rt,
+        text.try_push_char('\u{100}'),
+        Err(Refusal::NotInFormat),
+    );
+    same(&rt, text.as_byte_slice(), b"\x78\x00\xa0".as_slice());
     for character in ['x', '\0', '\u{a0}'] {
-        assert_eq!(rt; text.pop_front_char(), Some(character));
+        same(&rt, text.pop_front_char(), Some(character));
     }
-    assert_eq!(rt; text.try_push_char('\u{ff}'), Ok(()));
-    assert_eq!(rt; text.as_byte_slice(), b"\xff".as_slice());
+    same(&rt, text.try_push_char('\u{ff}'), Ok(()));
+    same(&rt, text.as_byte_slice(), b"\xff".as_slice());
     Ok(())
 }
 
@@ -212,14 +223,14 @@ fn characters_that_latin1_has(rt: HostRuntime) -> Result<(), Fail> {
 fn characters_that_ascii_has(rt: HostRuntime) -> Result<(), Fail> {
     let mut text: AsciiTendril = Tendril::new(rt.alloc());
     for character in ['x', '\0', '\u{7f}'] {
-        assert_eq!(rt; text.try_push_char(character), Ok(()));
+        same(&rt, text.try_push_char(character), Ok(()));
     }
-    assert_eq!(rt; text.try_push_char('\u{80}'), Err(Refusal::NotInFormat));
-    assert_eq!(rt; text.as_byte_slice(), b"\x78\x00\x7f".as_slice());
+    same(&rt, text.try_push_char('\u{80}'), Err(Refusal::NotInFormat));
+    same(&rt, text.as_byte_slice(), b"\x78\x00\x7f".as_slice());
     for character in ['x', '\0', '\u{7f}'] {
-        assert_eq!(rt; text.pop_front_char(), Some(character));
+        same(&rt, text.pop_front_char(), Some(character));
     }
-    assert_eq!(rt; text.pop_front_char(), None);
+    same(&rt, text.pop_front_char(), None);
     Ok(())
 }
 
@@ -234,15 +245,16 @@ fn characters_of_one_to_four_bytes(rt: HostRuntime) -> Result<(), Fail> {
     ];
     for (character, bytes) in rows {
         let mut alone: StrTendril = StrTendril::from_char(rt.alloc(), character)?;
-        assert_eq!(rt; alone.as_byte_slice(), bytes, "of {character}");
-        assert_eq!(rt; alone.pop_front_char(), Some(character));
+        assert!(rt; alone.as_byte_slice() == bytes, "of {character}");
+        same(&rt, alone.pop_front_char(), Some(character));
         alone.try_push_char(character)?;
-        assert_eq!(rt; alone.as_byte_slice(), bytes, "of {character}");
+        assert!(rt; alone.as_byte_slice() == bytes, "of {character}");
         text.push_char(character)?;
     }
-    assert_eq!(rt;
+    same(
+        &rt,
         text.as_byte_slice(),
-        b"a\xc5\x91\xe4\xb8\xad\xf0\x9f\x92\xa9".as_slice()
+        b"a\xc5\x91\xe4\xb8\xad\xf0\x9f\x92\xa9".as_slice(),
     );
     Ok(())
 }
@@ -254,13 +266,13 @@ fn twenty_pushes_leave_a_clone(rt: HostRuntime) -> Result<(), Fail> {
     for _ in 0..20 {
         text.push_char('\u{151}')?;
     }
-    assert_eq!(rt; clone.as_byte_slice(), b"0123456789".as_slice());
-    assert_eq!(rt; text.len32(), 50);
+    same(&rt, clone.as_byte_slice(), b"0123456789".as_slice());
+    same(&rt, text.len32(), 50);
     text.try_pop_front(10)?;
     for _ in 0..20 {
-        assert_eq!(rt; text.pop_front_char(), Some('\u{151}'));
+        same(&rt, text.pop_front_char(), Some('\u{151}'));
     }
-    assert_eq!(rt; text.pop_front_char(), None);
+    same(&rt, text.pop_front_char(), None);
     Ok(())
 }
 
@@ -274,9 +286,9 @@ fn every_character_pushed_and_popped(rt: HostRuntime) -> Result<(), Fail> {
         let mut buffer = [0; 4];
         let bytes = character.encode_utf8(&mut buffer).as_bytes();
         text.push_char(character)?;
-        assert_eq!(rt; text.as_byte_slice(), bytes, "{code:x}");
-        assert_eq!(rt; text.pop_front_char(), Some(character));
-        assert_eq!(rt; text.len32(), 0);
+        assert!(rt; text.as_byte_slice() == bytes, "{code:x}");
+        same(&rt, text.pop_front_char(), Some(character));
+        same(&rt, text.len32(), 0);
     }
     Ok(())
 }

@@ -1,5 +1,6 @@
 //! Slices and pops of texts.
 
+use crate::tests::same;
 use std::test::Fail;
 use tendril::fmt::{Format, UTF8, WTF8};
 use tendril::{ByteTendril, NonAtomic, StrTendril, SubtendrilError, Tendril, str_to_tendril};
@@ -9,14 +10,16 @@ type Wtf8Tendril = Tendril<WTF8, NonAtomic>;
 #[test]
 fn slices_of_a_character(rt: HostRuntime) -> Result<(), Fail> {
     let text: StrTendril = str_to_tendril(rt.alloc(), "\u{a66e}")?;
-    assert_eq!(rt; text.try_subtendril(1, 0)?.len32(), 0);
-    assert_eq!(rt;
+    same(&rt, text.try_subtendril(1, 0)?.len32(), 0);
+    same(
+        &rt,
         text.try_subtendril(4, 0).err(),
-        Some(SubtendrilError::OutOfBounds)
+        Some(SubtendrilError::OutOfBounds),
     );
-    assert_eq!(rt;
+    same(
+        &rt,
         text.try_subtendril(0, 2).err(),
-        Some(SubtendrilError::ValidationFailed)
+        Some(SubtendrilError::ValidationFailed),
     );
     Ok(())
 }
@@ -24,21 +27,24 @@ fn slices_of_a_character(rt: HostRuntime) -> Result<(), Fail> {
 #[test]
 fn slices_between_surrogates(rt: HostRuntime) -> Result<(), Fail> {
     let text: Wtf8Tendril = Tendril::try_from_byte_slice(rt.alloc(), b"\xed\xa0\xbd\xea\x99\xae")?;
-    assert_eq!(rt;
+    same(
+        &rt,
         text.try_subtendril(0, 3)?.as_byte_slice(),
-        b"\xed\xa0\xbd".as_slice()
+        b"\xed\xa0\xbd".as_slice(),
     );
     for (offset, count) in [(0u32, 1u32), (3, 2), (4, 1)] {
-        assert_eq!(rt;
+        same(
+            &rt,
             text.try_subtendril(offset, count).err(),
-            Some(SubtendrilError::ValidationFailed)
+            Some(SubtendrilError::ValidationFailed),
         );
     }
-    assert_eq!(rt; text.try_subtendril(2, 0)?.len32(), 0);
+    same(&rt, text.try_subtendril(2, 0)?.len32(), 0);
     for (offset, count) in [(6u32, 1u32), (7, 0)] {
-        assert_eq!(rt;
+        same(
+            &rt,
             text.try_subtendril(offset, count).err(),
-            Some(SubtendrilError::OutOfBounds)
+            Some(SubtendrilError::OutOfBounds),
         );
     }
     Ok(())
@@ -48,14 +54,15 @@ fn slices_between_surrogates(rt: HostRuntime) -> Result<(), Fail> {
 fn pops_through_a_character_at_the_front(rt: HostRuntime) -> Result<(), Fail> {
     let mut text: StrTendril = str_to_tendril(rt.alloc(), "\u{1f4a9}zzzzzz")?;
     for count in [1u32, 2, 3] {
-        assert_eq!(rt;
+        same(
+            &rt,
             text.try_pop_front(count),
-            Err(SubtendrilError::ValidationFailed)
+            Err(SubtendrilError::ValidationFailed),
         );
-        assert_eq!(rt; text.as_byte_slice(), "\u{1f4a9}zzzzzz".as_bytes());
+        same(&rt, text.as_byte_slice(), "\u{1f4a9}zzzzzz".as_bytes());
     }
-    assert_eq!(rt; text.try_pop_front(4), Ok(()));
-    assert_eq!(rt; text.as_byte_slice(), b"zzzzzz".as_slice());
+    same(&rt, text.try_pop_front(4), Ok(()));
+    same(&rt, text.as_byte_slice(), b"zzzzzz".as_slice());
     Ok(())
 }
 
@@ -63,17 +70,18 @@ fn pops_through_a_character_at_the_front(rt: HostRuntime) -> Result<(), Fail> {
 fn pops_through_a_character_at_the_back(rt: HostRuntime) -> Result<(), Fail> {
     let mut text: StrTendril = str_to_tendril(rt.alloc(), "zzzzzz\u{1f4a9}")?;
     for count in [1u32, 2, 3] {
-        assert_eq!(rt;
+        same(
+            &rt,
             text.try_pop_back(count),
-            Err(SubtendrilError::ValidationFailed)
+            Err(SubtendrilError::ValidationFailed),
         );
-        assert_eq!(rt; text.as_byte_slice(), "zzzzzz\u{1f4a9}".as_bytes());
+        same(&rt, text.as_byte_slice(), "zzzzzz\u{1f4a9}".as_bytes());
     }
-    assert_eq!(rt; text.try_pop_back(4), Ok(()));
-    assert_eq!(rt; text.as_byte_slice(), b"zzzzzz".as_slice());
-    assert_eq!(rt; text.try_pop_back(7), Err(SubtendrilError::OutOfBounds));
-    assert_eq!(rt; text.try_pop_back(6), Ok(()));
-    assert_eq!(rt; text.len32(), 0);
+    same(&rt, text.try_pop_back(4), Ok(()));
+    same(&rt, text.as_byte_slice(), b"zzzzzz".as_slice());
+    same(&rt, text.try_pop_back(7), Err(SubtendrilError::OutOfBounds));
+    same(&rt, text.try_pop_back(6), Ok(()));
+    same(&rt, text.len32(), 0);
     Ok(())
 }
 
@@ -83,16 +91,20 @@ fn pops_share(rt: HostRuntime) -> Result<(), Fail> {
         rt.alloc(),
         b"another rather long string",
     )?;
-    assert_eq!(rt; text.len32(), 26);
+    same(&rt, text.len32(), 26);
     text.pop_front(2);
     text.pop_back(1);
-    assert_eq!(rt; text.as_byte_slice(), b"other rather long strin".as_slice());
+    same(
+        &rt,
+        text.as_byte_slice(),
+        b"other rather long strin".as_slice(),
+    );
     assert!(rt; text.is_shared());
     text.unsafe_pop_front(6);
     text.unsafe_pop_back(5);
-    assert_eq!(rt; text.as_byte_slice(), b"rather long ".as_slice());
-    assert_eq!(rt; text.try_pop_front(4), Ok(()));
-    assert_eq!(rt; text.as_byte_slice(), b"er long ".as_slice());
+    same(&rt, text.as_byte_slice(), b"rather long ".as_slice());
+    same(&rt, text.try_pop_front(4), Ok(()));
+    same(&rt, text.as_byte_slice(), b"er long ".as_slice());
     assert!(rt; !text.is_shared(), "short texts stand inline");
     Ok(())
 }
@@ -101,15 +113,17 @@ fn pops_share(rt: HostRuntime) -> Result<(), Fail> {
 fn parts_that_are_known_to_be_valid(rt: HostRuntime) -> Result<(), Fail> {
     let text: StrTendril = str_to_tendril(rt.alloc(), "0123456789")?;
     let bytes = text.as_byte_slice();
-    assert_eq!(rt; bytes.len(), 10);
+    same(&rt, bytes.len(), 10);
     assert!(rt; UTF8::validate(&bytes[..9]));
-    assert_eq!(rt;
+    same(
+        &rt,
         text.subtendril(0, 9)?.as_byte_slice(),
-        b"012345678".as_slice()
+        b"012345678".as_slice(),
     );
-    assert_eq!(rt;
+    same(
+        &rt,
         text.unsafe_subtendril(0, 9)?.as_byte_slice(),
-        b"012345678".as_slice()
+        b"012345678".as_slice(),
     );
     Ok(())
 }
@@ -121,7 +135,7 @@ fn refusals_of_slices_and_pops_print_their_name(rt: HostRuntime) -> Result<(), F
         (SubtendrilError::ValidationFailed, "ValidationFailed"),
         (SubtendrilError::Count, "Count"),
     ] {
-        assert_eq!(rt; format!(in rt.alloc(); "{refusal}")?.as_str(), name);
+        same(&rt, format!(in rt.alloc(); "{refusal}")?.as_str(), name);
     }
     Ok(())
 }
@@ -130,14 +144,16 @@ fn refusals_of_slices_and_pops_print_their_name(rt: HostRuntime) -> Result<(), F
 fn parts_of_a_view(rt: HostRuntime) -> Result<(), Fail> {
     let text: StrTendril = str_to_tendril(rt.alloc(), "0123456789")?;
     let view = text.as_bytes();
-    assert_eq!(rt; view.len32(), 10);
-    assert_eq!(rt;
+    same(&rt, view.len32(), 10);
+    same(
+        &rt,
         view.to_tendril()?.as_byte_slice(),
-        b"0123456789".as_slice()
+        b"0123456789".as_slice(),
     );
-    assert_eq!(rt;
+    same(
+        &rt,
         view.try_subtendril(1, 9)?.as_byte_slice(),
-        b"123456789".as_slice()
+        b"123456789".as_slice(),
     );
     Ok(())
 }

@@ -1,5 +1,6 @@
 //! Texts: that calls succeed where there is memory, how large a text is, and when it is shared.
 
+use crate::tests::same;
 use std::fs::{self, Files};
 use std::test::Fail;
 use tendril::block::Refusal;
@@ -12,20 +13,24 @@ const DIGITS: &[u8] = b"0123456789";
 
 #[test]
 fn a_text_is_three_words(rt: HostRuntime) {
-    assert_eq!(rt; size_of::<Tendril<Bytes, NonAtomic>>(), 24);
-    assert_eq!(rt; size_of::<ByteTendril>(), 24);
-    assert_eq!(rt; align_of::<ByteTendril>(), 8);
+    same(&rt, size_of::<Tendril<Bytes, NonAtomic>>(), 24);
+    same(&rt, size_of::<ByteTendril>(), 24);
+    same(&rt, align_of::<ByteTendril>(), 8);
 }
 
 #[test]
 fn empty_text(rt: HostRuntime) {
     let mut text: ByteTendril = Tendril::new(rt.alloc());
-    assert_eq!(rt; text.len32(), 0);
-    assert_eq!(rt; text.as_byte_slice(), b"".as_slice());
+    same(&rt, text.len32(), 0);
+    same(&rt, text.as_byte_slice(), b"".as_slice());
     assert!(rt; !text.is_shared());
-    assert_eq!(rt; text.try_pop_front(0), Ok(()));
-    assert_eq!(rt; text.try_pop_front(1), Err(SubtendrilError::OutOfBounds));
-    assert_eq!(rt; text.try_pop_back(1), Err(SubtendrilError::OutOfBounds));
+    same(&rt, text.try_pop_front(0), Ok(()));
+    same(
+        &rt,
+        text.try_pop_front(1),
+        Err(SubtendrilError::OutOfBounds),
+    );
+    same(&rt, text.try_pop_back(1), Err(SubtendrilError::OutOfBounds));
 }
 
 #[test]
@@ -33,16 +38,15 @@ fn texts_round_the_inline_length(rt: HostRuntime) -> Result<(), Fail> {
     for len in [0usize, 1, 7, 8, 9, 10] {
         let bytes = &DIGITS[..len];
         let mut text: ByteTendril = Tendril::try_from_byte_slice(rt.alloc(), bytes)?;
-        assert_eq!(rt; text.as_byte_slice(), bytes, "made of {len}");
-        assert_eq!(rt; text.clone()?.as_byte_slice(), bytes, "clone of {len}");
+        assert!(rt; text.as_byte_slice() == bytes, "made of {len}");
+        assert!(rt; text.clone()?.as_byte_slice() == bytes, "clone of {len}");
         text.try_push_bytes(b"X")?;
-        assert_eq!(rt; text.len32() as usize, len + 1, "pushed onto {len}");
-        assert_eq!(rt;
-            &text.as_byte_slice()[..len],
-            bytes,
+        assert!(rt; text.len32() as usize == len + 1, "pushed onto {len}");
+        assert!(rt;
+            &text.as_byte_slice()[..len] == bytes,
             "kept by a push onto {len}"
         );
-        assert_eq!(rt; text.as_byte_slice()[len], b'X', "pushed onto {len}");
+        assert!(rt; text.as_byte_slice()[len] == b'X', "pushed onto {len}");
     }
     Ok(())
 }
@@ -52,15 +56,15 @@ fn a_push_onto_a_clone_or_its_source_leaves_the_other(rt: HostRuntime) -> Result
     let mut source: ByteTendril = ByteTendril::from_slice(rt.alloc(), DIGITS)?;
     let mut clone = source.clone()?;
     clone.push_slice(b"X")?;
-    assert_eq!(rt; source.as_byte_slice(), DIGITS);
-    assert_eq!(rt; clone.as_byte_slice(), b"0123456789X".as_slice());
+    same(&rt, source.as_byte_slice(), DIGITS);
+    same(&rt, clone.as_byte_slice(), b"0123456789X".as_slice());
 
     let other = source.clone()?;
     source.push_slice(b"YZ")?;
     source.push_slice(b"!")?;
-    assert_eq!(rt; source.as_byte_slice(), b"0123456789YZ!".as_slice());
-    assert_eq!(rt; other.as_byte_slice(), DIGITS);
-    assert_eq!(rt; clone.as_byte_slice(), b"0123456789X".as_slice());
+    same(&rt, source.as_byte_slice(), b"0123456789YZ!".as_slice());
+    same(&rt, other.as_byte_slice(), DIGITS);
+    same(&rt, clone.as_byte_slice(), b"0123456789X".as_slice());
     Ok(())
 }
 
@@ -71,7 +75,7 @@ fn a_push_onto_a_slice_cuts_what_lies_behind_it(rt: HostRuntime) -> Result<(), F
         source.try_subtendril(2, 9)?
     };
     slice.push_slice(b"X")?;
-    assert_eq!(rt; slice.as_byte_slice(), b"23456789aX".as_slice());
+    same(&rt, slice.as_byte_slice(), b"23456789aX".as_slice());
     Ok(())
 }
 
@@ -82,15 +86,17 @@ fn slices_end_within_the_text(rt: HostRuntime) -> Result<(), Fail> {
         let slice = text.try_subtendril(offset, count)?;
         let start = offset as usize;
         assert!(rt; start + count as usize <= DIGITS.len());
-        assert_eq!(rt;
+        same(
+            &rt,
             slice.as_byte_slice(),
-            &DIGITS[start..start + count as usize]
+            &DIGITS[start..start + count as usize],
         );
     }
     for (offset, count) in [(10u32, 1u32), (11, 0), (0, 11), (4294967295, 4294967295)] {
-        assert_eq!(rt;
+        same(
+            &rt,
             text.try_subtendril(offset, count).err(),
-            Some(SubtendrilError::OutOfBounds)
+            Some(SubtendrilError::OutOfBounds),
         );
     }
     Ok(())
@@ -113,13 +119,13 @@ fn marks_of_sharing(rt: HostRuntime) -> Result<(), Fail> {
 fn texts_of_slices_and_strings(rt: HostRuntime) -> Result<(), Fail> {
     let mut text: StrTendril = StrTendril::from_slice(rt.alloc(), "0123456789")?;
     text.push_slice("ab")?;
-    assert_eq!(rt; text.as_byte_slice(), b"0123456789ab".as_slice());
+    same(&rt, text.as_byte_slice(), b"0123456789ab".as_slice());
     let text: StrTendril = str_to_tendril(rt.alloc(), "0123456789")?;
-    assert_eq!(rt; text.as_byte_slice(), DIGITS);
+    same(&rt, text.as_byte_slice(), DIGITS);
     let text: ByteTendril = slice_to_tendril(rt.alloc(), DIGITS)?;
-    assert_eq!(rt; text.as_byte_slice(), DIGITS);
+    same(&rt, text.as_byte_slice(), DIGITS);
     let text: ByteTendril = Tendril::from_byte_slice_without_validating(rt.alloc(), DIGITS)?;
-    assert_eq!(rt; text.as_byte_slice(), DIGITS);
+    same(&rt, text.as_byte_slice(), DIGITS);
     Ok(())
 }
 
@@ -127,23 +133,22 @@ fn texts_of_slices_and_strings(rt: HostRuntime) -> Result<(), Fail> {
 fn room_for_more(rt: HostRuntime) -> Result<(), Fail> {
     for capacity in [0u32, 8, 9, 1000] {
         let mut text: ByteTendril = Tendril::with_capacity(rt.alloc(), capacity)?;
-        assert_eq!(rt; text.len32(), 0);
+        same(&rt, text.len32(), 0);
         for len in [3usize, 10] {
             text.reserve(100)?;
             text.push_slice(&DIGITS[..len])?;
         }
-        assert_eq!(rt;
-            text.as_byte_slice(),
-            b"0120123456789".as_slice(),
+        assert!(rt;
+            text.as_byte_slice() == b"0120123456789".as_slice(),
             "capacity {capacity}"
         );
         let clone = text.clone()?;
         text.reserve(1000)?;
         text.clear();
-        assert_eq!(rt; text.as_byte_slice(), b"".as_slice());
+        same(&rt, text.as_byte_slice(), b"".as_slice());
         text.push_bytes_without_validating(b"x")?;
-        assert_eq!(rt; text.as_byte_slice(), b"x".as_slice());
-        assert_eq!(rt; clone.as_byte_slice(), b"0120123456789".as_slice());
+        same(&rt, text.as_byte_slice(), b"x".as_slice());
+        same(&rt, clone.as_byte_slice(), b"0120123456789".as_slice());
     }
     Ok(())
 }
@@ -151,14 +156,14 @@ fn room_for_more(rt: HostRuntime) -> Result<(), Fail> {
 #[test]
 fn too_long(rt: HostRuntime) -> Result<(), Fail> {
     let mut text: ByteTendril = ByteTendril::from_slice(rt.alloc(), b"abc")?;
-    assert_eq!(rt; text.reserve(4294967293).err(), Some(Refusal::TooLong));
-    assert_eq!(rt; text.as_byte_slice(), b"abc".as_slice());
+    same(&rt, text.reserve(4294967293).err(), Some(Refusal::TooLong));
+    same(&rt, text.as_byte_slice(), b"abc".as_slice());
 
     // Also where the text is shared.
     let mut text: ByteTendril = ByteTendril::from_slice(rt.alloc(), DIGITS)?;
     let mut clone = text.clone()?;
-    assert_eq!(rt; text.reserve(4294967295).err(), Some(Refusal::TooLong));
-    assert_eq!(rt; clone.reserve(4294967295).err(), Some(Refusal::TooLong));
+    same(&rt, text.reserve(4294967295).err(), Some(Refusal::TooLong));
+    same(&rt, clone.reserve(4294967295).err(), Some(Refusal::TooLong));
     clone.reserve(0)?;
     Ok(())
 }
@@ -168,8 +173,12 @@ fn a_text_pushed_on_its_clone(rt: HostRuntime) -> Result<(), Fail> {
     let mut text: ByteTendril = ByteTendril::from_slice(rt.alloc(), DIGITS)?;
     let clone = text.clone()?;
     text.push_tendril(&clone)?;
-    assert_eq!(rt; text.as_byte_slice(), b"01234567890123456789".as_slice());
-    assert_eq!(rt; clone.as_byte_slice(), DIGITS);
+    same(
+        &rt,
+        text.as_byte_slice(),
+        b"01234567890123456789".as_slice(),
+    );
+    same(&rt, clone.as_byte_slice(), DIGITS);
     Ok(())
 }
 
@@ -179,9 +188,13 @@ fn a_million_bytes_one_by_one(rt: HostRuntime) -> Result<(), Fail> {
     for _ in 0..1000000 {
         text.push_slice(b"a")?;
     }
-    assert_eq!(rt; text.len32(), 1000000);
+    same(&rt, text.len32(), 1000000);
     assert!(rt; text.as_byte_slice().iter().all(|byte| *byte == b'a'));
-    assert_eq!(rt; text.clone()?.try_subtendril(1, 999998)?.len32(), 999998);
+    same(
+        &rt,
+        text.clone()?.try_subtendril(1, 999998)?.len32(),
+        999998,
+    );
     Ok(())
 }
 
@@ -194,10 +207,10 @@ fn a_queue_of_pieces(rt: HostRuntime) -> Result<(), Fail> {
             queue.try_pop_front(24)?;
         }
     }
-    assert_eq!(rt; queue.len32(), 72);
+    same(&rt, queue.len32(), 72);
     // The last three rounds are 99997 to 99999, which leave 99, 100 and 101.
     let left = [[99u8; 24], [100; 24], [101; 24]];
-    assert_eq!(rt; queue.as_byte_slice(), left.as_flattened());
+    same(&rt, queue.as_byte_slice(), left.as_flattened());
     Ok(())
 }
 
@@ -216,7 +229,7 @@ fn a_queue_holds_no_more_memory_the_longer_it_runs(rt: HostRuntime) -> Result<()
         queue.push_slice(b"01234567")?;
         queue.try_pop_front(8)?;
     }
-    assert_eq!(rt; queue.len32(), 128);
+    same(&rt, queue.len32(), 128);
     // All that went through would be some 20000 pages.
     assert!(rt; resident_pages(&rt)?.saturating_sub(before) < 200);
     Ok(())
@@ -228,9 +241,9 @@ fn room_behind_bytes_that_were_popped(rt: HostRuntime) -> Result<(), Fail> {
     text.try_pop_front(90)?;
     text.bytes_mut(|bytes| bytes.fill(b'y'))?;
     text.reserve(100)?;
-    assert_eq!(rt; text.as_byte_slice(), [b'y'; 10].as_slice());
+    same(&rt, text.as_byte_slice(), [b'y'; 10].as_slice());
     text.push_uninitialized(3)?;
     text.push_slice(b"z")?;
-    assert_eq!(rt; text.as_byte_slice(), b"yyyyyyyyyy\0\0\0z".as_slice());
+    same(&rt, text.as_byte_slice(), b"yyyyyyyyyy\0\0\0z".as_slice());
     Ok(())
 }

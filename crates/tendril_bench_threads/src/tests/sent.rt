@@ -1,6 +1,7 @@
 //! Texts that go to another thread, and come back.
 
 use crate::louder_in_a_worker;
+use crate::tests::same;
 use std::alloc::Global;
 use std::marker::Send;
 use std::process::Abort;
@@ -39,7 +40,7 @@ fn check_that_texts_of_each_size_come_back<A: Atomicity, B: Atomicity>(
         let letters = &LETTERS.as_bytes()[..len];
         let text: ByteTendril<A> = slice_to_tendril(rt.alloc(), letters)?;
         let back: ByteTendril<B> = sent(text)?;
-        assert_eq!(rt; back.as_byte_slice(), letters);
+        same(rt, back.as_byte_slice(), letters);
         assert!(rt; !back.is_shared());
     }
     Ok(())
@@ -63,10 +64,10 @@ fn check_that_clones_and_parts_keep_their_text<A: Atomicity>(
     let whole: StrTendril<Atomic> = sent(text.clone()?)?;
     let part: StrTendril<Atomic> = sent(part)?;
     let popped: StrTendril<Atomic> = sent(popped)?;
-    assert_eq!(rt; text.as_byte_slice(), LETTERS.as_bytes());
-    assert_eq!(rt; whole.as_byte_slice(), LETTERS.as_bytes());
-    assert_eq!(rt; part.as_byte_slice(), &LETTERS.as_bytes()[3..23]);
-    assert_eq!(rt; popped.as_byte_slice(), &LETTERS.as_bytes()[1..]);
+    same(rt, text.as_byte_slice(), LETTERS.as_bytes());
+    same(rt, whole.as_byte_slice(), LETTERS.as_bytes());
+    same(rt, part.as_byte_slice(), &LETTERS.as_bytes()[3..23]);
+    same(rt, popped.as_byte_slice(), &LETTERS.as_bytes()[1..]);
     Ok(())
 }
 
@@ -85,8 +86,8 @@ fn a_clone_of_what_is_sent(rt: HostRuntime) -> Result<(), Fail> {
         let second = first.clone()?;
         let first: StrTendril = Tendril::from_send(first).ok().ok_or("from_send")?;
         let second: StrTendril = Tendril::from_send(second).ok().ok_or("from_send")?;
-        assert_eq!(rt; first.as_byte_slice(), expected.as_byte_slice());
-        assert_eq!(rt; second.as_byte_slice(), expected.as_byte_slice());
+        same(&rt, first.as_byte_slice(), expected.as_byte_slice());
+        same(&rt, second.as_byte_slice(), expected.as_byte_slice());
     }
     Ok(())
 }
@@ -104,9 +105,10 @@ fn what_may_be_sent(rt: HostRuntime) -> Result<(), Fail> {
 fn a_worker_changes_a_text(rt: HostRuntime) -> Result<(), Fail> {
     for (text, expected) in [("hello", "hello!"), ("hello, worker", "hello, worker!")] {
         let text: StrTendril = str_to_tendril(rt.alloc(), text)?;
-        assert_eq!(rt;
+        same(
+            &rt,
             louder_in_a_worker(&rt, text)?.as_byte_slice(),
-            expected.as_bytes()
+            expected.as_bytes(),
         );
     }
     Ok(())
@@ -141,15 +143,15 @@ fn a_thousand_texts_pass_four_threads(rt: HostRuntime) -> Result<(), Fail> {
         let worker = thread::spawn_with(&rt, Anything, move || pushed(alloc, texts, byte))?;
         texts = worker.join(&rt)?;
     }
-    assert_eq!(rt; texts.len(), 1000);
+    same(&rt, texts.len(), 1000);
     for (number, text) in texts.into_iter().enumerate() {
         let text: ByteTendril = Tendril::from_send(text).ok().ok_or("from_send")?;
         let (letters, digits) = text
             .as_byte_slice()
             .split_at_checked(number % 53)
             .ok_or("too short")?;
-        assert_eq!(rt; letters, &LETTERS.as_bytes()[..number % 53]);
-        assert_eq!(rt; digits, b"1234".as_slice());
+        same(&rt, letters, &LETTERS.as_bytes()[..number % 53]);
+        same(&rt, digits, b"1234".as_slice());
     }
     Ok(())
 }
@@ -164,7 +166,7 @@ fn a_text_over_atomic_blocks_is_cloned_in_two_threads(rt: HostRuntime) -> Result
     let here = (0..1000).all(|_| text.clone().is_ok());
     let there = worker.join(&rt);
     assert!(rt; here && there);
-    assert_eq!(rt; text.as_byte_slice(), LETTERS.as_bytes());
+    same(&rt, text.as_byte_slice(), LETTERS.as_bytes());
     Ok(())
 }
 
@@ -178,6 +180,6 @@ fn halves_of_a_pair_cross_and_meet(rt: HostRuntime) -> Result<(), Fail> {
     let mut lead: Tendril<WTF8, Atomic> = sent(lead)?;
     let trail: Tendril<WTF8, Atomic> = sent(trail)?;
     lead.push_tendril(&trail)?;
-    assert_eq!(rt; lead.as_byte_slice(), b"\xF0\x9F\x92\xA9".as_slice());
+    same(&rt, lead.as_byte_slice(), b"\xF0\x9F\x92\xA9".as_slice());
     Ok(())
 }

@@ -1,6 +1,6 @@
 //! Tables that are worked on by threads.
 
-use crate::tests::OneClass;
+use crate::tests::{OneClass, same};
 use std::alloc::Global;
 use std::process::Abort;
 use std::sync::Arc;
@@ -82,9 +82,9 @@ fn check_done(
     let Some(Outcome::Done(_, replies)) = outcome else {
         return Err(Fail::from("not done"));
     };
-    assert_eq!(rt; replies.len(), lines.len());
+    same(rt, replies.len(), lines.len());
     for (reply, line) in replies.iter().zip(lines) {
-        assert_eq!(rt; print_reply(rt.alloc(), reply)?.as_str(), *line);
+        same(rt, print_reply(rt.alloc(), reply)?.as_str(), *line);
     }
     Ok(())
 }
@@ -97,7 +97,7 @@ fn check_slot(rt: &impl Abort, outcome: Option<&Outcome>, expected: &[u8]) -> Re
     let Some(Slot::Bytes(text)) = table.slot(0) else {
         return Err(Fail::from("no bytes"));
     };
-    assert_eq!(rt; text.as_byte_slice(), expected);
+    same(rt, text.as_byte_slice(), expected);
     Ok(())
 }
 
@@ -123,7 +123,7 @@ fn three_jobs_on_clones_of_one_text(rt: HostRuntime) -> Result<(), Fail> {
         jobs.push(job(alloc, &text, NoGate, commands)?)?;
     }
     let outcomes = run_tables(&rt, alloc, jobs).ok().ok_or("run_tables")?;
-    assert_eq!(rt; outcomes.len(), 3);
+    same(&rt, outcomes.len(), 3);
     check_done(
         &rt,
         outcomes.get(0),
@@ -139,7 +139,7 @@ fn three_jobs_on_clones_of_one_text(rt: HostRuntime) -> Result<(), Fail> {
         outcomes.get(2),
         &["refused 5 OutOfBounds", "ok", "refused 13 NoSuchSlot"],
     )?;
-    assert_eq!(rt; text.as_byte_slice(), DIGITS);
+    same(&rt, text.as_byte_slice(), DIGITS);
     Ok(())
 }
 
@@ -171,7 +171,7 @@ fn two_workers_meet(rt: HostRuntime) -> Result<(), Fail> {
     assert!(rt; second_met.load(Ordering::SeqCst));
     check_slot(&rt, outcomes.get(0), b"0123456789abcdefX")?;
     check_slot(&rt, outcomes.get(1), b"456789abcdef")?;
-    assert_eq!(rt; text.as_byte_slice(), DIGITS);
+    same(&rt, text.as_byte_slice(), DIGITS);
     Ok(())
 }
 
@@ -179,7 +179,7 @@ fn two_workers_meet(rt: HostRuntime) -> Result<(), Fail> {
 fn no_jobs(rt: HostRuntime) -> Result<(), Fail> {
     let jobs: Vec<Job<OneClass, NoGate>> = Vec::new(rt.alloc());
     let outcomes = run_tables(&rt, rt.alloc(), jobs).ok().ok_or("run_tables")?;
-    assert_eq!(rt; outcomes.len(), 0);
+    same(&rt, outcomes.len(), 0);
     Ok(())
 }
 
@@ -229,6 +229,7 @@ fn sixty_four_jobs_on_one_block(rt: HostRuntime) -> Result<(), Fail> {
         jobs.push(job(alloc, &text, NoGate, commands)?)?;
     }
     let outcomes = run_tables(&rt, alloc, jobs).ok().ok_or("run_tables")?;
+    // Written out, since the number of outcomes bounds the cast below.
     assert_eq!(rt; outcomes.len(), 64);
     for (number, outcome) in outcomes.iter().enumerate() {
         check_done(&rt, Some(outcome), &["slot 1", "ok", "ok"])?;
@@ -236,6 +237,6 @@ fn sixty_four_jobs_on_one_block(rt: HostRuntime) -> Result<(), Fail> {
         expected.push(number as u8)?;
         check_slot(&rt, Some(outcome), expected.as_slice())?;
     }
-    assert_eq!(rt; text.as_byte_slice(), DIGITS);
+    same(&rt, text.as_byte_slice(), DIGITS);
     Ok(())
 }

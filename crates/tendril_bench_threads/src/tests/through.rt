@@ -1,6 +1,6 @@
 //! A text's way through another thread, as a command.
 
-use crate::tests::OneClass;
+use crate::tests::{OneClass, same};
 use std::alloc::Global;
 use std::process::Abort;
 use std::test::Fail;
@@ -17,7 +17,7 @@ fn check_script<A: Atomicity>(
         let command = parse_line(rt.alloc(), line.as_bytes())?.ok_or("no command")?;
         let replies = run(&mut table, &[command], &OneClass)?;
         let reply = replies.first().ok_or("no reply")?;
-        assert_eq!(rt; print_reply(rt.alloc(), reply)?.as_str(), *expected);
+        same(rt, print_reply(rt.alloc(), reply)?.as_str(), *expected);
     }
     Ok(())
 }

@@ -1,5 +1,6 @@
 //! Texts compared, hashed, and as keys of maps.
 
+use crate::tests::same;
 use std::cmp::Ordering;
 use std::collections::{BTreeMap, HashMap};
 use std::hash::{DefaultHasher, Hash, Hasher};
@@ -125,9 +126,8 @@ fn texts_compared_with_strings(rt: HostRuntime) -> Result<(), Fail> {
     for string in ORDERED {
         let text: StrTendril = str_to_tendril(rt.alloc(), string)?;
         for other in ORDERED {
-            assert_eq!(rt;
-                text.eq_str(other),
-                string == other,
+            assert!(rt;
+                text.eq_str(other) == (string == other),
                 "{string:?} against {other:?}"
             );
         }
@@ -150,18 +150,17 @@ fn texts_as_keys_of_a_hash_map(rt: HostRuntime) -> Result<(), Fail> {
                 .is_ok_and(|before| before.is_none())
         );
     }
-    assert_eq!(rt; places.len(), ORDERED.len());
+    same(&rt, places.len(), ORDERED.len());
     for (place, string) in ORDERED.iter().enumerate() {
         let key: StrTendril = str_to_tendril(rt.alloc(), *string)?;
-        assert_eq!(rt; places.get(&key).copied(), Some(place), "{string:?}");
-        assert_eq!(rt;
-            places.get(&key.clone()?).copied(),
-            Some(place),
+        assert!(rt; places.get(&key).copied() == Some(place), "{string:?}");
+        assert!(rt;
+            places.get(&key.clone()?).copied() == Some(place),
             "a clone of {string:?}"
         );
     }
     let absent: StrTendril = str_to_tendril(rt.alloc(), "0123456789a")?;
-    assert_eq!(rt; places.get(&absent), None);
+    same(&rt, places.get(&absent), None);
     Ok(())
 }
 
@@ -182,8 +181,8 @@ fn texts_as_keys_of_a_sorted_map(rt: HostRuntime) -> Result<(), Fail> {
         let Some(string) = strings.next() else {
             return Err(Fail::from("there are more keys than strings"));
         };
-        assert_eq!(rt; key.as_byte_slice(), string.as_bytes());
-        assert_eq!(rt; *len as usize, string.len());
+        same(&rt, key.as_byte_slice(), string.as_bytes());
+        same(&rt, *len as usize, string.len());
     }
     assert!(rt; strings.next().is_none());
     Ok(())

@@ -2,6 +2,7 @@
 ghost use Rattle.std.specs.Prelude.{◌^◌, ◌-◌, ◌+◌};
 ghost use Rattle.std.specs.Iterator.{at_most};
 
+use crate::tests::same;
 use std::test::Fail;
 use tendril::fmt::WTF8;
 use tendril::{ByteTendril, NonAtomic, StrTendril, Tendril, slice_to_tendril, str_to_tendril};
@@ -11,11 +12,12 @@ type Wtf8Tendril = Tendril<WTF8, NonAtomic>;
 #[test]
 fn a_text_of_strings(rt: HostRuntime) -> Result<(), Fail> {
     let mut text: StrTendril = StrTendril::from_strs(rt.alloc(), ["Hello", ", ", "world", "!"])?;
-    assert_eq!(rt; text.as_byte_slice(), b"Hello, world!".as_slice());
+    same(&rt, text.as_byte_slice(), b"Hello, world!".as_slice());
     text.extend_strs([" \u{4e2d}", "", "\u{1f4a9}"])?;
-    assert_eq!(rt;
+    same(
+        &rt,
         text.as_byte_slice(),
-        "Hello, world! \u{4e2d}\u{1f4a9}".as_bytes()
+        "Hello, world! \u{4e2d}\u{1f4a9}".as_bytes(),
     );
     Ok(())
 }
@@ -23,11 +25,16 @@ fn a_text_of_strings(rt: HostRuntime) -> Result<(), Fail> {
 #[test]
 fn a_text_of_characters(rt: HostRuntime) -> Result<(), Fail> {
     let mut text: StrTendril = StrTendril::from_chars(rt.alloc(), "a\u{151}\u{4e2d}".chars())?;
-    assert_eq!(rt; text.as_byte_slice(), b"a\xc5\x91\xe4\xb8\xad".as_slice());
-    text.extend_chars("xYz".chars().map(|c| c.to_ascii_uppercase()))?;
-    assert_eq!(rt;
+    same(
+        &rt,
         text.as_byte_slice(),
-        b"a\xc5\x91\xe4\xb8\xadXYZ".as_slice()
+        b"a\xc5\x91\xe4\xb8\xad".as_slice(),
+    );
+    text.extend_chars("xYz".chars().map(|c| c.to_ascii_uppercase()))?;
+    same(
+        &rt,
+        text.as_byte_slice(),
+        b"a\xc5\x91\xe4\xb8\xadXYZ".as_slice(),
     );
     Ok(())
 }
@@ -35,9 +42,13 @@ fn a_text_of_characters(rt: HostRuntime) -> Result<(), Fail> {
 #[test]
 fn a_text_of_bytes(rt: HostRuntime) -> Result<(), Fail> {
     let mut text: ByteTendril = ByteTendril::from_bytes(rt.alloc(), [0u8, 255, 128])?;
-    assert_eq!(rt; text.as_byte_slice(), b"\x00\xff\x80".as_slice());
+    same(&rt, text.as_byte_slice(), b"\x00\xff\x80".as_slice());
     text.extend_bytes(b'0'..b'9')?;
-    assert_eq!(rt; text.as_byte_slice(), b"\x00\xff\x80012345678".as_slice());
+    same(
+        &rt,
+        text.as_byte_slice(),
+        b"\x00\xff\x80012345678".as_slice(),
+    );
     Ok(())
 }
 
@@ -45,9 +56,9 @@ fn a_text_of_bytes(rt: HostRuntime) -> Result<(), Fail> {
 fn a_text_of_bytes_that_are_lent(rt: HostRuntime) -> Result<(), Fail> {
     let bytes = [b'x', b'y', b'z'];
     let mut text: ByteTendril = ByteTendril::from_byte_refs(rt.alloc(), bytes.iter())?;
-    assert_eq!(rt; text.as_byte_slice(), b"xyz".as_slice());
+    same(&rt, text.as_byte_slice(), b"xyz".as_slice());
     text.extend_byte_refs(bytes.iter().rev())?;
-    assert_eq!(rt; text.as_byte_slice(), b"xyzzyx".as_slice());
+    same(&rt, text.as_byte_slice(), b"xyzzyx".as_slice());
     Ok(())
 }
 
@@ -57,9 +68,9 @@ fn a_text_of_slices(rt: HostRuntime) -> Result<(), Fail> {
         rt.alloc(),
         b"one two three".split(|b| *b == b' '),
     )?;
-    assert_eq!(rt; text.as_byte_slice(), b"onetwothree".as_slice());
+    same(&rt, text.as_byte_slice(), b"onetwothree".as_slice());
     text.extend_slices(b"\xff,\xfe".split(|b| *b == b','))?;
-    assert_eq!(rt; text.as_byte_slice(), b"onetwothree\xff\xfe".as_slice());
+    same(&rt, text.as_byte_slice(), b"onetwothree\xff\xfe".as_slice());
     Ok(())
 }
 
@@ -70,11 +81,12 @@ fn a_text_of_texts(rt: HostRuntime) -> Result<(), Fail> {
         parts.push(str_to_tendril(rt.alloc(), part)?)?;
     }
     let mut text: StrTendril = StrTendril::from_tendrils(rt.alloc(), &parts)?;
-    assert_eq!(rt; text.as_byte_slice(), b"now is the time".as_slice());
+    same(&rt, text.as_byte_slice(), b"now is the time".as_slice());
     text.extend_tendrils(parts.iter().rev())?;
-    assert_eq!(rt;
+    same(
+        &rt,
         text.as_byte_slice(),
-        b"now is the timeis the time now".as_slice()
+        b"now is the timeis the time now".as_slice(),
     );
     Ok(())
 }
@@ -86,14 +98,16 @@ fn surrogates_of_two_items_meet(rt: HostRuntime) -> Result<(), Fail> {
         halves.push(Tendril::try_from_byte_slice(rt.alloc(), half)?)?;
     }
     let mut text: Wtf8Tendril = Wtf8Tendril::from_tendrils(rt.alloc(), &halves)?;
-    assert_eq!(rt;
+    same(
+        &rt,
         text.as_byte_slice(),
-        b"\xf0\x9f\x92\xa9\xed\xa0\xbd".as_slice()
+        b"\xf0\x9f\x92\xa9\xed\xa0\xbd".as_slice(),
     );
     text.extend_tendrils(halves.iter().skip(1))?;
-    assert_eq!(rt;
+    same(
+        &rt,
         text.as_byte_slice(),
-        b"\xf0\x9f\x92\xa9\xf0\x9f\x92\xa9\xed\xa0\xbd".as_slice()
+        b"\xf0\x9f\x92\xa9\xf0\x9f\x92\xa9\xed\xa0\xbd".as_slice(),
     );
     Ok(())
 }
@@ -101,11 +115,11 @@ fn surrogates_of_two_items_meet(rt: HostRuntime) -> Result<(), Fail> {
 #[test]
 fn no_items(rt: HostRuntime) -> Result<(), Fail> {
     let mut text: ByteTendril = ByteTendril::from_bytes(rt.alloc(), b"".iter().copied())?;
-    assert_eq!(rt; text.len32(), 0);
+    same(&rt, text.len32(), 0);
     text.extend_bytes(0..0)?;
-    assert_eq!(rt; text.len32(), 0);
+    same(&rt, text.len32(), 0);
     let none: StrTendril = StrTendril::from_strs(rt.alloc(), ["", ""])?;
-    assert_eq!(rt; none.len32(), 0);
+    same(&rt, none.len32(), 0);
     Ok(())
 }
 
@@ -114,8 +128,8 @@ fn items_leave_a_clone(rt: HostRuntime) -> Result<(), Fail> {
     let mut text: ByteTendril = slice_to_tendril(rt.alloc(), b"0123456789")?;
     let clone = text.clone()?;
     text.extend_bytes(b'a'..b'd')?;
-    assert_eq!(rt; clone.as_byte_slice(), b"0123456789".as_slice());
-    assert_eq!(rt; text.as_byte_slice(), b"0123456789abc".as_slice());
+    same(&rt, clone.as_byte_slice(), b"0123456789".as_slice());
+    same(&rt, text.as_byte_slice(), b"0123456789abc".as_slice());
     Ok(())
 }
 
@@ -123,10 +137,10 @@ fn items_leave_a_clone(rt: HostRuntime) -> Result<(), Fail> {
 fn a_million_items(rt: HostRuntime) -> Result<(), Fail> {
     let mut text: ByteTendril = Tendril::new(rt.alloc());
     text.extend_bytes((0u32..1_000_000).map(|n| (n % 251) as u8))?;
-    assert_eq!(rt; text.len32(), 1_000_000);
+    same(&rt, text.len32(), 1_000_000);
     let mut want = 0u8;
     for byte in text.as_byte_slice() {
-        assert_eq!(rt; *byte, want);
+        same(&rt, *byte, want);
         want = if want == 250 { 0 } else { want.wrapping_add(1) };
     }
     Ok(())
@@ -159,8 +173,12 @@ impl Iterator for Boastful {
 #[test]
 fn a_hint_decides_nothing(rt: HostRuntime) -> Result<(), Fail> {
     let mut text: ByteTendril = ByteTendril::from_bytes(rt.alloc(), Boastful { left: 3 })?;
-    assert_eq!(rt; text.as_byte_slice(), b"\x02\x01\x00".as_slice());
+    same(&rt, text.as_byte_slice(), b"\x02\x01\x00".as_slice());
     text.extend_bytes(Boastful { left: 2 })?;
-    assert_eq!(rt; text.as_byte_slice(), b"\x02\x01\x00\x01\x00".as_slice());
+    same(
+        &rt,
+        text.as_byte_slice(),
+        b"\x02\x01\x00\x01\x00".as_slice(),
+    );
     Ok(())
 }

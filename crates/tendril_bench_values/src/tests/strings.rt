@@ -1,5 +1,6 @@
 //! Texts of strings, strings of texts, and texts lent as strings and slices.
 
+use crate::tests::same;
 use std::alloc::Global;
 use std::collections::BTreeMap;
 use std::convert::{AsSlice, AsStr};
@@ -35,12 +36,16 @@ fn made<T: MadeWith<Global>>(alloc: Global) -> T {
 fn texts_lent_as_strings_and_slices(rt: HostRuntime) -> Result<(), Fail> {
     for string in STRINGS {
         let text: StrTendril = str_to_tendril(rt.alloc(), string)?;
-        assert_eq!(rt; text.as_str(), string);
-        assert_eq!(rt; length_by_trait(&text), string.len());
+        same(&rt, text.as_str(), string);
+        same(&rt, length_by_trait(&text), string.len());
     }
     let bytes: ByteTendril = slice_to_tendril(rt.alloc(), b"\x01\x02\xff")?;
-    assert_eq!(rt; AsSlice::<u8>::as_slice(&bytes), b"\x01\x02\xff".as_slice());
-    assert_eq!(rt; sum_by_trait(&bytes), 258);
+    same(
+        &rt,
+        AsSlice::<u8>::as_slice(&bytes),
+        b"\x01\x02\xff".as_slice(),
+    );
+    same(&rt, sum_by_trait(&bytes), 258);
     Ok(())
 }
 
@@ -51,15 +56,15 @@ fn texts_of_strings_that_are_handed_over(rt: HostRuntime) -> Result<(), Fail> {
             rt.alloc(),
             String::from_str(rt.alloc(), string)?,
         )?;
-        assert_eq!(rt; text.as_str(), string);
+        same(&rt, text.as_str(), string);
         assert!(rt; !text.is_shared());
 
         // Such a text is pushed onto, cloned and popped as any other.
         let clone = text.clone()?;
         text.push_slice("\u{4e2d}!")?;
-        assert_eq!(rt; text.len32() as usize, string.len().wrapping_add(4));
+        same(&rt, text.len32() as usize, string.len().wrapping_add(4));
         assert!(rt; text.as_str().starts_with(string) && text.as_str().ends_with("\u{4e2d}!"));
-        assert_eq!(rt; clone.as_str(), string);
+        same(&rt, clone.as_str(), string);
     }
     Ok(())
 }
@@ -69,12 +74,12 @@ fn a_string_with_room_keeps_it(rt: HostRuntime) -> Result<(), Fail> {
     let mut string = String::with_capacity(rt.alloc(), 1000)?;
     string.push_str("0123456789")?;
     let mut text: StrTendril = StrTendril::from_string(rt.alloc(), string)?;
-    assert_eq!(rt; text.as_str(), "0123456789");
+    same(&rt, text.as_str(), "0123456789");
     for _ in 0..99 {
         text.push_slice("0123456789")?;
     }
-    assert_eq!(rt; text.len32(), 1000);
-    assert_eq!(rt; text.pop_front_char(), Some('0'));
+    same(&rt, text.len32(), 1000);
+    same(&rt, text.pop_front_char(), Some('0'));
     Ok(())
 }
 
@@ -82,7 +87,7 @@ fn a_string_with_room_keeps_it(rt: HostRuntime) -> Result<(), Fail> {
 fn texts_of_lent_strings(rt: HostRuntime) -> Result<(), Fail> {
     for string in STRINGS {
         let text: StrTendril = StrTendril::from_str(rt.alloc(), string)?;
-        assert_eq!(rt; text.as_str(), string);
+        same(&rt, text.as_str(), string);
     }
     Ok(())
 }
@@ -92,14 +97,18 @@ fn strings_of_texts(rt: HostRuntime) -> Result<(), Fail> {
     for string in STRINGS {
         let mut text: StrTendril = str_to_tendril(rt.alloc(), string)?;
         let mut value = text.to_string_value()?;
-        assert_eq!(rt; value.as_str(), string);
+        same(&rt, value.as_str(), string);
 
         // The string is the caller's own, and the text stays.
         value.push('!')?;
-        assert_eq!(rt; text.as_str(), string);
+        same(&rt, text.as_str(), string);
         text.push_char('?')?;
-        assert_eq!(rt; value.len(), string.len().wrapping_add(1));
-        assert_eq!(rt; text.clone()?.to_string_value()?.as_str(), text.as_str());
+        same(&rt, value.len(), string.len().wrapping_add(1));
+        same(
+            &rt,
+            text.clone()?.to_string_value()?.as_str(),
+            text.as_str(),
+        );
     }
     Ok(())
 }
@@ -111,7 +120,7 @@ fn a_million_bytes_there_and_back(rt: HostRuntime) -> Result<(), Fail> {
         string.push_str("0123456789")?;
     }
     let text: StrTendril = StrTendril::from_string(rt.alloc(), string)?;
-    assert_eq!(rt; text.len32(), 1000000);
+    same(&rt, text.len32(), 1000000);
     let back = text.to_string_value()?;
     assert!(rt; text.as_str() == back.as_str());
     Ok(())
@@ -120,9 +129,9 @@ fn a_million_bytes_there_and_back(rt: HostRuntime) -> Result<(), Fail> {
 #[test]
 fn texts_made_by_a_map(rt: HostRuntime) -> Result<(), Fail> {
     let text: StrTendril = made(rt.alloc());
-    assert_eq!(rt; text.as_str(), "");
+    same(&rt, text.as_str(), "");
     let bytes: ByteTendril = made(rt.alloc());
-    assert_eq!(rt; bytes.len32(), 0);
+    same(&rt, bytes.len32(), 0);
 
     let mut lines: BTreeMap<u32, StrTendril> = BTreeMap::new(rt.alloc());
     for (line, word) in [(2u32, "a"), (1, "b"), (2, "c")] {
@@ -131,7 +140,7 @@ fn texts_made_by_a_map(rt: HostRuntime) -> Result<(), Fail> {
         };
         entry.or_default().push_slice(word)?;
     }
-    assert_eq!(rt; lines.get(&2).map(|text| text.as_str()), Some("ac"));
-    assert_eq!(rt; lines.get(&1).map(|text| text.as_str()), Some("b"));
+    same(&rt, lines.get(&2).map(|text| text.as_str()), Some("ac"));
+    same(&rt, lines.get(&1).map(|text| text.as_str()), Some("b"));
     Ok(())
 }

@@ -1,5 +1,6 @@
 //! What Display and Debug print.
 
+use crate::tests::same;
 use std::alloc::AllocError;
 use std::fmt::{Debug, Display};
 use std::test::Fail;
@@ -39,11 +40,11 @@ fn a_text_is_displayed_as_a_string(rt: HostRuntime) -> Result<(), Fail> {
         "f\u{151}o \u{4e2d}\n\"\\",
     ] {
         let text: StrTendril = str_to_tendril(rt.alloc(), string)?;
-        assert_eq!(rt; plain(&rt, &text)?.as_str(), string);
-        assert_eq!(rt; right(&rt, &text)?, right(&rt, &string)?);
-        assert_eq!(rt; dashed(&rt, &text)?, dashed(&rt, &string)?);
-        assert_eq!(rt; centred(&rt, &text)?, centred(&rt, &string)?);
-        assert_eq!(rt; cut(&rt, &text)?, cut(&rt, &string)?);
+        same(&rt, plain(&rt, &text)?.as_str(), string);
+        same(&rt, right(&rt, &text)?, right(&rt, &string)?);
+        same(&rt, dashed(&rt, &text)?, dashed(&rt, &string)?);
+        same(&rt, centred(&rt, &text)?, centred(&rt, &string)?);
+        same(&rt, cut(&rt, &text)?, cut(&rt, &string)?);
     }
     Ok(())
 }
@@ -51,11 +52,11 @@ fn a_text_is_displayed_as_a_string(rt: HostRuntime) -> Result<(), Fail> {
 #[test]
 fn widths_and_fills(rt: HostRuntime) -> Result<(), Fail> {
     let text: StrTendril = str_to_tendril(rt.alloc(), "foobar")?;
-    assert_eq!(rt; right(&rt, &text)?.as_str(), "      foobar");
-    assert_eq!(rt; dashed(&rt, &text)?.as_str(), "<foobar------>");
-    assert_eq!(rt; cut(&rt, &text)?.as_str(), "<______fo>");
+    same(&rt, right(&rt, &text)?.as_str(), "      foobar");
+    same(&rt, dashed(&rt, &text)?.as_str(), "<foobar------>");
+    same(&rt, cut(&rt, &text)?.as_str(), "<______fo>");
     let text: StrTendril = str_to_tendril(rt.alloc(), "anextralongstring")?;
-    assert_eq!(rt; right(&rt, &text)?.as_str(), "anextralongstring");
+    same(&rt, right(&rt, &text)?.as_str(), "anextralongstring");
     Ok(())
 }
 
@@ -64,7 +65,7 @@ fn a_text_is_written_to_a_writer(rt: HostRuntime) -> Result<(), Fail> {
     let text: StrTendril = str_to_tendril(rt.alloc(), "foobar")?;
     let mut out = String::new(rt.alloc());
     write!(out, "<{text:^8}>")?;
-    assert_eq!(rt; out.as_str(), "< foobar >");
+    same(&rt, out.as_str(), "< foobar >");
     Ok(())
 }
 
@@ -79,11 +80,11 @@ fn debug_of_inline_texts(rt: HostRuntime) -> Result<(), Fail> {
         ),
     ] {
         let text: StrTendril = str_to_tendril(rt.alloc(), string)?;
-        assert_eq!(rt; debugged(&rt, &text)?.as_str(), want);
+        same(&rt, debugged(&rt, &text)?.as_str(), want);
     }
     let bytes: ByteTendril = slice_to_tendril(rt.alloc(), b"foobar")?;
     let want = "Tendril<Bytes>(inline: [102, 111, 111, 98, 97, 114])";
-    assert_eq!(rt; debugged(&rt, &bytes)?.as_str(), want);
+    same(&rt, debugged(&rt, &bytes)?.as_str(), want);
     Ok(())
 }
 
@@ -91,11 +92,11 @@ fn debug_of_inline_texts(rt: HostRuntime) -> Result<(), Fail> {
 fn debug_of_long_texts(rt: HostRuntime) -> Result<(), Fail> {
     let text: StrTendril = str_to_tendril(rt.alloc(), "anextralongstring")?;
     let owned = "Tendril<UTF8>(owned: \"anextralongstring\")";
-    assert_eq!(rt; debugged(&rt, &text)?.as_str(), owned);
+    same(&rt, debugged(&rt, &text)?.as_str(), owned);
     let clone = text.clone()?;
     let shared = "Tendril<UTF8>(shared: \"anextralongstring\")";
-    assert_eq!(rt; debugged(&rt, &text)?.as_str(), shared);
-    assert_eq!(rt; debugged(&rt, &clone)?.as_str(), shared);
+    same(&rt, debugged(&rt, &text)?.as_str(), shared);
+    same(&rt, debugged(&rt, &clone)?.as_str(), shared);
     Ok(())
 }
 
@@ -103,12 +104,12 @@ fn debug_of_long_texts(rt: HostRuntime) -> Result<(), Fail> {
 fn debug_of_long_byte_texts(rt: HostRuntime) -> Result<(), Fail> {
     let mut text: ByteTendril = slice_to_tendril(rt.alloc(), b"012345678")?;
     let owned = "Tendril<Bytes>(owned: [48, 49, 50, 51, 52, 53, 54, 55, 56])";
-    assert_eq!(rt; debugged(&rt, &text)?.as_str(), owned);
+    same(&rt, debugged(&rt, &text)?.as_str(), owned);
     let _clone = text.clone()?;
     let shared = "Tendril<Bytes>(shared: [48, 49, 50, 51, 52, 53, 54, 55, 56])";
-    assert_eq!(rt; debugged(&rt, &text)?.as_str(), shared);
+    same(&rt, debugged(&rt, &text)?.as_str(), shared);
     text.push_slice(b"9")?;
     let pushed = "Tendril<Bytes>(owned: [48, 49, 50, 51, 52, 53, 54, 55, 56, 57])";
-    assert_eq!(rt; debugged(&rt, &text)?.as_str(), pushed);
+    same(&rt, debugged(&rt, &text)?.as_str(), pushed);
     Ok(())
 }

@@ -1,7 +1,42 @@
 //! Lines of no command.
 
 use super::check_script;
+use std::alloc::Global;
+use std::io::Write;
 use std::test::Fail;
+
+const LINES: [&[u8]; 10] = [
+    b"push 0",
+    b"front 0 01",
+    b"front 0 4294967296",
+    b"char 0 55296",
+    b"from bytes 3",
+    b"set 0 0 3031",
+    b"text 0 ",
+    b"text 0\xFF",
+    b"\xFF",
+    b"text 0\r",
+];
+
+// The line is malformed, the text before it stays, and no slot is made.
+fn check_malformed(alloc: Global, kind: &str, line: &[u8]) -> Result<(), Fail> {
+    let mut script = Vec::new(alloc);
+    writeln!(script, "from {kind} 3031")?;
+    script.extend_from_slice(line)?;
+    writeln!(script, "\ntext 0\nnew {kind}")?;
+    let mut printed = Vec::new(alloc);
+    writeln!(printed, "slot 0\nmalformed\n{kind} 3031\nslot 1")?;
+    check_script(alloc, script.as_slice(), printed.as_slice())
+}
+
+#[test]
+fn each_malformed_line_alone(rt: HostRuntime) -> Result<(), Fail> {
+    for line in LINES {
+        check_malformed(rt.alloc(), "bytes", line)?;
+        check_malformed(rt.alloc(), "utf8", line)?;
+    }
+    Ok(())
+}
 
 #[test]
 fn a_malformed_line_changes_nothing(rt: HostRuntime) -> Result<(), Fail> {

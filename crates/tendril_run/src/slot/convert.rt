@@ -7,9 +7,9 @@ use crate::change::{Change, Conversion};
 use crate::slot::Slot;
 use crate::text;
 use std::mem;
-use tendril::Atomicity;
-use tendril::block::Refusal;
 use tendril_lines::{Kind, Reply};
+use tendril_text::Atomicity;
+use tendril_text::block::Refusal;
 
 impl<A: Atomicity> Slot<A> {
     // Changes the text's format.

@@ -7,9 +7,9 @@ ghost use Rattle.tendril_run.specs.Jobs.{Worked};
 use crate::classifier::Classifier;
 use crate::gate::{Gate, Open};
 use crate::table::Table;
-use tendril::Atomicity;
-use tendril::block::Refusal;
 use tendril_lines::{Command, Reply};
+use tendril_text::Atomicity;
+use tendril_text::block::Refusal;
 
 /// Carries out commands in order and answers one reply a command.
 ///

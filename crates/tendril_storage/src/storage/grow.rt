@@ -1,5 +1,5 @@
 //! Stored bytes that change: in their block where no other holds it, else in a new place.
-ghost use Rattle.std.specs.Prelude.{◌≡◌, ◌<◌, ◌≤◌, ◌+◌, ◌++◌, [], length, take, max, true, false, IfErr, OnOk, OnErr};
+ghost use Rattle.std.specs.Prelude.{◌≡◌, ◌<◌, ◌≤◌, ◌+◌, ◌++◌, [], length, take, drop, max, true, false, IfErr, OnOk, OnErr};
 ghost use Rattle.tendril_block.specs.Outcomes.{MemoryMay};
 
 use crate::storage::{Held, INLINE, Storage, put};
@@ -26,6 +26,33 @@ impl<A: Atomicity> Storage<A> {
             }
             Err(_) if self.replaces_in_place(keep, middle, more) => Ok(()),
             Err(refusal) => Err(refusal),
+        }
+    }
+
+    /// Sees the bytes that stand right behind these in their block too, if they equal `more`; whether it does. They are
+    /// compared, wherever they stand. Nothing is copied.
+    #[tactic(auto, using(crate::proofs::Views::grows))]
+    pub fn grows_over(&mut self, more: &[u8]) -> bool
+        requires fits { length self.old.bytes + length more.now ≤ MAX_LEN }
+        ensures bytes { result ≡ true → self.new.bytes ≡ self.old.bytes ++ more.now }
+        ensures copied { self.new.copied ≡ self.old.copied }
+        ensures unchanged { result ≡ false → self.new ≡ self.old }
+    {
+        match &mut self.held {
+            Held::Inline { .. } => false,
+            Held::View {
+                block,
+                offset,
+                len,
+                ..
+            } => {
+                let end = *offset as usize + *len as usize;
+                if more.len() > MAX_LEN as usize - end || !stands_at::<A>(block, end, more) {
+                    return false;
+                }
+                *len += more.len() as u32;
+                true
+            }
         }
     }
 
@@ -158,6 +185,16 @@ impl<A: Atomicity> Storage<A> {
             }
         }
     }
+}
+
+// Whether these bytes stand in a block from a place on.
+fn stands_at<A: Atomicity>(block: &A::Block, at: usize, more: &[u8]) -> bool
+    requires { at ≤ length (A.bytes_of block.now) }
+    ensures within { result ≡ true → at + length more.now ≤ length (A.bytes_of block.now) }
+    ensures bytes { result ≡ true → take (length more.now) (drop at (A.bytes_of block.now)) ≡ more.now }
+{
+    let all = A::bytes(block);
+    more.len() <= all.len() - at && &all[at..at + more.len()] == more
 }
 
 /// Puts two parts in the place of all bytes of a block from `keep` on, where no other holds it and there is memory.

@@ -1,7 +1,8 @@
-use Rattle.std.proofs.Common.{◌∙◌, [], ◌++◌, ap, subst, sym}
+use Rattle.std.proofs.Common.{◌≡◌, ◌∙◌, [], ◌++◌, ap, subst, sym}
 use Rattle.std.proofs.lemmas.Result.{IfOk-weaker}
 use Rattle.tendril_stream.specs.Compositions.{StandsAt}
 use Rattle.tendril_stream.specs.Events.{sent}
+use Rattle.tendril_stream.specs.Sinks.{told}
 use Rattle.tendril_bench_decoder.proofs.two.decode_two.Goals as goal
 
 pub returns : goal.returns
@@ -11,10 +12,10 @@ returns c =
     let none = c.new-decoder.result in
     let one = c.process.new.self in
     let two = c.process-2.new.self in
-    let empty = ap (λ a. sent a.events.items) c.new-decoder.ensures.sink ∙ ap sent c.new.ensures in
-    let start = subst (λ k. StandsAt (λ a. sent a.events.items) none.inner_sink k []) (sym c.new-decoder.ensures.kept) (l.begins (λ a. sent a.events.items) none.inner_sink empty) in
-    let at_first = l.goes_on (λ a. sent a.events.items) none.inner_sink one.inner_sink none.kept one.kept [] first start c.in_ok-process.ensures.ok.2 in
-    let at_second = l.goes_on (λ a. sent a.events.items) one.inner_sink two.inner_sink one.kept two.kept first.bytes c.args.second at_first c.in_ok-process-2.ensures.ok.2 in
+    let empty = ap (λ a. told (sent a.events.items)) c.new-decoder.ensures.sink ∙ ap (λ l. told (sent l)) c.new.ensures in
+    let start = subst (λ k. StandsAt (λ a t. told (sent a.events.items) ≡ t) none.inner_sink k []) (sym c.new-decoder.ensures.kept) (l.begins none.inner_sink empty) in
+    let at_first = l.goes_on none.inner_sink one.inner_sink none.kept one.kept [] first start c.in_ok-process.ensures.ok.2 in
+    let at_second = l.goes_on one.inner_sink two.inner_sink one.kept two.kept first.bytes c.args.second at_first c.in_ok-process-2.ensures.ok.2 in
     IfOk-weaker c.finish.result _ _ (λ out ends.
-    let last = ends.1 in
-    l.ends (λ a. sent a.events.items) (λ o. sent o.items) two.inner_sink two.kept (first.bytes ++ c.args.second.bytes) out at_second (last.0, last.1, ap sent last.2)) c.finish.ensures.ok
+    let last = l.ends two.inner_sink two.kept (first.bytes ++ c.args.second.bytes) out at_second ends.1 in
+    ap (λ l. told (sent l)) last.2 ∙ last.1) c.finish.ensures.ok

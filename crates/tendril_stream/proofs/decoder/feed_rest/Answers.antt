@@ -1,5 +1,5 @@
 use Rattle.std.proofs.Common.{◌∙◌, sym, subst}
-use Rattle.tendril.specs.Decoding.{PopsText}
+use Rattle.tendril_text.specs.Decoding.{PopsText}
 use Rattle.tendril_lossy.specs.Lossy.{IsOpen}
 use Rattle.tendril_lossy.specs.declared.search.Ending.TheVariants.{Broken}
 use Rattle.tendril_stream.proofs.Turns.{ended, more, stopped, unbroken}

@@ -1,5 +1,5 @@
 use Rattle.std.proofs.Common.{◌∙◌, ◌∷◌, [], length, ap, map, refl, sym}
-use Rattle.tendril.proofs.Decoding.{IsReplacement, replacement-handed, replacement-chars}
+use Rattle.tendril_text.proofs.Decoding.{IsReplacement, replacement-handed, replacement-chars}
 use Rattle.tendril_lossy.specs.Lossy.{Char, Mark, replaced}
 use Rattle.tendril_stream.specs.Sinks.{Piece, Fault, told_of}
 use Rattle.tendril_stream.proofs.Feeds.{Feeds-one, Feeds-append, Feeds-same, Stops-here, Stops-after}

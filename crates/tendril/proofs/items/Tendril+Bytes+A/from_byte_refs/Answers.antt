@@ -1,5 +1,0 @@
-use Rattle.tendril.proofs.Taken.{makes_byte_refs}
-use Rattle.tendril.proofs.items.Tendril+Bytes+A.from_byte_refs.Goals as goal
-
-pub returns : goal.returns
-returns g c = makes_byte_refs c.from_items.ensures

@@ -1,0 +1,10 @@
+use Rattle.tendril_block.specs.declared.refusal.Refusal.{Refusal}
+use Rattle.tendril_block.specs.declared.refusal.Refusal.TheVariants as refusal
+use Rattle.tendril_text.specs.declared.error.SubtendrilError.{SubtendrilError}
+use Rattle.tendril_text.specs.declared.error.SubtendrilError.TheVariants.{OutOfBounds, ValidationFailed, Count}
+
+-- the refusal of the same name
+abbrev pub refusal_of : SubtendrilError → Refusal
+refusal_of OutOfBounds = refusal.OutOfBounds
+refusal_of ValidationFailed = refusal.ValidationFailed
+refusal_of Count = refusal.Count

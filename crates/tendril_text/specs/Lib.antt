@@ -1,0 +1,11 @@
+pub use Rattle.tendril_storage.specs.Texts
+pub use Rattle.tendril_storage.specs.Edits
+pub mod Errors
+pub mod Making
+pub mod Parts
+pub mod Pushes
+pub mod Characters
+pub mod Comparisons
+pub mod Decoding
+pub mod Items
+pub mod Writes

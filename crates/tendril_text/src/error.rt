@@ -1,0 +1,45 @@
+//! Why a part of a text isn't handed out.
+
+use std::error::Error;
+use std::fmt;
+use tendril_block::Refusal;
+
+/// Why a slice or a pop was refused. Where several apply, the first is answered.
+#[derive(Clone, Copy, Debug, PartialEq, Eq, Hash)]
+pub enum SubtendrilError {
+    /// The offset or the length is past the text.
+    OutOfBounds,
+    /// What would be cut out, or left, isn't valid in the format.
+    ValidationFailed,
+    /// The block has as many holders as it can have.
+    Count,
+}
+
+impl From<SubtendrilError> for Refusal {
+    ghost use Rattle.std.specs.Prelude.{◌≡◌};
+    ghost use Rattle.tendril_text.specs.Errors.{refusal_of};
+
+    ghost from_gives = { λ error refusal. refusal ≡ refusal_of error };
+
+    fn from(error: SubtendrilError) -> Self {
+        match error {
+            SubtendrilError::OutOfBounds => Refusal::OutOfBounds,
+            SubtendrilError::ValidationFailed => Refusal::ValidationFailed,
+            SubtendrilError::Count => Refusal::Count,
+        }
+    }
+}
+
+impl fmt::Display for SubtendrilError {
+    ghost use Rattle.std.specs.Prelude.{Some};
+    ghost use Rattle.tendril_text.specs.Errors.{refusal_of};
+    ghost use Rattle.tendril_block.specs.Refusals.{name_of};
+
+    ghost output = { λ e. Some (name_of (refusal_of e)) };
+
+    fn fmt<W: fmt::Write>(&self, f: &mut fmt::Formatter<W>) -> fmt::Result {
+        f.write_str(Refusal::from(*self).name())
+    }
+}
+
+impl Error for SubtendrilError {}

@@ -1,0 +1,22 @@
+//! Compact shared text: up to 8 bytes stand inline, longer text is shared with its clones and slices and copied only
+//! when one of them is changed.
+#![tactic(auto)]
+
+mod chars;
+mod error;
+mod items;
+mod tendril;
+mod utf8_decode;
+mod view;
+
+pub use crate::error::SubtendrilError;
+pub use crate::tendril::{
+    ByteTendril, SendTendril, StrTendril, Tendril, slice_to_tendril, str_to_tendril,
+};
+pub use crate::utf8_decode::{Handed, IncompleteUtf8};
+pub use crate::view::View;
+pub use tendril_block as block;
+pub use tendril_block::{Atomic, Atomicity, NonAtomic};
+pub use tendril_fmt::fmt::{CharFormat, Format};
+pub use tendril_fmt::{fmt, futf};
+pub use tendril_lossy as lossy;
