@@ -1,2 +1,3 @@
 mod Overs
 pub mod Views
+pub mod Words

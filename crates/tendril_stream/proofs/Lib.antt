@@ -6,3 +6,4 @@ pub mod Fed
 pub mod Filled
 pub mod Own
 pub mod Walks
+pub mod Refused

@@ -1,5 +1,5 @@
 //! A stream in any pieces.
-ghost use Rattle.std.specs.Prelude.{◌≡◌, List, [], None, flat_map, IfOk};
+ghost use Rattle.std.specs.Prelude.{◌≡◌, ◌⊎◌, List, [], None, flat_map, IfOk, IfErr};
 ghost use Rattle.std.specs.Iterator.{IsFiniteIterable, YieldsThen};
 ghost use Rattle.tendril_text.specs.Texts.{Text};
 ghost use Rattle.tendril_lossy.specs.Lossy.{due};
@@ -20,9 +20,10 @@ pub fn decode_pieces<A: Atomicity, I: IntoIterator<Item = ByteTendril<A>>>(
     pieces: I,
 ) -> Result<Vec<Event<A>>, Refusal>
     requires { IsFiniteIterable I.into_iter_gives I.IntoIter.can_next I.IntoIter.remaining pieces }
-    ensures { IfOk result (λ events. (it : I.IntoIter) × (end : I.IntoIter) × (read : List Text)
+    ensures ok { IfOk result (λ events. (it : I.IntoIter) × (end : I.IntoIter) × (read : List Text)
         × I.into_iter_gives pieces it × YieldsThen I.IntoIter.next_gives it read None end
         × (told (sent events.items) ≡ due (flat_map (λ p. p.bytes) read))) }
+    ensures refusal { IfErr result (λ r. (r ≡ Refusal.Count) ⊎ (r ≡ Refusal.SinkRefused)) }
 {
     decode_pieces_into(alloc, Accumulate::new(alloc), pieces)
 }
@@ -35,9 +36,10 @@ pub fn decode_pieces_into<
 >(alloc: Global, sink: S, pieces: I) -> Result<S::Output, Refusal>
     requires new { S.after sink [] }
     requires finite { IsFiniteIterable I.into_iter_gives I.IntoIter.can_next I.IntoIter.remaining pieces }
-    ensures { IfOk result (λ out. (it : I.IntoIter) × (end : I.IntoIter) × (read : List Text)
+    ensures ok { IfOk result (λ out. (it : I.IntoIter) × (end : I.IntoIter) × (read : List Text)
         × I.into_iter_gives pieces it × YieldsThen I.IntoIter.next_gives it read None end
         × ((last : S) × S.after last (due (flat_map (λ p. p.bytes) read)) × S.finishes last out)) }
+    ensures refusal { IfErr result (λ r. (r ≡ Refusal.Count) ⊎ (r ≡ Refusal.SinkRefused)) }
 {
     Utf8LossyDecoder::new(alloc, sink).from_iter(pieces)
 }

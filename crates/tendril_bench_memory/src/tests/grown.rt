@@ -6,18 +6,18 @@ use std::process::Abort;
 use std::test::Fail;
 use tendril::{ByteTendril, StrTendril, slice_to_tendril, str_to_tendril};
 
-const THIRTY: &[u8] = b"012345678901234567890123456789";
+const SIXTY: &[u8] = b"012345678901234567890123456789012345678901234567890123456789";
 
-/// Makes three texts, and then pushes parts of each onto others, where the fourth request is refused.
+/// Makes three texts, and then pushes parts of each onto others, where the fifth request is refused.
 pub(super) fn push_parts(rt: &(impl Abort + AllocGlobal)) -> Result<(), Fail> {
-    refuse_request(rt.alloc(), 4)?;
-    let digits: ByteTendril = slice_to_tendril(rt.alloc(), THIRTY)?;
+    refuse_request(rt.alloc(), 5)?;
+    let digits: ByteTendril = slice_to_tendril(rt.alloc(), SIXTY)?;
     let letters: ByteTendril = slice_to_tendril(rt.alloc(), b"aaaaaaaaaaaaaaaaaaaa")?;
     let words: StrTendril = str_to_tendril(rt.alloc(), "aaaaaaaaaa bbbbbbbbb")?;
 
     let mut front = digits.try_subtendril(0, 10)?;
-    front.push_tendril(&digits.try_subtendril(10, 20)?)?;
-    same(rt, front.as_byte_slice(), THIRTY);
+    front.push_tendril(&digits.try_subtendril(10, 50)?)?;
+    same(rt, front.as_byte_slice(), SIXTY);
 
     let mut front = letters.try_subtendril(0, 9)?;
     front.push_tendril(&letters.try_subtendril(5, 9)?)?;
@@ -35,6 +35,6 @@ fn push_rest(rt: &impl Abort, mut rest: StrTendril) -> Result<(), Fail> {
 }
 
 #[test]
-fn parts_that_are_pushed_where_the_fourth_request_is_refused(rt: HostRuntime) -> Result<(), Fail> {
+fn parts_that_are_pushed_where_the_fifth_request_is_refused(rt: HostRuntime) -> Result<(), Fail> {
     push_parts(&rt)
 }

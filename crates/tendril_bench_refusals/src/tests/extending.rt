@@ -1,13 +1,17 @@
 //! Texts that are extended. A refused call keeps exactly the items before the refused one, and the rest follows then.
 
-use crate::tests::Turn;
+use crate::{Turn, check};
+use std::alloc::Global;
 use std::cell::Cell;
-use std::process::Abort;
 use std::test::Fail;
-use tendril::{ByteTendril, StrTendril, Tendril, slice_to_tendril, str_to_tendril};
+use tendril::block::Refusal;
+use tendril::fmt::{Bytes, Format, UTF8};
+use tendril::{ByteTendril, StrTendril, Tendril};
 
 /// How many requests the session makes.
-const REQUESTS: usize = 9;
+const REQUESTS: usize = 11;
+
+const CHARACTERS: &str = "0123456789abcdef";
 
 const PARTS: [&str; 4] = ["0123", "4567", "89ab", "cdef"];
 
@@ -15,70 +19,168 @@ const SLICES: [&[u8]; 4] = [b"0123", b"4567", b"89ab", b"cdef"];
 
 const WHOLE: &[u8] = b"0123456789abcdef";
 
-// Extends an empty text by items of so many bytes each, which are the whole.
-macro_rules! extended {
-    ($turn:expr, $kind:ty, $extend:ident, $items:expr, $size:expr) => {{
-        let mut text: $kind = Tendril::new($turn.alloc());
-        let taken = Cell::new(0usize);
-        let answer = text.$extend($items.map(|item| {
-            taken.set(taken.get().saturating_add(1));
-            item
-        }));
-        if let Err(refusal) = answer {
-            $turn.meet(refusal)?;
-            let kept = taken.get().saturating_sub(1);
-            let front = WHOLE.get(..kept.saturating_mul($size)).ok_or("items")?;
-            $turn.check(&text, front);
-            text.$extend($items.skip(kept))?;
-        }
-        $turn.check(&text, WHOLE);
-    }};
-}
-
 // Runs the session, of which the request of this number is refused.
-fn refuse(rt: &(impl Abort + AllocGlobal), number: usize) -> Result<(), Fail> {
-    let turn = Turn::new(rt, number)?;
+fn refuse(alloc: Global, number: usize) -> Result<(), Fail> {
+    let turn = Turn::new(alloc, number)?;
     extend_strings(&turn)?;
     extend_bytes(&turn)?;
-    extend_by_texts(&turn)?;
+    extend_by_byte_texts(&turn)?;
+    extend_by_strings(&turn)?;
     turn.end()
 }
 
-fn extend_strings(turn: &Turn<impl Abort + AllocGlobal>) -> Result<(), Fail> {
-    extended!(
-        turn,
-        StrTendril,
-        extend_chars,
-        "0123456789abcdef".chars(),
-        1
-    );
-    extended!(turn, StrTendril, extend_strs, PARTS.iter().copied(), 4);
+// How many items a call took.
+#[derive(Drop)]
+struct Taken {
+    count: Cell<usize>,
+}
+
+impl Taken {
+    fn add<T>(&self, item: T) -> T {
+        self.count.set(self.count.get().saturating_add(1));
+        item
+    }
+}
+
+// A call that extends a text by items of so many bytes each, which are the whole.
+trait Extend {
+    type Format: Format;
+
+    fn size(&self) -> usize;
+
+    // Extends a text by all items but so many.
+    fn extend(
+        &self,
+        text: &mut Tendril<Self::Format>,
+        taken: &Taken,
+        but: usize,
+    ) -> Result<(), Refusal>;
+}
+
+// Extends an empty text.
+fn extended<E: Extend>(turn: &Turn, items: &E) -> Result<(), Fail> {
+    let mut text: Tendril<E::Format> = Tendril::new(turn.alloc());
+    let taken = Taken {
+        count: Cell::new(0),
+    };
+    if let Err(refusal) = items.extend(&mut text, &taken, 0) {
+        turn.meet(refusal)?;
+        let kept = taken.count.get().saturating_sub(1);
+        let front = WHOLE.get(..kept.saturating_mul(items.size()));
+        check(&text, front.ok_or("items")?)?;
+        items.extend(&mut text, &taken, kept)?;
+    }
+    check(&text, WHOLE)
+}
+
+#[derive(Clone, Copy)]
+enum StrItems<'a> {
+    Chars,
+    Strs,
+    Texts(&'a [StrTendril]),
+}
+
+impl<'a> Extend for StrItems<'a> {
+    type Format = UTF8;
+
+    fn size(&self) -> usize {
+        match self {
+            StrItems::Chars => 1,
+            StrItems::Strs => 4,
+            StrItems::Texts(_) => 8,
+        }
+    }
+
+    fn extend(&self, text: &mut StrTendril, taken: &Taken, but: usize) -> Result<(), Refusal> {
+        match *self {
+            StrItems::Chars => {
+                text.extend_chars(CHARACTERS.chars().skip(but).map(|item| taken.add(item)))
+            }
+            StrItems::Strs => {
+                text.extend_strs(PARTS.iter().copied().skip(but).map(|item| taken.add(item)))
+            }
+            StrItems::Texts(texts) => {
+                text.extend_tendrils(texts.iter().skip(but).map(|item| taken.add(item)))
+            }
+        }
+    }
+}
+
+#[derive(Clone, Copy)]
+enum ByteItems<'a> {
+    Bytes,
+    ByteRefs,
+    Slices,
+    Texts(&'a [ByteTendril]),
+}
+
+impl<'a> Extend for ByteItems<'a> {
+    type Format = Bytes;
+
+    fn size(&self) -> usize {
+        match self {
+            ByteItems::Bytes | ByteItems::ByteRefs => 1,
+            ByteItems::Slices | ByteItems::Texts(_) => 4,
+        }
+    }
+
+    fn extend(&self, text: &mut ByteTendril, taken: &Taken, but: usize) -> Result<(), Refusal> {
+        match *self {
+            ByteItems::Bytes => {
+                text.extend_bytes(WHOLE.iter().copied().skip(but).map(|item| taken.add(item)))
+            }
+            ByteItems::ByteRefs => {
+                text.extend_byte_refs(WHOLE.iter().skip(but).map(|item| taken.add(item)))
+            }
+            ByteItems::Slices => {
+                text.extend_slices(SLICES.iter().copied().skip(but).map(|item| taken.add(item)))
+            }
+            ByteItems::Texts(texts) => {
+                text.extend_tendrils(texts.iter().skip(but).map(|item| taken.add(item)))
+            }
+        }
+    }
+}
+
+fn extend_strings(turn: &Turn) -> Result<(), Fail> {
+    extended(turn, &StrItems::Chars)?;
+    extended(turn, &StrItems::Strs)
+}
+
+fn extend_bytes(turn: &Turn) -> Result<(), Fail> {
+    for items in [ByteItems::Bytes, ByteItems::ByteRefs, ByteItems::Slices] {
+        extended(turn, &items)?;
+    }
     Ok(())
 }
 
-fn extend_bytes(turn: &Turn<impl Abort + AllocGlobal>) -> Result<(), Fail> {
-    extended!(turn, ByteTendril, extend_bytes, WHOLE.iter().copied(), 1);
-    extended!(turn, ByteTendril, extend_byte_refs, WHOLE.iter(), 1);
-    extended!(turn, ByteTendril, extend_slices, SLICES.iter().copied(), 4);
-    Ok(())
+// Parts of a text, of so many bytes each.
+fn parts<F: Format>(
+    turn: &Turn,
+    whole: &Tendril<F>,
+    starts: &[u32],
+    size: u32,
+) -> Result<Vec<Tendril<F>>, Fail> {
+    let mut parts = turn.room(starts.len())?;
+    for start in starts {
+        parts.push(whole.try_subtendril(*start, size)?)?;
+    }
+    Ok(parts)
 }
 
-fn extend_by_texts(turn: &Turn<impl Abort + AllocGlobal>) -> Result<(), Fail> {
-    let whole: ByteTendril = made!(turn, slice_to_tendril(turn.alloc(), WHOLE));
-    let parts = [
-        whole.try_subtendril(0, 4)?,
-        whole.try_subtendril(4, 4)?,
-        whole.try_subtendril(8, 4)?,
-        whole.try_subtendril(12, 4)?,
-    ];
-    extended!(turn, ByteTendril, extend_tendrils, parts.iter(), 4);
-    let whole: StrTendril = made!(turn, str_to_tendril(turn.alloc(), "0123456789abcdef"));
-    let halves = [whole.try_subtendril(0, 8)?, whole.try_subtendril(8, 8)?];
-    extended!(turn, StrTendril, extend_tendrils, halves.iter(), 8);
-    Ok(())
+fn extend_by_byte_texts(turn: &Turn) -> Result<(), Fail> {
+    let whole: ByteTendril = turn.bytes(WHOLE)?;
+    let texts = parts(turn, &whole, &[0, 4, 8, 12], 4)?;
+    extended(turn, &ByteItems::Texts(texts.as_slice()))
+}
+
+fn extend_by_strings(turn: &Turn) -> Result<(), Fail> {
+    let whole = turn.string(CHARACTERS)?;
+    let texts = parts(turn, &whole, &[0, 8], 8)?;
+    extended(turn, &StrItems::Texts(texts.as_slice()))
 }
 
 #[test]
 fn a_request_behind_the_session(rt: HostRuntime) -> Result<(), Fail> {
-    refuse(&rt, REQUESTS + 1)
+    refuse(rt.alloc(), REQUESTS + 1)
 }

@@ -1,10 +1,11 @@
 //! Texts that are sent. A refused call hands its text back.
 
-use crate::tests::Turn;
-use std::process::Abort;
+use crate::{Make, Turn, check};
+use std::alloc::Global;
 use std::test::Fail;
+use tendril::block::Refusal;
 use tendril::fmt::Bytes;
-use tendril::{ByteTendril, SendTendril, Tendril, slice_to_tendril};
+use tendril::{ByteTendril, SendTendril, Tendril};
 
 /// How many requests the session makes.
 const REQUESTS: usize = 11;
@@ -15,42 +16,48 @@ const FEW: &[u8] = b"0123456789";
 const MANY: &[u8] = b"0123456789012345678901234567890123456789abcdef";
 
 // Runs the session, of which the request of this number is refused.
-fn refuse(rt: &(impl Abort + AllocGlobal), number: usize) -> Result<(), Fail> {
-    let turn = Turn::new(rt, number)?;
+fn refuse(alloc: Global, number: usize) -> Result<(), Fail> {
+    let turn = Turn::new(alloc, number)?;
     for bytes in [FEW, MANY] {
-        let text: ByteTendril = made!(turn, slice_to_tendril(turn.alloc(), bytes));
+        let text: ByteTendril = turn.bytes(bytes)?;
         let clone = text.clone()?;
         // The one has its block with the other, and then alone.
         let sent = send(&turn, clone, bytes)?;
-        let again = made!(turn, sent.clone());
+        let again = turn.make(&CloneOf { sent: &sent })?;
         receive(&turn, sent, bytes)?;
         receive(&turn, again, bytes)?;
-        turn.check(&text, bytes);
+        check(&text, bytes)?;
         let sent = send(&turn, text, bytes)?;
         receive(&turn, sent, bytes)?;
     }
     turn.end()
 }
 
-fn send(
-    turn: &Turn<impl Abort + AllocGlobal>,
-    text: ByteTendril,
-    bytes: &[u8],
-) -> Result<SendTendril<Bytes>, Fail> {
+// A clone of what is sent.
+#[derive(Clone, Copy)]
+struct CloneOf<'a> {
+    sent: &'a SendTendril<Bytes>,
+}
+
+impl<'a> Make for CloneOf<'a> {
+    type Made = SendTendril<Bytes>;
+
+    fn make(&self, _alloc: Global) -> Result<SendTendril<Bytes>, Refusal> {
+        self.sent.clone()
+    }
+}
+
+fn send(turn: &Turn, text: ByteTendril, bytes: &[u8]) -> Result<SendTendril<Bytes>, Fail> {
     let (refusal, text) = match text.into_send() {
         Ok(sent) => return Ok(sent),
         Err(refused) => refused,
     };
     turn.meet(refusal)?;
-    turn.check(&text, bytes);
+    check(&text, bytes)?;
     Ok(text.into_send().ok().ok_or("into_send")?)
 }
 
-fn receive(
-    turn: &Turn<impl Abort + AllocGlobal>,
-    sent: SendTendril<Bytes>,
-    bytes: &[u8],
-) -> Result<(), Fail> {
+fn receive(turn: &Turn, sent: SendTendril<Bytes>, bytes: &[u8]) -> Result<(), Fail> {
     let text: ByteTendril = match Tendril::from_send(sent) {
         Ok(text) => text,
         Err((refusal, sent)) => {
@@ -58,11 +65,10 @@ fn receive(
             Tendril::from_send(sent).ok().ok_or("from_send")?
         }
     };
-    turn.check(&text, bytes);
-    Ok(())
+    check(&text, bytes)
 }
 
 #[test]
 fn a_request_behind_the_session(rt: HostRuntime) -> Result<(), Fail> {
-    refuse(&rt, REQUESTS + 1)
+    refuse(rt.alloc(), REQUESTS + 1)
 }

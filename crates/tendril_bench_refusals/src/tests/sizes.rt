@@ -1,9 +1,11 @@
 //! Texts round the numbers of bytes that stand inline and in the counted node of a block, made and changed in each way.
 
-use crate::tests::{Turn, same};
-use std::process::Abort;
+use crate::tests::changes::ByteChange;
+use crate::{Make, Turn, check, same};
+use std::alloc::Global;
 use std::test::Fail;
-use tendril::{ByteTendril, Tendril, slice_to_tendril};
+use tendril::block::Refusal;
+use tendril::{ByteTendril, Tendril};
 
 /// How many requests the session makes.
 const REQUESTS: usize = 70;
@@ -21,8 +23,8 @@ const GROWN: &[u8] =
 const ZEROS: [u8; 80] = [0; 80];
 
 // Runs the session, of which the request of this number is refused.
-fn refuse(rt: &(impl Abort + AllocGlobal), number: usize) -> Result<(), Fail> {
-    let turn = Turn::new(rt, number)?;
+fn refuse(alloc: Global, number: usize) -> Result<(), Fail> {
+    let turn = Turn::new(alloc, number)?;
     for size in SIZES {
         let bytes = front(BYTES, size)?;
         push_one_by_one(&turn, bytes)?;
@@ -39,101 +41,88 @@ fn front(bytes: &[u8], len: usize) -> Result<&[u8], Fail> {
     Ok(bytes.get(..len).ok_or("a front")?)
 }
 
-fn push_one_by_one(turn: &Turn<impl Abort + AllocGlobal>, bytes: &[u8]) -> Result<(), Fail> {
+fn push_one_by_one(turn: &Turn, bytes: &[u8]) -> Result<(), Fail> {
     let mut text: ByteTendril = Tendril::new(turn.alloc());
     for (index, byte) in bytes.iter().enumerate() {
         let after = front(bytes, index.saturating_add(1))?;
-        changed!(
-            turn,
-            text,
-            front(bytes, index)?,
-            text.push_slice(&[*byte]),
-            after
-        );
+        let before = front(bytes, index)?;
+        turn.change(&mut text, &ByteChange::Push(&[*byte]), before, after)?;
     }
     Ok(())
 }
 
-fn put_into_room(turn: &Turn<impl Abort + AllocGlobal>, bytes: &[u8]) -> Result<(), Fail> {
-    let room = u32::try_from(bytes.len())?;
-    let mut text: ByteTendril = made!(turn, Tendril::with_capacity(turn.alloc(), room));
-    changed!(turn, text, b"", text.push_slice(bytes), bytes);
-    Ok(())
+// An empty text with room for so many bytes.
+#[derive(Clone, Copy)]
+struct WithRoom {
+    room: u32,
 }
 
-fn push_zeros(turn: &Turn<impl Abort + AllocGlobal>, zeros: &[u8]) -> Result<(), Fail> {
+impl Make for WithRoom {
+    type Made = ByteTendril;
+
+    fn make(&self, alloc: Global) -> Result<ByteTendril, Refusal> {
+        Tendril::with_capacity(alloc, self.room)
+    }
+}
+
+fn put_into_room(turn: &Turn, bytes: &[u8]) -> Result<(), Fail> {
+    let room = u32::try_from(bytes.len())?;
+    let mut text = turn.make(&WithRoom { room })?;
+    turn.change(&mut text, &ByteChange::Push(bytes), b"", bytes)
+}
+
+fn push_zeros(turn: &Turn, zeros: &[u8]) -> Result<(), Fail> {
     let count = u32::try_from(zeros.len())?;
     let mut text: ByteTendril = Tendril::new(turn.alloc());
-    changed!(turn, text, b"", text.push_uninitialized(count), zeros);
-    Ok(())
+    turn.change(&mut text, &ByteChange::PushZeros(count), b"", zeros)
 }
 
 // Writes bytes that a clone has too, and then bytes of its own.
-fn write(turn: &Turn<impl Abort + AllocGlobal>, bytes: &[u8]) -> Result<(), Fail> {
+fn write(turn: &Turn, bytes: &[u8]) -> Result<(), Fail> {
     let mut buffer = [0; 80];
     let reversed = buffer.get_mut(..bytes.len()).ok_or("at most eighty bytes")?;
     reversed.copy_from_slice(bytes);
     reversed.reverse();
-    let mut text: ByteTendril = made!(turn, slice_to_tendril(turn.alloc(), bytes));
+    let mut text: ByteTendril = turn.bytes(bytes)?;
     let clone = text.clone()?;
-    changed!(
-        turn,
-        text,
-        bytes,
-        text.bytes_mut(|bytes| bytes.reverse()),
-        reversed
-    );
-    turn.check(&clone, bytes);
-    changed!(
-        turn,
-        text,
-        reversed,
-        text.bytes_mut(|bytes| bytes.reverse()),
-        bytes
-    );
-    Ok(())
+    turn.change(&mut text, &ByteChange::Reverse, bytes, reversed)?;
+    check(&clone, bytes)?;
+    turn.change(&mut text, &ByteChange::Reverse, reversed, bytes)
 }
 
 // Puts a byte behind bytes that another text has too, and behind a part of its own.
-fn cut(turn: &Turn<impl Abort + AllocGlobal>, bytes: &[u8]) -> Result<(), Fail> {
-    let text: ByteTendril = made!(turn, slice_to_tendril(turn.alloc(), bytes));
+fn cut(turn: &Turn, bytes: &[u8]) -> Result<(), Fail> {
+    let text: ByteTendril = turn.bytes(bytes)?;
     let mut slice = text.try_subtendril(0, text.len32())?;
     add_mark(turn, &mut slice, bytes)?;
     slice.try_pop_front(1)?;
     add_mark(turn, &mut slice, bytes.get(1..).ok_or("an end")?)?;
-    turn.check(&text, bytes);
-    Ok(())
+    check(&text, bytes)
 }
 
 // A text that was popped down to a small part of its block, and grows again.
-fn drop_most(turn: &Turn<impl Abort + AllocGlobal>) -> Result<(), Fail> {
+fn drop_most(turn: &Turn) -> Result<(), Fail> {
     let mut many = [0u8; 1080];
     many[1000..].copy_from_slice(BYTES);
-    let mut text: ByteTendril = made!(turn, slice_to_tendril(turn.alloc(), &many));
+    let mut text: ByteTendril = turn.bytes(&many)?;
     text.try_pop_front(1070)?;
     let few = front(GROWN, 10)?;
-    changed!(turn, text, few, text.push_slice(BYTES), GROWN);
-    Ok(())
+    turn.change(&mut text, &ByteChange::Push(BYTES), few, GROWN)
 }
 
 // Puts a byte behind a text, and takes it away.
-fn add_mark(
-    turn: &Turn<impl Abort + AllocGlobal>,
-    text: &mut ByteTendril,
-    before: &[u8],
-) -> Result<(), Fail> {
+fn add_mark(turn: &Turn, text: &mut ByteTendril, before: &[u8]) -> Result<(), Fail> {
     if let Err(refusal) = text.push_slice(b"!") {
         turn.meet(refusal)?;
-        same(turn.rt, text.as_byte_slice(), before);
+        same(text.as_byte_slice(), before)?;
         text.push_slice(b"!")?;
     }
-    assert!(turn.rt; text.as_byte_slice().ends_with(b"!"));
+    same(text.as_byte_slice().ends_with(b"!"), true)?;
     text.try_pop_back(1)?;
-    same(turn.rt, text.as_byte_slice(), before);
-    Ok(())
+    same(text.as_byte_slice(), before)
 }
 
 #[test]
 fn a_request_behind_the_session(rt: HostRuntime) -> Result<(), Fail> {
-    refuse(&rt, REQUESTS + 1)
+    refuse(rt.alloc(), REQUESTS + 1)
 }

@@ -1,18 +1,19 @@
 //! Texts that are popped, cut, joined and converted: the worked rows of single texts.
 
-use crate::tests::{Turn, same};
-use std::process::Abort;
+use crate::tests::changes::ByteChange;
+use crate::{Change, Make, Turn, check, same};
+use std::alloc::Global;
 use std::test::Fail;
 use tendril::block::Refusal;
 use tendril::fmt::{ASCII, Latin1, UTF8, WTF8};
-use tendril::{ByteTendril, StrTendril, Tendril, slice_to_tendril, str_to_tendril};
+use tendril::{ByteTendril, StrTendril, Tendril};
 
 /// How many requests the session makes.
 const REQUESTS: usize = 9;
 
 // Runs the session, of which the request of this number is refused.
-fn refuse(rt: &(impl Abort + AllocGlobal), number: usize) -> Result<(), Fail> {
-    let turn = Turn::new(rt, number)?;
+fn refuse(alloc: Global, number: usize) -> Result<(), Fail> {
+    let turn = Turn::new(alloc, number)?;
     pop_a_long_string(&turn)?;
     write_beside_a_clone(&turn)?;
     join_the_halves_of_a_pair(&turn)?;
@@ -23,73 +24,66 @@ fn refuse(rt: &(impl Abort + AllocGlobal), number: usize) -> Result<(), Fail> {
     turn.end()
 }
 
-fn pop_a_long_string(turn: &Turn<impl Abort + AllocGlobal>) -> Result<(), Fail> {
+fn pop_a_long_string(turn: &Turn) -> Result<(), Fail> {
     let string = "another rather long string";
-    let mut text: StrTendril = made!(turn, str_to_tendril(turn.alloc(), string));
+    let mut text: StrTendril = turn.string(string)?;
     text.try_pop_front(2)?;
-    turn.check(&text, b"other rather long string");
+    check(&text, b"other rather long string")?;
     text.try_pop_back(1)?;
-    turn.check(&text, b"other rather long strin");
-    Ok(())
+    check(&text, b"other rather long strin")
 }
 
-fn write_beside_a_clone(turn: &Turn<impl Abort + AllocGlobal>) -> Result<(), Fail> {
-    let mut text: ByteTendril = made!(turn, slice_to_tendril(turn.alloc(), b"0123456789"));
+fn write_beside_a_clone(turn: &Turn) -> Result<(), Fail> {
+    let mut text: ByteTendril = turn.bytes(b"0123456789")?;
     let clone = text.clone()?;
-    changed!(
-        turn,
-        text,
-        b"0123456789",
-        write_last(&mut text),
-        b"012345678\xFF"
-    );
-    turn.check(&clone, b"0123456789");
-    Ok(())
+    let after = b"012345678\xFF";
+    turn.change(&mut text, &ByteChange::SetLast, b"0123456789", after)?;
+    check(&clone, b"0123456789")
 }
 
-fn write_last(text: &mut ByteTendril) -> Result<(), Refusal> {
-    text.bytes_mut(|bytes| {
-        if let Some(byte) = bytes.get_mut(9) {
-            *byte = 0xFF;
-        }
-    })
+// Pushes a text behind another.
+#[derive(Clone, Copy)]
+struct Push<'a> {
+    text: &'a Tendril<WTF8>,
 }
 
-fn join_the_halves_of_a_pair(turn: &Turn<impl Abort + AllocGlobal>) -> Result<(), Fail> {
+impl<'a> Change for Push<'a> {
+    type Format = WTF8;
+
+    fn change(&self, text: &mut Tendril<WTF8>) -> Result<(), Refusal> {
+        text.push_tendril(self.text)
+    }
+}
+
+fn join_the_halves_of_a_pair(turn: &Turn) -> Result<(), Fail> {
     let pair = b"aaaaaa\xED\xA0\xBD\xED\xB2\xA9aaaaaa";
-    let bytes: ByteTendril = made!(turn, slice_to_tendril(turn.alloc(), pair));
+    let bytes: ByteTendril = turn.bytes(pair)?;
     let first = bytes.try_subtendril(0, 9)?;
     let second = bytes.try_subtendril(9, 9)?;
     let mut first: Tendril<WTF8> = first.try_reinterpret().ok().ok_or("a front")?;
     let second: Tendril<WTF8> = second.try_reinterpret().ok().ok_or("an end")?;
-    changed!(
-        turn,
-        first,
-        b"aaaaaa\xED\xA0\xBD",
-        first.push_tendril(&second),
-        b"aaaaaa\xF0\x9F\x92\xA9aaaaaa"
-    );
-    turn.check(&second, b"\xED\xB2\xA9aaaaaa");
-    turn.check(&bytes, pair);
-    Ok(())
+    let before = b"aaaaaa\xED\xA0\xBD";
+    let after = b"aaaaaa\xF0\x9F\x92\xA9aaaaaa";
+    turn.change(&mut first, &Push { text: &second }, before, after)?;
+    check(&second, b"\xED\xB2\xA9aaaaaa")?;
+    check(&bytes, pair)
 }
 
-fn push_a_text_on_itself(turn: &Turn<impl Abort + AllocGlobal>) -> Result<(), Fail> {
-    let mut text: ByteTendril = made!(turn, slice_to_tendril(turn.alloc(), b"0123456789"));
+fn push_a_text_on_itself(turn: &Turn) -> Result<(), Fail> {
+    let mut text: ByteTendril = turn.bytes(b"0123456789")?;
     let clone = text.clone()?;
-    changed!(
-        turn,
-        text,
+    let after = b"01234567890123456789";
+    turn.change(
+        &mut text,
+        &ByteChange::PushText(&clone),
         b"0123456789",
-        text.push_tendril(&clone),
-        b"01234567890123456789"
-    );
-    turn.check(&clone, b"0123456789");
-    Ok(())
+        after,
+    )?;
+    check(&clone, b"0123456789")
 }
 
-fn take_runs_of_spaces(turn: &Turn<impl Abort + AllocGlobal>) -> Result<(), Fail> {
-    let mut text: StrTendril = made!(turn, str_to_tendril(turn.alloc(), "   xyzzy  "));
+fn take_runs_of_spaces(turn: &Turn) -> Result<(), Fail> {
+    let mut text: StrTendril = turn.string("   xyzzy  ")?;
     for (run, is_space, rest) in [
         ("   ", true, "xyzzy  "),
         ("xyzzy", false, "  "),
@@ -97,45 +91,50 @@ fn take_runs_of_spaces(turn: &Turn<impl Abort + AllocGlobal>) -> Result<(), Fail
     ] {
         let taken = text.pop_front_char_run(char::is_whitespace)?;
         let (found, class) = taken.ok_or("a run")?;
-        same(turn.rt, found.as_str(), run);
-        same(turn.rt, class, is_space);
-        same(turn.rt, text.as_str(), rest);
+        same(found.as_str(), run)?;
+        same(class, is_space)?;
+        same(text.as_str(), rest)?;
     }
-    assert!(turn.rt; text.pop_front_char_run(char::is_whitespace)?.is_none());
-    Ok(())
+    same(
+        text.pop_front_char_run(char::is_whitespace)?.is_none(),
+        true,
+    )
 }
 
-fn push_latin_1_characters(turn: &Turn<impl Abort + AllocGlobal>) -> Result<(), Fail> {
+fn push_latin_1_characters(turn: &Turn) -> Result<(), Fail> {
     let mut text: Tendril<Latin1> = Tendril::new(turn.alloc());
     text.try_push_char('x')?;
     text.try_push_char('\0')?;
     text.try_push_char('\u{A0}')?;
-    same(
-        turn.rt,
-        text.try_push_char('\u{151}'),
-        Err(Refusal::NotInFormat),
-    );
-    turn.check(&text, b"x\0\xA0");
-    Ok(())
+    same(text.try_push_char('\u{151}'), Err(Refusal::NotInFormat))?;
+    check(&text, b"x\0\xA0")
 }
 
-fn convert_ascii(turn: &Turn<impl Abort + AllocGlobal>) -> Result<(), Fail> {
-    let text: Tendril<ASCII> = made!(
-        turn,
-        Tendril::try_from_byte_slice(turn.alloc(), b"hello, hello")
-    );
+// A text of ASCII.
+#[derive(Clone, Copy)]
+struct Hello;
+
+impl Make for Hello {
+    type Made = Tendril<ASCII>;
+
+    fn make(&self, alloc: Global) -> Result<Tendril<ASCII>, Refusal> {
+        Tendril::try_from_byte_slice(alloc, b"hello, hello")
+    }
+}
+
+fn convert_ascii(turn: &Turn) -> Result<(), Fail> {
+    let text = turn.make(&Hello)?;
     let text: Tendril<UTF8> = text.into_superset();
-    turn.check(&text, b"hello, hello");
+    check(&text, b"hello, hello")?;
     let text: Tendril<ASCII> = text.try_into_subset().ok().ok_or("ASCII")?;
-    turn.check(&text, b"hello, hello");
-    let text: StrTendril = made!(turn, str_to_tendril(turn.alloc(), "\u{151}"));
+    check(&text, b"hello, hello")?;
+    let text: StrTendril = turn.string("\u{151}")?;
     let refused: Result<Tendril<ASCII>, StrTendril> = text.try_into_subset();
     let text = refused.err().ok_or("not ASCII")?;
-    turn.check(&text, b"\xC5\x91");
-    Ok(())
+    check(&text, b"\xC5\x91")
 }
 
 #[test]
 fn a_request_behind_the_session(rt: HostRuntime) -> Result<(), Fail> {
-    refuse(&rt, REQUESTS + 1)
+    refuse(rt.alloc(), REQUESTS + 1)
 }

@@ -2,7 +2,7 @@
 ghost use Rattle.std.specs.Prelude.{◌≡◌, ◌<◌, ◌≤◌, ◌+◌, ◌++◌, [], length, take, drop, max, true, false, IfErr, OnOk, OnErr};
 ghost use Rattle.tendril_block.specs.Outcomes.{MemoryMay};
 
-use crate::storage::{Held, INLINE, Storage, put};
+use crate::storage::{Held, INLINE, Storage, put, word_of};
 use tendril_block::{Atomicity, MAX_LEN, Refusal};
 
 impl<A: Atomicity> Storage<A> {
@@ -188,13 +188,53 @@ impl<A: Atomicity> Storage<A> {
 }
 
 // Whether these bytes stand in a block from a place on.
+#[inline(always)]
 fn stands_at<A: Atomicity>(block: &A::Block, at: usize, more: &[u8]) -> bool
     requires { at ≤ length (A.bytes_of block.now) }
     ensures within { result ≡ true → at + length more.now ≤ length (A.bytes_of block.now) }
     ensures bytes { result ≡ true → take (length more.now) (drop at (A.bytes_of block.now)) ≡ more.now }
 {
     let all = A::bytes(block);
-    more.len() <= all.len() - at && &all[at..at + more.len()] == more
+    more.len() <= all.len() - at && same_bytes(&all[at..at + more.len()], more)
+}
+
+// Whether two lists of bytes of one length are the same. Short ones are compared where they stand: std's comparison is a
+// call, which costs as much as all the rest of a push.
+#[inline(always)]
+fn same_bytes(left: &[u8], right: &[u8]) -> bool
+    requires { length left.now ≡ length right.now }
+    ensures { result ≡ true → left.now ≡ right.now }
+{
+    let len = left.len();
+    if len < 8 || len > 40 {
+        return left == right;
+    }
+    same_words(left, right)
+}
+
+// Five words, which may overlap, cover all bytes. No branch depends on their number.
+#[inline(always)]
+fn same_words(left: &[u8], right: &[u8]) -> bool
+    requires long { 8 ≤ length left.now }
+    requires short { length left.now ≤ 40 }
+    requires len { length left.now ≡ length right.now }
+    ensures { result ≡ true → left.now ≡ right.now }
+{
+    let last = left.len() - 8;
+    same_word(left, right, 0)
+        & same_word(left, right, last.min(8))
+        & same_word(left, right, last.min(16))
+        & same_word(left, right, last.min(24))
+        & same_word(left, right, last)
+}
+
+#[inline(always)]
+fn same_word(left: &[u8], right: &[u8], at: usize) -> bool
+    requires in_left { at + 8 ≤ length left.now }
+    requires in_right { at + 8 ≤ length right.now }
+    ensures { result ≡ true → take 8 (drop at left.now) ≡ take 8 (drop at right.now) }
+{
+    word_of(&left[at..at + 8]) == word_of(&right[at..at + 8])
 }
 
 /// Puts two parts in the place of all bytes of a block from `keep` on, where no other holds it and there is memory.

@@ -1,19 +1,19 @@
 //! Streams of pieces: the worked rows of the decoder. What was sent before a refused request stays sent.
 
 use crate::tests::events::{Due, INCOMPLETE, INVALID, REPLACED, check_all, check_failed};
-use crate::tests::{Turn, same};
-use std::process::Abort;
+use std::alloc::Global;
 use std::test::Fail;
+use tendril::ByteTendril;
 use tendril::block::Refusal;
-use tendril::{ByteTendril, slice_to_tendril};
+use tendril_bench_refusals::{Turn, same};
 use tendril_stream::{Accumulate, TendrilSink, Utf8LossyDecoder, decode_pieces};
 
 /// How many requests the session makes.
 const REQUESTS: usize = 17;
 
 // Runs the session, of which the request of this number is refused.
-fn refuse(rt: &(impl Abort + AllocGlobal), number: usize) -> Result<(), Fail> {
-    let turn = Turn::new(rt, number)?;
+fn refuse(alloc: Global, number: usize) -> Result<(), Fail> {
+    let turn = Turn::new(alloc, number)?;
     decode_a_character_across_pieces(&turn)?;
     decode_a_broken_carry(&turn)?;
     decode_ends_inside_characters(&turn)?;
@@ -22,13 +22,13 @@ fn refuse(rt: &(impl Abort + AllocGlobal), number: usize) -> Result<(), Fail> {
     turn.end()
 }
 
-fn decode_a_character_across_pieces(turn: &Turn<impl Abort + AllocGlobal>) -> Result<(), Fail> {
+fn decode_a_character_across_pieces(turn: &Turn) -> Result<(), Fail> {
     let due = [Due::Text("xy"), Due::Text("\u{A66E}z"), Due::Text("w")];
     check_stream(turn, &[b"xy\xEA", b"\x99\xAEzw"], &due)
 }
 
 // Each piece is long enough to want memory itself.
-fn decode_a_broken_carry(turn: &Turn<impl Abort + AllocGlobal>) -> Result<(), Fail> {
+fn decode_a_broken_carry(turn: &Turn) -> Result<(), Fail> {
     let due = [
         Due::Text("xyxyxyxyxy"),
         INVALID,
@@ -53,12 +53,12 @@ fn decode_a_broken_carry(turn: &Turn<impl Abort + AllocGlobal>) -> Result<(), Fa
     )
 }
 
-fn decode_ends_inside_characters(turn: &Turn<impl Abort + AllocGlobal>) -> Result<(), Fail> {
+fn decode_ends_inside_characters(turn: &Turn) -> Result<(), Fail> {
     check_stream(turn, &[b"\xEA\x99"], &[INCOMPLETE, REPLACED])?;
     check_stream(turn, &[b"\xEF\xBF\xBD"], &[REPLACED])
 }
 
-fn decode_carries_after_carries(turn: &Turn<impl Abort + AllocGlobal>) -> Result<(), Fail> {
+fn decode_carries_after_carries(turn: &Turn) -> Result<(), Fail> {
     let due = [
         Due::Text("\u{151}"),
         INVALID,
@@ -72,42 +72,34 @@ fn decode_carries_after_carries(turn: &Turn<impl Abort + AllocGlobal>) -> Result
     check_stream(turn, &[b"", b"\xEA", b"", b"\x99", b"", b"\xAE", b""], &due)
 }
 
-fn check_stream(
-    turn: &Turn<impl Abort + AllocGlobal>,
-    pieces: &[&[u8]],
-    due: &[Due],
-) -> Result<(), Fail> {
+fn check_stream(turn: &Turn, pieces: &[&[u8]], due: &[Due]) -> Result<(), Fail> {
     let mut decoder: Utf8LossyDecoder<Accumulate> = Utf8LossyDecoder::new(
         turn.alloc(),
         Accumulate::new(turn.alloc()),
     );
     for bytes in pieces.iter() {
-        let piece: ByteTendril = made!(turn, slice_to_tendril(turn.alloc(), bytes));
+        let piece: ByteTendril = turn.bytes(bytes)?;
         if let Err(refusal) = decoder.process(piece) {
             return check_failed(turn, decoder, refusal, due);
         }
     }
     match decoder.finish() {
-        Ok(events) => check_all(turn, events.as_slice(), due),
+        Ok(events) => check_all(events.as_slice(), due),
         Err(refusal) => meet_in_a_sink(turn, refusal),
     }
 }
 
 // The sink refused, and is gone.
-fn meet_in_a_sink(turn: &Turn<impl Abort + AllocGlobal>, refusal: Refusal) -> Result<(), Fail> {
-    same(turn.rt, refusal, Refusal::SinkRefused);
+fn meet_in_a_sink(turn: &Turn, refusal: Refusal) -> Result<(), Fail> {
+    same(refusal, Refusal::SinkRefused)?;
     turn.count()
 }
 
-fn decode_all_pieces(turn: &Turn<impl Abort + AllocGlobal>) -> Result<(), Fail> {
-    let mut pieces = Vec::new(turn.alloc());
-    own!(turn, pieces.reserve(2));
-    let first: ByteTendril = made!(
-        turn,
-        slice_to_tendril(turn.alloc(), b"foofoofoo\xFFbar\xEA")
-    );
+fn decode_all_pieces(turn: &Turn) -> Result<(), Fail> {
+    let mut pieces = turn.room(2)?;
+    let first: ByteTendril = turn.bytes(b"foofoofoo\xFFbar\xEA")?;
     pieces.push(first)?;
-    let last: ByteTendril = made!(turn, slice_to_tendril(turn.alloc(), b"\x99\xAE0123456789"));
+    let last: ByteTendril = turn.bytes(b"\x99\xAE0123456789")?;
     pieces.push(last)?;
     match decode_pieces(turn.alloc(), pieces) {
         Ok(events) => {
@@ -119,7 +111,7 @@ fn decode_all_pieces(turn: &Turn<impl Abort + AllocGlobal>) -> Result<(), Fail> 
                 Due::Text("\u{A66E}0"),
                 Due::Text("123456789"),
             ];
-            check_all(turn, events.as_slice(), &due)
+            check_all(events.as_slice(), &due)
         }
         Err(refusal) => meet_in_a_sink(turn, refusal),
     }
@@ -127,5 +119,5 @@ fn decode_all_pieces(turn: &Turn<impl Abort + AllocGlobal>) -> Result<(), Fail> 
 
 #[test]
 fn a_request_behind_the_session(rt: HostRuntime) -> Result<(), Fail> {
-    refuse(&rt, REQUESTS + 1)
+    refuse(rt.alloc(), REQUESTS + 1)
 }

@@ -1,13 +1,13 @@
 //! Tables. A refused push hands its slot back, a refused run changes no slot, and the jobs of refused workers come
 //! back.
 
-use crate::tests::{OneClass, Turn, same};
-use std::process::Abort;
+use crate::tests::{OneClass, reserve_slots};
 use std::test::Fail;
 use std::thread::Threads;
 use tendril::block::Refusal;
 use tendril::fmt::Bytes;
-use tendril::{Atomic, Tendril, slice_to_tendril};
+use tendril::{Atomic, Tendril};
+use tendril_bench_refusals::{Turn, check, same};
 use tendril_run::{ByteList, Command, Gate, Job, Outcome, Reply, Slot, Table, run, run_tables};
 
 /// How many requests the session makes.
@@ -25,62 +25,48 @@ impl Gate for NoGate {
 type Jobs = Vec<Job<OneClass, NoGate>>;
 
 // Runs the session, of which the request of this number is refused.
-fn refuse(rt: &(impl Abort + AllocGlobal + Threads), number: usize) -> Result<(), Fail> {
-    let turn = Turn::new(rt, number)?;
-    let text: Tendril<Bytes, Atomic> = made!(turn, slice_to_tendril(turn.alloc(), BEFORE));
+fn refuse(rt: &(impl AllocGlobal + Threads), number: usize) -> Result<(), Fail> {
+    let turn = Turn::new(rt.alloc(), number)?;
+    let text: Tendril<Bytes, Atomic> = turn.bytes(BEFORE)?;
     push_slots(&turn, &text)?;
     run_three_commands(&turn, &text)?;
-    run_two_workers(&turn, &text)?;
-    turn.check(&text, BEFORE);
+    run_two_workers(rt, &turn, &text)?;
+    check(&text, BEFORE)?;
     turn.end()
 }
 
 // The bytes of a slot that has some.
-fn check_slot(
-    turn: &Turn<impl Abort + AllocGlobal>,
-    slot: Option<&Slot<Atomic>>,
-    due: &[u8],
-) -> Result<(), Fail> {
+fn check_slot(slot: Option<&Slot<Atomic>>, due: &[u8]) -> Result<(), Fail> {
     let Some(Slot::Bytes(text)) = slot else {
         return Err(Fail::from("no bytes"));
     };
-    same(turn.rt, text.as_byte_slice(), due);
-    Ok(())
+    check(text, due)
 }
 
-fn push_slots(
-    turn: &Turn<impl Abort + AllocGlobal>,
-    text: &Tendril<Bytes, Atomic>,
-) -> Result<(), Fail> {
+fn push_slots(turn: &Turn, text: &Tendril<Bytes, Atomic>) -> Result<(), Fail> {
     let mut table = Table::new(turn.alloc());
     for count in 0..9usize {
         if let Err((refusal, slot)) = table.push(Slot::Bytes(text.clone()?)) {
             turn.meet(refusal)?;
-            check_slot(turn, Some(&slot), BEFORE)?;
-            assert!(turn.rt; table.slot(count).is_none());
+            check_slot(Some(&slot), BEFORE)?;
+            same(table.slot(count).is_none(), true)?;
             table.push(slot).ok().ok_or("push")?;
         }
     }
     for count in 0..9usize {
-        check_slot(turn, table.slot(count), BEFORE)?;
+        check_slot(table.slot(count), BEFORE)?;
     }
     Ok(())
 }
 
-fn table_of(
-    turn: &Turn<impl Abort + AllocGlobal>,
-    text: &Tendril<Bytes, Atomic>,
-) -> Result<Table<Atomic>, Fail> {
+fn table_of(turn: &Turn, text: &Tendril<Bytes, Atomic>) -> Result<Table<Atomic>, Fail> {
     let mut table = Table::new(turn.alloc());
-    made!(turn, table.reserve_slots(1));
+    reserve_slots(turn, &mut table, 1)?;
     table.push(Slot::Bytes(text.clone()?)).ok().ok_or("push")?;
     Ok(table)
 }
 
-fn run_three_commands(
-    turn: &Turn<impl Abort + AllocGlobal>,
-    text: &Tendril<Bytes, Atomic>,
-) -> Result<(), Fail> {
+fn run_three_commands(turn: &Turn, text: &Tendril<Bytes, Atomic>) -> Result<(), Fail> {
     let mut table = table_of(turn, text)?;
     let commands = [
         Command::PopFront(0, 4),
@@ -91,25 +77,24 @@ fn run_three_commands(
         Ok(replies) => replies,
         Err(refusal) => {
             turn.meet(refusal)?;
-            check_slot(turn, table.slot(0), BEFORE)?;
-            assert!(turn.rt; table.slot(1).is_none());
+            check_slot(table.slot(0), BEFORE)?;
+            same(table.slot(1).is_none(), true)?;
             run(&mut table, &commands, &OneClass)?
         }
     };
-    same(turn.rt, replies.len(), 3);
-    check_slot(turn, table.slot(0), b"456789abcdef")?;
-    check_slot(turn, table.slot(1), b"456789abcd")
+    same(replies.len(), 3)?;
+    check_slot(table.slot(0), b"456789abcdef")?;
+    check_slot(table.slot(1), b"456789abcd")
 }
 
 // A job of one command on a table whose slot 0 shares the text.
 fn add_job(
-    turn: &Turn<impl Abort + AllocGlobal>,
+    turn: &Turn,
     text: &Tendril<Bytes, Atomic>,
     jobs: &mut Jobs,
     command: Command,
 ) -> Result<(), Fail> {
-    let mut commands = Vec::new(turn.alloc());
-    own!(turn, commands.reserve(1));
+    let mut commands = turn.room(1)?;
     commands.push(command)?;
     let job = Job {
         table: table_of(turn, text)?,
@@ -117,34 +102,40 @@ fn add_job(
         class: OneClass,
         gate: NoGate,
     };
-    own!(turn, jobs.reserve(1));
+    push_job(turn, jobs, job)
+}
+
+fn push_job(turn: &Turn, jobs: &mut Jobs, job: Job<OneClass, NoGate>) -> Result<(), Fail> {
+    if jobs.reserve(1).is_err() {
+        turn.count()?;
+        jobs.reserve(1)?;
+    }
     jobs.push(job)?;
     Ok(())
 }
 
-fn push_one(turn: &Turn<impl Abort + AllocGlobal>) -> Result<Command, Fail> {
-    let bytes = own!(turn, Vec::from_slice(turn.alloc(), b"X"));
+fn push_one(turn: &Turn) -> Result<Command, Fail> {
+    let bytes = turn.list(b"X")?;
     Ok(Command::PushBytes(0, ByteList::new(bytes)))
 }
 
 fn run_two_workers(
-    turn: &Turn<impl Abort + AllocGlobal + Threads>,
+    rt: &impl Threads,
+    turn: &Turn,
     text: &Tendril<Bytes, Atomic>,
 ) -> Result<(), Fail> {
     let mut jobs = Vec::new(turn.alloc());
     add_job(turn, text, &mut jobs, push_one(turn)?)?;
     add_job(turn, text, &mut jobs, Command::PopFront(0, 4))?;
-    let outcomes = match run_tables(turn.rt, turn.alloc(), jobs) {
+    let outcomes = match run_tables(rt, turn.alloc(), jobs) {
         Ok(outcomes) => outcomes,
         Err((refusal, jobs)) => {
             turn.meet(refusal)?;
-            check_jobs(turn, &jobs)?;
-            run_tables(turn.rt, turn.alloc(), jobs)
-                .ok()
-                .ok_or("run_tables")?
+            check_jobs(&jobs)?;
+            run_tables(rt, turn.alloc(), jobs).ok().ok_or("run_tables")?
         }
     };
-    same(turn.rt, outcomes.len(), 2);
+    same(outcomes.len(), 2)?;
     let mut outcomes = outcomes.into_iter();
     let first = outcomes.next().ok_or("an outcome")?;
     check_outcome(turn, first, push_one(turn)?, b"0123456789abcdefX")?;
@@ -153,18 +144,18 @@ fn run_two_workers(
 }
 
 // All jobs came back, with their tables.
-fn check_jobs(turn: &Turn<impl Abort + AllocGlobal>, jobs: &Jobs) -> Result<(), Fail> {
-    same(turn.rt, jobs.len(), 2);
+fn check_jobs(jobs: &Jobs) -> Result<(), Fail> {
+    same(jobs.len(), 2)?;
     for job in jobs.iter() {
-        same(turn.rt, job.commands.len(), 1);
-        check_slot(turn, job.table.slot(0), BEFORE)?;
+        same(job.commands.len(), 1)?;
+        check_slot(job.table.slot(0), BEFORE)?;
     }
     Ok(())
 }
 
 // The job is done, or its command was refused and is run again here. A thread that wasn't started has lost its table.
 fn check_outcome(
-    turn: &Turn<impl Abort + AllocGlobal>,
+    turn: &Turn,
     outcome: Outcome,
     command: Command,
     after: &[u8],
@@ -175,7 +166,7 @@ fn check_outcome(
                 turn.meet(refusal)?;
                 table
             }
-            _ => return check_slot(turn, table.slot(0), after),
+            _ => return check_slot(table.slot(0), after),
         },
         Outcome::Refused(table, refusal) => {
             turn.meet(refusal)?;
@@ -183,11 +174,14 @@ fn check_outcome(
         }
         Outcome::NotStarted => return turn.count(),
     };
-    check_slot(turn, table.slot(0), BEFORE)?;
+    check_slot(table.slot(0), BEFORE)?;
     let commands = [command];
     let replies = run(&mut table, &commands, &OneClass)?;
-    assert!(turn.rt; !matches!(replies.first(), Some(Reply::Refused(Refusal::Memory))));
-    check_slot(turn, table.slot(0), after)
+    same(
+        !matches!(replies.first(), Some(Reply::Refused(Refusal::Memory))),
+        true,
+    )?;
+    check_slot(table.slot(0), after)
 }
 
 #[test]

@@ -1,10 +1,11 @@
 //! A session of commands, run one by one on one table, with the texts of all slots after each reply.
 
-use crate::tests::{OneClass, Turn, same};
-use std::process::Abort;
+use crate::tests::OneClass;
+use std::alloc::Global;
 use std::test::Fail;
 use tendril::NonAtomic;
 use tendril::block::Refusal;
+use tendril_bench_refusals::{Make, Turn, same};
 use tendril_run::{Command, Reply, Slot, Table, parse_line, print_reply, run};
 
 /// How many requests the session makes.
@@ -98,23 +99,61 @@ const ROWS: [(&[u8], &str, &[u8]); 23] = [
 ];
 
 // Runs the session, of which the request of this number is refused.
-fn refuse(rt: &(impl Abort + AllocGlobal), number: usize) -> Result<(), Fail> {
-    let turn = Turn::new(rt, number)?;
+fn refuse(alloc: Global, number: usize) -> Result<(), Fail> {
+    let turn = Turn::new(alloc, number)?;
     let mut table = Table::<NonAtomic>::new(turn.alloc());
     let mut before = None;
     for (line, printed, after) in ROWS {
-        match made!(turn, parse_line(turn.alloc(), line)) {
-            Some(command) => {
-                let reply = carry_out(&turn, &mut table, command, before)?;
-                let text = made!(turn, print_reply(turn.alloc(), &reply));
-                same(rt, text.as_str(), printed);
-            }
-            None => same(rt, "malformed", printed),
-        }
-        check_slots(&turn, &table, Some(after))?;
+        run_line(&turn, &mut table, line, printed, before)?;
+        check_slots(&table, Some(after))?;
         before = Some(after);
     }
     turn.end()
+}
+
+// A line that is parsed: no command where it is malformed.
+#[derive(Clone, Copy)]
+struct Parsed {
+    line: &'static [u8],
+}
+
+impl Make for Parsed {
+    type Made = Option<Command>;
+
+    fn make(&self, alloc: Global) -> Result<Option<Command>, Refusal> {
+        parse_line(alloc, self.line)
+    }
+}
+
+// A reply that is printed.
+#[derive(Clone, Copy)]
+struct Printed<'a> {
+    reply: &'a Reply,
+}
+
+impl<'a> Make for Printed<'a> {
+    type Made = String;
+
+    fn make(&self, alloc: Global) -> Result<String, Refusal> {
+        print_reply(alloc, self.reply)
+    }
+}
+
+fn run_line(
+    turn: &Turn,
+    table: &mut Table<NonAtomic>,
+    line: &'static [u8],
+    printed: &str,
+    before: Option<&[u8]>,
+) -> Result<(), Fail> {
+    match turn.make(&Parsed { line })? {
+        Some(command) => {
+            let reply = carry_out(turn, table, command, before)?;
+            let text = turn.make(&Printed { reply: &reply })?;
+            same(text.as_str(), printed)
+        }
+        None => same("malformed", printed),
+    }
 }
 
 fn bytes_of(slot: &Slot<NonAtomic>) -> &[u8] {
@@ -129,26 +168,21 @@ fn bytes_of(slot: &Slot<NonAtomic>) -> &[u8] {
 }
 
 // The table has these slots, and no others.
-fn check_slots(
-    turn: &Turn<impl Abort + AllocGlobal>,
-    table: &Table<NonAtomic>,
-    due: Option<&[u8]>,
-) -> Result<(), Fail> {
+fn check_slots(table: &Table<NonAtomic>, due: Option<&[u8]>) -> Result<(), Fail> {
     let mut count = 0usize;
     if let Some(texts) = due {
         for text in texts.split(|byte| *byte == b'|') {
             let slot = table.slot(count).ok_or("a slot")?;
-            same(turn.rt, bytes_of(slot), text);
+            same(bytes_of(slot), text)?;
             count = count.saturating_add(1);
         }
     }
-    assert!(turn.rt; table.slot(count).is_none());
-    Ok(())
+    same(table.slot(count).is_none(), true)
 }
 
 // A command that is refused for memory leaves all slots as they were, and is run again.
 fn carry_out(
-    turn: &Turn<impl Abort + AllocGlobal>,
+    turn: &Turn,
     table: &mut Table<NonAtomic>,
     command: Command,
     before: Option<&[u8]>,
@@ -158,7 +192,7 @@ fn carry_out(
         Ok(reply) => Ok(reply),
         Err(refusal) => {
             turn.meet(refusal)?;
-            check_slots(turn, table, before)?;
+            check_slots(table, before)?;
             Ok(run_one(table, &commands)?)
         }
     }
@@ -175,5 +209,5 @@ fn run_one(table: &mut Table<NonAtomic>, commands: &[Command]) -> Result<Reply, 
 
 #[test]
 fn a_request_behind_the_session(rt: HostRuntime) -> Result<(), Fail> {
-    refuse(&rt, REQUESTS + 1)
+    refuse(rt.alloc(), REQUESTS + 1)
 }

@@ -1,11 +1,10 @@
 //! For the other files: what a decoder has to send, and what it sent.
 
-use crate::tests::{Turn, same};
 use std::borrow::CowStr;
-use std::process::Abort;
 use std::test::Fail;
 use tendril::ByteTendril;
 use tendril::block::Refusal;
+use tendril_bench_refusals::{Turn, same};
 use tendril_stream::{Accumulate, Event, TendrilSink, Utf8LossyDecoder};
 
 /// The words of an error where bytes are no character.
@@ -33,44 +32,35 @@ fn is_due(event: &Event, due: &Due) -> bool {
 }
 
 /// What was sent is a front of what is due.
-fn check_front(
-    turn: &Turn<impl Abort + AllocGlobal>,
-    events: &[Event],
-    due: &[Due],
-) -> Result<(), Fail> {
-    assert!(turn.rt; events.len() <= due.len());
+fn check_front(events: &[Event], due: &[Due]) -> Result<(), Fail> {
+    same(events.len() <= due.len(), true)?;
     for (event, due) in events.iter().zip(due) {
-        assert!(turn.rt; is_due(event, due));
+        same(is_due(event, due), true)?;
     }
     Ok(())
 }
 
 /// What was sent is what is due.
-pub(super) fn check_all(
-    turn: &Turn<impl Abort + AllocGlobal>,
-    events: &[Event],
-    due: &[Due],
-) -> Result<(), Fail> {
-    same(turn.rt, events.len(), due.len());
-    check_front(turn, events, due)
+pub(super) fn check_all(events: &[Event], due: &[Due]) -> Result<(), Fail> {
+    same(events.len(), due.len())?;
+    check_front(events, due)
 }
 
 /// A decoder whose sink refused a call: what was sent stays sent, and from then on it fails and sends nothing.
 pub(super) fn check_failed(
-    turn: &Turn<impl Abort + AllocGlobal>,
+    turn: &Turn,
     mut decoder: Utf8LossyDecoder<Accumulate>,
     refusal: Refusal,
     due: &[Due],
 ) -> Result<(), Fail> {
-    same(turn.rt, refusal, Refusal::SinkRefused);
+    same(refusal, Refusal::SinkRefused)?;
     turn.count()?;
     let sent = decoder.inner_sink().events().len();
     let answer = decoder.process(ByteTendril::new(turn.alloc()));
-    assert!(turn.rt; answer == Err(Refusal::Failed));
+    same(answer == Err(Refusal::Failed), true)?;
     let answer = decoder.error(CowStr::Borrowed("more"));
-    assert!(turn.rt; answer == Err(Refusal::Failed));
-    same(turn.rt, decoder.inner_sink().events().len(), sent);
-    check_front(turn, decoder.inner_sink().events(), due)?;
-    assert!(turn.rt; matches!(decoder.finish(), Err(Refusal::Failed)));
-    Ok(())
+    same(answer == Err(Refusal::Failed), true)?;
+    same(decoder.inner_sink().events().len(), sent)?;
+    check_front(decoder.inner_sink().events(), due)?;
+    same(matches!(decoder.finish(), Err(Refusal::Failed)), true)
 }

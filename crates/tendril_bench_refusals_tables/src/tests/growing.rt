@@ -1,9 +1,10 @@
 //! A part of a text that is pushed onto itself in a table asks for no memory, where the same bytes stand behind it.
 
-use crate::tests::{OneClass, Turn, same};
-use std::process::Abort;
+use crate::tests::{OneClass, reserve_slots};
+use std::alloc::Global;
 use std::test::Fail;
-use tendril::{ByteTendril, NonAtomic, slice_to_tendril};
+use tendril::{ByteTendril, NonAtomic};
+use tendril_bench_refusals::{Turn, check, same};
 use tendril_run::{Command, Reply, Slot, Table};
 
 /// How many requests the session makes.
@@ -12,36 +13,33 @@ const REQUESTS: usize = 2;
 const TWENTY: &[u8] = b"01234567890123456789";
 
 // The bytes of a slot are the twenty digits.
-fn check_slot(
-    turn: &Turn<impl Abort + AllocGlobal>,
-    table: &Table<NonAtomic>,
-    slot: usize,
-) -> Result<(), Fail> {
+fn check_slot(table: &Table<NonAtomic>, slot: usize) -> Result<(), Fail> {
     let Some(Slot::Bytes(text)) = table.slot(slot) else {
         return Err(Fail::from("no text in the slot"));
     };
-    same(turn.rt, text.as_byte_slice(), TWENTY);
-    Ok(())
+    check(text, TWENTY)
 }
 
 // Runs the session, of which the request of this number is refused.
-fn refuse(rt: &(impl Abort + AllocGlobal), number: usize) -> Result<(), Fail> {
-    let turn = Turn::new(rt, number)?;
-    let text: ByteTendril = made!(turn, slice_to_tendril(turn.alloc(), TWENTY));
+fn refuse(alloc: Global, number: usize) -> Result<(), Fail> {
+    let turn = Turn::new(alloc, number)?;
+    let text: ByteTendril = turn.bytes(TWENTY)?;
     let mut table = Table::<NonAtomic>::new(turn.alloc());
-    made!(turn, table.reserve_slots(3));
+    reserve_slots(&turn, &mut table, 3)?;
     let part = text.try_subtendril(0, 10)?;
     table.push(Slot::Bytes(text)).ok().ok_or("push")?;
     table.push(Slot::Bytes(part)).ok().ok_or("push")?;
-    assert!(turn.rt; table.room() >= 1);
+    if table.room() == 0 {
+        return Err(Fail::from("no room for a slot"));
+    }
     let reply = table.step(&Command::PushTendril(1, 1), &OneClass);
-    assert!(turn.rt; matches!(reply, Reply::Done));
-    check_slot(&turn, &table, 0)?;
-    check_slot(&turn, &table, 1)?;
+    same(matches!(reply, Reply::Done), true)?;
+    check_slot(&table, 0)?;
+    check_slot(&table, 1)?;
     turn.end()
 }
 
 #[test]
 fn a_request_behind_the_session(rt: HostRuntime) -> Result<(), Fail> {
-    refuse(&rt, REQUESTS + 1)
+    refuse(rt.alloc(), REQUESTS + 1)
 }

@@ -1,31 +1,31 @@
 //! Reading, into texts and into decoders. Nothing that was read is lost by a refused request.
 
 use crate::tests::events::{Due, INVALID, REPLACED, check_all, check_failed};
-use crate::tests::{Turn, same};
 use std::borrow::CowStr;
 use std::fs::{self, Files};
 use std::io::{self, Error, ErrorKind, Read};
-use std::process::Abort;
 use std::test::Fail;
 use tendril::block::Refusal;
-use tendril::{ByteTendril, StrTendril, slice_to_tendril};
+use tendril::{ByteTendril, NonAtomic, StrTendril};
+use tendril_bench_refusals::{Turn, check, same};
 use tendril_stream::{
-    Accumulate, Counted, Event, ReadExt, Stopped, TendrilSink, Utf8LossyDecoder, from_file,
-    read_decoded,
+    Accumulate, Counted, Event, ReadExt, Stopped, TendrilSink, Utf8LossyDecoder, decode_reader,
+    from_file, read_decoded,
 };
 
 /// How many requests the session makes.
-const REQUESTS: usize = 18;
+const REQUESTS: usize = 23;
 
 // Runs the session, of which the request of this number is refused.
-fn refuse(rt: &(impl Abort + AllocGlobal + Files), number: usize) -> Result<(), Fail> {
-    let turn = Turn::new(rt, number)?;
+fn refuse(rt: &(impl AllocGlobal + Files), number: usize) -> Result<(), Fail> {
+    let turn = Turn::new(rt.alloc(), number)?;
     read_into_a_text(&turn)?;
     read_a_long_text(&turn)?;
     for most in 0..3 {
         read_with_a_limit(&turn, most)?;
     }
-    read_a_file(&turn)?;
+    decode_a_reader(&turn)?;
+    read_a_file(rt, &turn)?;
     turn.end()
 }
 
@@ -64,7 +64,7 @@ impl Read for Parts {
 
 // Reads behind a text, and once more where that is refused for memory: the text then has what was read.
 fn read_on(
-    turn: &Turn<impl Abort + AllocGlobal>,
+    turn: &Turn,
     parts: &mut Parts,
     text: &mut ByteTendril,
     whole: &[u8],
@@ -78,18 +78,17 @@ fn read_on(
     let front = whole
         .get(..whole.len().saturating_sub(left))
         .ok_or("a front")?;
-    same(turn.rt, text.as_byte_slice(), front);
+    check(text, front)?;
     Ok(Counted::new(&mut *parts).read_to_tendril(text, 9))
 }
 
-fn read_into_a_text(turn: &Turn<impl Abort + AllocGlobal>) -> Result<(), Fail> {
-    let mut text: ByteTendril = made!(turn, slice_to_tendril(turn.alloc(), b"ab"));
+fn read_into_a_text(turn: &Turn) -> Result<(), Fail> {
+    let mut text: ByteTendril = turn.bytes(b"ab")?;
     let mut parts = Parts::new(b"cd", 2);
     parts.fails = true;
     let answer = read_on(turn, &mut parts, &mut text, b"abcd")?;
-    assert!(turn.rt; answer == Err(Refusal::Io));
-    turn.check(&text, b"abcd");
-    Ok(())
+    same(answer == Err(Refusal::Io), true)?;
+    check(&text, b"abcd")
 }
 
 const LONG: &[u8] = b"0123456789012345678901234567890123456789012345678901234567890123456789";
@@ -97,22 +96,21 @@ const LONG: &[u8] = b"0123456789012345678901234567890123456789012345678901234567
 const BEHIND: &[u8] =
     b"abcdefghij0123456789012345678901234567890123456789012345678901234567890123456789";
 
-fn read_a_long_text(turn: &Turn<impl Abort + AllocGlobal>) -> Result<(), Fail> {
-    let mut text: ByteTendril = made!(turn, slice_to_tendril(turn.alloc(), b"abcdefghij"));
+fn read_a_long_text(turn: &Turn) -> Result<(), Fail> {
+    let mut text: ByteTendril = turn.bytes(b"abcdefghij")?;
     let clone = text.clone()?;
     let mut parts = Parts::new(LONG, 30);
     let answer = read_on(turn, &mut parts, &mut text, BEHIND)?;
-    assert!(turn.rt; answer.is_ok());
-    turn.check(&text, BEHIND);
-    turn.check(&clone, b"abcdefghij");
-    Ok(())
+    same(answer.is_ok(), true)?;
+    check(&text, BEHIND)?;
+    check(&clone, b"abcdefghij")
 }
 
 type Decoder = Utf8LossyDecoder<Accumulate>;
 
 const DUE: [Due; 4] = [Due::Text("foo"), INVALID, REPLACED, Due::Text("bar")];
 
-fn read_with_a_limit(turn: &Turn<impl Abort + AllocGlobal>, most: u64) -> Result<(), Fail> {
+fn read_with_a_limit(turn: &Turn, most: u64) -> Result<(), Fail> {
     let decoder = Utf8LossyDecoder::new(turn.alloc(), Accumulate::new(turn.alloc()));
     let mut parts = Parts::new(b"foo\xFFbar", 9);
     let mut answer = read_decoded(turn.alloc(), decoder, &mut Counted::new(&mut parts), most);
@@ -123,24 +121,24 @@ fn read_with_a_limit(turn: &Turn<impl Abort + AllocGlobal>, most: u64) -> Result
     let due = DUE.get(..sent).ok_or("events")?;
     match answer {
         Ok(events) => {
-            same(turn.rt, most, 2);
-            check_all(turn, events.as_slice(), due)
+            same(most, 2)?;
+            check_all(events.as_slice(), due)
         }
         Err(stopped) => {
             let decoder = stopped.sink.ok_or("the sink comes back")?;
             if stopped.refusal == Refusal::SinkRefused {
                 return check_failed(turn, decoder, stopped.refusal, due);
             }
-            assert!(turn.rt; stopped.refusal == Refusal::TooManyReads && most < 2);
-            same(turn.rt, u64::from(parts.reads), most);
-            check_all(turn, decoder.inner_sink().events(), due)
+            same(stopped.refusal == Refusal::TooManyReads && most < 2, true)?;
+            same(u64::from(parts.reads), most)?;
+            check_all(decoder.inner_sink().events(), due)
         }
     }
 }
 
 // Where there was no memory for a read's buffer, the decoder goes on with what is left to read.
 fn read_again(
-    turn: &Turn<impl Abort + AllocGlobal>,
+    turn: &Turn,
     stopped: Stopped<Decoder>,
     parts: &mut Parts,
     most: u64,
@@ -152,8 +150,41 @@ fn read_again(
     let decoder = stopped.sink.ok_or("the sink comes back")?;
     let sent = if parts.bytes.is_empty() { DUE.len() } else { 0 };
     let due = DUE.get(..sent).ok_or("events")?;
-    check_all(turn, decoder.inner_sink().events(), due)?;
+    check_all(decoder.inner_sink().events(), due)?;
     Ok(read_decoded(turn.alloc(), decoder, &mut Counted::new(parts), most))
+}
+
+// A reader that the decoder has alone.
+fn decode_a_reader(turn: &Turn) -> Result<(), Fail> {
+    let mut reader = Counted::new(Parts::new(b"foo\xFFbar", 9));
+    let mut answer = decode_reader::<NonAtomic, _>(turn.alloc(), &mut reader, 9);
+    if let Err(stopped) = answer {
+        answer = decode_on(turn, stopped, &mut reader)?;
+    }
+    match answer {
+        Ok(events) => check_all(events.as_slice(), &DUE),
+        Err(stopped) => {
+            let decoder = stopped.sink.ok_or("the sink comes back")?;
+            check_failed(turn, decoder, stopped.refusal, &DUE)
+        }
+    }
+}
+
+// Where there was no memory for a read's buffer, the one read that gives bytes was before it or comes behind it.
+fn decode_on(
+    turn: &Turn,
+    stopped: Stopped<Decoder>,
+    reader: &mut Counted<Parts>,
+) -> Result<Result<Vec<Event>, Stopped<Decoder>>, Fail> {
+    if stopped.refusal != Refusal::Memory {
+        return Ok(Err(stopped));
+    }
+    turn.meet(Refusal::Memory)?;
+    let decoder = stopped.sink.ok_or("the sink comes back")?;
+    let events = decoder.inner_sink().events();
+    let sent = if events.is_empty() { 0 } else { DUE.len() };
+    check_all(events, DUE.get(..sent).ok_or("events")?)?;
+    Ok(read_decoded(turn.alloc(), decoder, reader, 9))
 }
 
 // A sink that joins the texts that it is sent.
@@ -190,43 +221,53 @@ const NAME: &str = "tendril_bench_refusals.txt";
 
 type FileDecoder = Utf8LossyDecoder<Joined>;
 
-fn read_file(
-    turn: &Turn<impl Abort + AllocGlobal + Files>,
-) -> Result<StrTendril, Stopped<FileDecoder>> {
+fn read_file(rt: &impl Files, turn: &Turn) -> Result<StrTendril, Stopped<FileDecoder>> {
     let sink = Joined {
         text: StrTendril::new(turn.alloc()),
     };
     let decoder: FileDecoder = Utf8LossyDecoder::new(turn.alloc(), sink);
-    from_file(turn.rt, turn.alloc(), decoder, NAME, 9)
+    from_file(rt, turn.alloc(), decoder, NAME, 9)
 }
 
-fn read_a_file(turn: &Turn<impl Abort + AllocGlobal + Files>) -> Result<(), Fail> {
-    own!(
-        turn,
-        fs::write(turn.rt, NAME, b"foo\xFFbar\xEA\x99\xAE".as_slice())
-    );
-    let mut answer = read_file(turn);
+fn read_a_file(rt: &impl Files, turn: &Turn) -> Result<(), Fail> {
+    write_the_file(rt, turn)?;
+    let mut answer = read_file(rt, turn);
     if let Err(stopped) = answer {
         meet_in_a_file(turn, stopped)?;
-        answer = read_file(turn);
+        answer = read_file(rt, turn);
     }
-    own!(turn, fs::remove_file(turn.rt, NAME));
+    remove_the_file(rt, turn)?;
     let text = answer.ok().ok_or("the file is read to its end")?;
-    same(turn.rt, text.as_str(), "foo\u{FFFD}bar\u{A66E}");
+    same(text.as_str(), "foo\u{FFFD}bar\u{A66E}")
+}
+
+fn write_the_file(rt: &impl Files, turn: &Turn) -> Result<(), Fail> {
+    let bytes: &[u8] = b"foo\xFFbar\xEA\x99\xAE";
+    if fs::write(rt, NAME, bytes).is_err() {
+        turn.count()?;
+        fs::write(rt, NAME, bytes)?;
+    }
+    Ok(())
+}
+
+fn remove_the_file(rt: &impl Files, turn: &Turn) -> Result<(), Fail> {
+    if fs::remove_file(rt, NAME).is_err() {
+        turn.count()?;
+        fs::remove_file(rt, NAME)?;
+    }
     Ok(())
 }
 
 // Reading stopped for want of a read's buffer or in the sink, which comes back with a front of what is due.
-fn meet_in_a_file(
-    turn: &Turn<impl Abort + AllocGlobal>,
-    stopped: Stopped<FileDecoder>,
-) -> Result<(), Fail> {
+fn meet_in_a_file(turn: &Turn, stopped: Stopped<FileDecoder>) -> Result<(), Fail> {
     turn.count()?;
-    assert!(turn.rt; matches!(stopped.refusal, Refusal::Memory | Refusal::SinkRefused));
+    same(
+        matches!(stopped.refusal, Refusal::Memory | Refusal::SinkRefused),
+        true,
+    )?;
     let decoder = stopped.sink.ok_or("the sink comes back")?;
     let text = &decoder.inner_sink().text;
-    assert!(turn.rt; "foo\u{FFFD}bar\u{A66E}".starts_with(text.as_str()));
-    Ok(())
+    same("foo\u{FFFD}bar\u{A66E}".starts_with(text.as_str()), true)
 }
 
 #[test]

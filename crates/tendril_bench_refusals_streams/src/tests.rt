@@ -1,0 +1,5 @@
+//! Each file has a session, as `tendril_bench_refusals` says.
+
+mod events;
+mod reading;
+mod streams;

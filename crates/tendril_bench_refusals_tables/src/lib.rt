@@ -1,0 +1,5 @@
+//! Sessions of tables and commands, of which each request for memory is refused in turn.
+#![tactic(auto)]
+
+#[cfg(test)]
+mod tests;
