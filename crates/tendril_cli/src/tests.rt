@@ -75,45 +75,63 @@ fn the_last_line_may_lack_its_line_feed(rt: HostRuntime) {
 }
 
 #[test]
-fn texts_of_many_lengths(rt: HostRuntime) -> Result<(), Fail> {
+fn texts_of_many_lengths(rt: HostRuntime) {
     let alloc = rt.alloc();
     for len in [7u32, 8, 9, 1000000] {
         let mut script = Vec::new(alloc);
         let mut text = Vec::new(alloc);
         for _ in 0..len {
-            text.extend_from_slice(b"a5")?;
+            text.extend_from_slice(b"a5").expect(&rt, "accepted");
         }
-        script.extend_from_slice(b"from bytes ")?;
-        script.extend_from_slice(text.as_slice())?;
-        script.extend_from_slice(b"\nclone 0\npush 1 5A\ntext 0\ntext 1\n")?;
+        script
+            .extend_from_slice(b"from bytes ")
+            .expect(&rt, "accepted");
+        script
+            .extend_from_slice(text.as_slice())
+            .expect(&rt, "accepted");
+        script
+            .extend_from_slice(b"\nclone 0\npush 1 5A\ntext 0\ntext 1\n")
+            .expect(&rt, "accepted");
 
         let mut printed = Vec::new(alloc);
-        printed.extend_from_slice(b"slot 0\nslot 1\nok\nbytes ")?;
-        printed.extend_from_slice(text.as_slice())?;
-        printed.extend_from_slice(b"\nbytes ")?;
-        printed.extend_from_slice(text.as_slice())?;
-        printed.extend_from_slice(b"5a\n")?;
+        printed
+            .extend_from_slice(b"slot 0\nslot 1\nok\nbytes ")
+            .expect(&rt, "accepted");
+        printed
+            .extend_from_slice(text.as_slice())
+            .expect(&rt, "accepted");
+        printed
+            .extend_from_slice(b"\nbytes ")
+            .expect(&rt, "accepted");
+        printed
+            .extend_from_slice(text.as_slice())
+            .expect(&rt, "accepted");
+        printed.extend_from_slice(b"5a\n").expect(&rt, "accepted");
 
         let seen = run_program(alloc, &[], script.as_slice());
         assert_eq!(rt; seen.status, 0);
         assert!(rt; seen.out.as_slice() == printed.as_slice(), "length {len}");
     }
-    Ok(())
 }
 
 #[test]
-fn a_script_of_a_hundred_thousand_lines(rt: HostRuntime) -> Result<(), Fail> {
+fn a_script_of_a_hundred_thousand_lines(rt: HostRuntime) {
     let alloc = rt.alloc();
-    let mut script = Vec::from_slice(alloc, b"from bytes 303132333435363738\n")?;
-    let mut printed = Vec::from_slice(alloc, b"slot 0\n")?;
+    let mut script = Vec::from_slice(alloc, b"from bytes 303132333435363738\n").expect(
+        &rt, "accepted",
+    );
+    let mut printed = Vec::from_slice(alloc, b"slot 0\n").expect(&rt, "accepted");
     for _ in 0..50000 {
-        script.extend_from_slice(b"push 0 61\nclone 7\n")?;
-        printed.extend_from_slice(b"ok\nrefused 13 NoSuchSlot\n")?;
+        script
+            .extend_from_slice(b"push 0 61\nclone 7\n")
+            .expect(&rt, "accepted");
+        printed
+            .extend_from_slice(b"ok\nrefused 13 NoSuchSlot\n")
+            .expect(&rt, "accepted");
     }
     let seen = run_program(alloc, &["run"], script.as_slice());
     assert_eq!(rt; seen.status, 0);
     assert!(rt; seen.out.as_slice() == printed.as_slice());
-    Ok(())
 }
 
 #[test]
@@ -201,13 +219,17 @@ impl Write for Fills {
 }
 
 #[test]
-fn a_writer_that_fails(rt: HostRuntime) -> Result<(), Fail> {
+fn a_writer_that_fails(rt: HostRuntime) {
     let alloc = rt.alloc();
     let mut script = Vec::new(alloc);
     let mut printed = Vec::new(alloc);
     for _ in 0..5000 {
-        script.extend_from_slice(b"text 0\n")?;
-        printed.extend_from_slice(b"refused 13 NoSuchSlot\n")?;
+        script
+            .extend_from_slice(b"text 0\n")
+            .expect(&rt, "accepted");
+        printed
+            .extend_from_slice(b"refused 13 NoSuchSlot\n")
+            .expect(&rt, "accepted");
     }
     // At its first write, at a later one, in the middle of a chunk, and for want of memory.
     for (most, kind) in [
@@ -230,5 +252,4 @@ fn a_writer_that_fails(rt: HostRuntime) -> Result<(), Fail> {
         assert!(rt; printed.starts_with(out.bytes.as_slice()));
         assert_eq!(rt; err.as_slice(), b"tendril: refused 9 Io\n".as_slice());
     }
-    Ok(())
 }

@@ -1,9 +1,11 @@
 -- A decoder over a sink of which something is known by what it was told.
-use Rattle.std.specs.Prelude.{◌≡◌, ℕ, List, [], ◌++◌}
+use Rattle.std.specs.Prelude.{◌≡◌, ℕ, ◌⊎◌, List, [], ◌++◌, flat_map, Option, Some, None}
+use Rattle.std.specs.Iterator.{YieldsThen}
+use Rattle.tendril_block.specs.declared.refusal.Refusal.{Refusal}
 use Rattle.tendril_text.specs.Texts.{Text}
 use Rattle.tendril_lossy.specs.Lossy.{Told, due, due_open, kept}
-use Rattle.tendril_stream.specs.Decoders.{Decodes, Ends}
-use Rattle.tendril_stream.specs.Sinks.{Sent, Piece, told_of}
+use Rattle.tendril_stream.specs.Decoders.{Decodes, Ends, EndStops}
+use Rattle.tendril_stream.specs.Sinks.{Sent, Piece, Stops, told_of}
 
 -- what is known of a sink after it was told a list is known of it after an accepted call too, with what that tells behind
 abbrev pub GoesOn : {S : Type 0} → (S → Sent → S → Type 0) → (S → List Told → Type 0) → Type 0
@@ -20,3 +22,14 @@ pub record Composes {S O : Type 0} (takes : S → Sent → S → Type 0) (finish
   pub begins : (sink : S) → after sink [] → StandsAt after sink [] []
   pub goes_on : (sink next : S) (k l b : List ℕ) (piece : Text) → StandsAt after sink k b → Decodes takes sink k (Piece piece) next l → StandsAt after next l (b ++ piece.bytes)
   pub ends : (sink : S) (k b : List ℕ) (out : O) → StandsAt after sink k b → Ends takes finishes sink k out → (last : S) × after last (due b) × finishes last out
+
+-- The pieces of an iterator were decoded from the stream's beginning, up to the one of which the rest was refused, or up to
+-- the end, which was. By then the sink was told what is due of those before, and of that one or of the end a beginning.
+pub record PiecesStop {I It S : Type 0} (becomes : I → It → Type 0) (steps : It → Option Text → It → Type 0) (takes : S → Sent → S → Type 0) (refuses : S → Sent → Refusal → S → Type 0) (ends : S → Refusal → Type 0) (after : S → List Told → Type 0) (pieces : I) (refusal : Refusal) : Type 0 where
+  pub iterator : It
+  pub made : becomes pieces iterator
+  pub read : List Text
+  pub last : It
+  pub sink : S
+  pub tells : after sink (due_open (flat_map (λ p. p.bytes) read))
+  pub stop : ((p : Text) × YieldsThen steps iterator read (Some p) last × (s : S) × Stops takes refuses p sink (due_open (kept (flat_map (λ p. p.bytes) read) ++ p.bytes)) refusal s) ⊎ (YieldsThen steps iterator read None last × EndStops takes refuses ends sink (kept (flat_map (λ p. p.bytes) read)) refusal)

@@ -1,8 +1,9 @@
 //! A stream in any pieces.
-ghost use Rattle.std.specs.Prelude.{◌≡◌, ◌⊎◌, List, [], None, flat_map, IfOk, IfErr};
+ghost use Rattle.std.specs.Prelude.{◌≡◌, List, [], None, flat_map, IfOk, IfErr};
 ghost use Rattle.std.specs.Iterator.{IsFiniteIterable, YieldsThen};
 ghost use Rattle.tendril_text.specs.Texts.{Text};
 ghost use Rattle.tendril_lossy.specs.Lossy.{due};
+ghost use Rattle.tendril_stream.specs.Compositions.{PiecesStop};
 ghost use Rattle.tendril_stream.specs.Events.{sent};
 ghost use Rattle.tendril_stream.specs.Sinks.{told};
 
@@ -23,7 +24,9 @@ pub fn decode_pieces<A: Atomicity, I: IntoIterator<Item = ByteTendril<A>>>(
     ensures ok { IfOk result (λ events. (it : I.IntoIter) × (end : I.IntoIter) × (read : List Text)
         × I.into_iter_gives pieces it × YieldsThen I.IntoIter.next_gives it read None end
         × (told (sent events.items) ≡ due (flat_map (λ p. p.bytes) read))) }
-    ensures refusal { IfErr result (λ r. (r ≡ Refusal.Count) ⊎ (r ≡ Refusal.SinkRefused)) }
+    ensures refusal { IfErr result (λ r. PiecesStop I.into_iter_gives I.IntoIter.next_gives
+        ⟦<Accumulate<A> as TendrilSink<StrTendril<A>>>⟧.takes ⟦<Accumulate<A> as TendrilSink<StrTendril<A>>>⟧.refuses
+        ⟦<Accumulate<A> as TendrilSink<StrTendril<A>>>⟧.ends ⟦<Accumulate<A> as Tracks<StrTendril<A>>>⟧.after pieces r) }
 {
     decode_pieces_into(alloc, Accumulate::new(alloc), pieces)
 }
@@ -39,7 +42,8 @@ pub fn decode_pieces_into<
     ensures ok { IfOk result (λ out. (it : I.IntoIter) × (end : I.IntoIter) × (read : List Text)
         × I.into_iter_gives pieces it × YieldsThen I.IntoIter.next_gives it read None end
         × ((last : S) × S.after last (due (flat_map (λ p. p.bytes) read)) × S.finishes last out)) }
-    ensures refusal { IfErr result (λ r. (r ≡ Refusal.Count) ⊎ (r ≡ Refusal.SinkRefused)) }
+    ensures refusal { IfErr result (λ r.
+        PiecesStop I.into_iter_gives I.IntoIter.next_gives S.takes S.refuses S.ends S.after pieces r) }
 {
     Utf8LossyDecoder::new(alloc, sink).from_iter(pieces)
 }

@@ -31,40 +31,50 @@ fn pushes_in_a_format_of_a_users_own(rt: HostRuntime) -> Result<(), Fail> {
 }
 
 #[test]
-fn surrogates_meet_inline(rt: HostRuntime) -> Result<(), Fail> {
-    let mut text: Wtf8Tendril = Tendril::try_from_byte_slice(rt.alloc(), b"aaaa\xed\xa0\xbd")?;
-    text.try_push_bytes(b"\xed\xb2\xa9")?;
+fn surrogates_meet_inline(rt: HostRuntime) {
+    let mut text: Wtf8Tendril = Tendril::try_from_byte_slice(
+        rt.alloc(),
+        b"aaaa\xed\xa0\xbd",
+    ).expect(&rt, "accepted");
+    text.try_push_bytes(b"\xed\xb2\xa9").expect(&rt, "accepted");
     same(&rt, text.as_byte_slice(), "aaaa\u{1f4a9}".as_bytes());
     assert!(rt; !text.is_shared());
-    Ok(())
 }
 
 #[test]
-fn surrogates_meet_across_the_inline_length(rt: HostRuntime) -> Result<(), Fail> {
+fn surrogates_meet_across_the_inline_length(rt: HostRuntime) {
     for len in [3usize, 4, 5, 6, 20] {
         let mut text: Wtf8Tendril = Tendril::try_from_byte_slice(
             rt.alloc(),
             &b"aaaaaaaaaaaaaaaaaaaa"[..len],
-        )?;
-        text.try_push_bytes(b"\xed\xa0\xbd")?;
-        let clone = text.clone()?;
-        text.try_push_bytes(b"\xed\xb2\xa9bcdefghi")?;
-        let (_, joined) = text.as_byte_slice().split_at_checked(len).ok_or("short")?;
+        ).expect(&rt, "accepted");
+        text.try_push_bytes(b"\xed\xa0\xbd").expect(&rt, "accepted");
+        let clone = text.clone().expect(&rt, "accepted");
+        text.try_push_bytes(b"\xed\xb2\xa9bcdefghi")
+            .expect(&rt, "accepted");
+        let (_, joined) = text
+            .as_byte_slice()
+            .split_at_checked(len)
+            .expect(&rt, "short");
         assert!(rt;
             joined == "\u{1f4a9}bcdefghi".as_bytes(),
             "{len} bytes before"
         );
-        let (_, kept) = clone.as_byte_slice().split_at_checked(len).ok_or("short")?;
+        let (_, kept) = clone
+            .as_byte_slice()
+            .split_at_checked(len)
+            .expect(&rt, "short");
         assert!(rt; kept == b"\xed\xa0\xbd".as_slice(), "the clone of {len}");
     }
-    Ok(())
 }
 
 #[test]
 fn lone_lead_before_a_pair(rt: HostRuntime) -> Result<(), Fail> {
-    let mut text: Wtf8Tendril = Tendril::try_from_byte_slice(rt.alloc(), b"\xed\xa0\xbb")?;
-    text.try_push_bytes(b"\xed\xa0\xbd")?;
-    text.try_push_bytes(b"\xed\xb2\xa9")?;
+    let mut text: Wtf8Tendril = Tendril::try_from_byte_slice(rt.alloc(), b"\xed\xa0\xbb").expect(
+        &rt, "accepted",
+    );
+    text.try_push_bytes(b"\xed\xa0\xbd").expect(&rt, "accepted");
+    text.try_push_bytes(b"\xed\xb2\xa9").expect(&rt, "accepted");
     let joined = b"\xed\xa0\xbb\xf0\x9f\x92\xa9".as_slice();
     same(&rt, text.as_byte_slice(), joined);
     let Err(text) = text.try_reinterpret::<UTF8>() else {
@@ -83,18 +93,22 @@ fn unjoined_pair_refused(rt: HostRuntime) {
 }
 
 #[test]
-fn halves_of_a_pair(rt: HostRuntime) -> Result<(), Fail> {
+fn halves_of_a_pair(rt: HostRuntime) {
     let text: ByteTendril = Tendril::try_from_byte_slice(
         rt.alloc(),
         b"aaaaaa\xed\xa0\xbd\xed\xb2\xa9aaaaaa",
-    )?;
-    let Ok(mut front) = text.try_subtendril(0, 9)?.try_reinterpret::<WTF8>() else {
-        return Err(Fail::from("the front is WTF-8"));
-    };
-    let Ok(end) = text.try_subtendril(9, 9)?.try_reinterpret::<WTF8>() else {
-        return Err(Fail::from("the end is WTF-8"));
-    };
-    front.push_tendril(&end)?;
+    ).expect(&rt, "accepted");
+    let mut front = text
+        .try_subtendril(0, 9)
+        .expect(&rt, "accepted")
+        .try_reinterpret::<WTF8>()
+        .expect(&rt, "the front is WTF-8");
+    let end = text
+        .try_subtendril(9, 9)
+        .expect(&rt, "accepted")
+        .try_reinterpret::<WTF8>()
+        .expect(&rt, "the end is WTF-8");
+    front.push_tendril(&end).expect(&rt, "accepted");
     same(
         &rt,
         front.as_byte_slice(),
@@ -102,26 +116,26 @@ fn halves_of_a_pair(rt: HostRuntime) -> Result<(), Fail> {
     );
     same(&rt, front.len32(), 16);
     same(&rt, text.len32(), 18);
-    Ok(())
 }
 
 #[test]
-fn ascii_within_utf8(rt: HostRuntime) -> Result<(), Fail> {
-    let text: AsciiTendril = Tendril::try_from_byte_slice(rt.alloc(), b"hello")?;
+fn ascii_within_utf8(rt: HostRuntime) {
+    let text: AsciiTendril = Tendril::try_from_byte_slice(rt.alloc(), b"hello").expect(
+        &rt, "accepted",
+    );
     same(&rt, text.as_superset::<UTF8>().as_str(), "hello");
     let text: StrTendril = text.into_superset();
     same(&rt, text.as_byte_slice(), b"hello".as_slice());
     assert!(rt; text.try_as_subset::<ASCII>().is_ok());
-    let Ok(text) = text.try_into_subset::<ASCII>() else {
-        return Err(Fail::from("hello is ASCII"));
-    };
+    let text = text
+        .try_into_subset::<ASCII>()
+        .expect(&rt, "hello is ASCII");
     same(&rt, text.into_bytes().as_byte_slice(), b"hello".as_slice());
-    Ok(())
 }
 
 #[test]
 fn no_ascii_in_a_long_character(rt: HostRuntime) -> Result<(), Fail> {
-    let text: StrTendril = str_to_tendril(rt.alloc(), "\u{151}")?;
+    let text: StrTendril = str_to_tendril(rt.alloc(), "\u{151}").expect(&rt, "accepted");
     same(
         &rt,
         text.try_as_subset::<ASCII>().err(),
@@ -135,17 +149,23 @@ fn no_ascii_in_a_long_character(rt: HostRuntime) -> Result<(), Fail> {
 }
 
 #[test]
-fn views_in_another_format(rt: HostRuntime) -> Result<(), Fail> {
-    let text: ByteTendril = Tendril::try_from_byte_slice(rt.alloc(), b"xy\xff")?;
+fn views_in_another_format(rt: HostRuntime) {
+    let text: ByteTendril = Tendril::try_from_byte_slice(rt.alloc(), b"xy\xff").expect(
+        &rt, "accepted",
+    );
     same(
         &rt,
         text.try_reinterpret_view::<UTF8>().err(),
         Some(Refusal::Invalid),
     );
-    let text: ByteTendril = Tendril::try_from_byte_slice(rt.alloc(), b"xy\xc5\x8b")?;
+    let text: ByteTendril = Tendril::try_from_byte_slice(rt.alloc(), b"xy\xc5\x8b").expect(
+        &rt, "accepted",
+    );
     same(
         &rt,
-        text.try_reinterpret_view::<UTF8>()?.as_str(),
+        text.try_reinterpret_view::<UTF8>()
+            .expect(&rt, "accepted")
+            .as_str(),
         "xy\u{14b}",
     );
     same(
@@ -156,5 +176,4 @@ fn views_in_another_format(rt: HostRuntime) -> Result<(), Fail> {
     );
     let text: ByteTendril = text.reinterpret_without_validating();
     same(&rt, text.len32(), 4);
-    Ok(())
 }

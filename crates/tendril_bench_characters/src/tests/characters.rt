@@ -1,7 +1,6 @@
 //! Characters: their encodings in each format, and the places of a text's own.
 
 use crate::tests::same;
-use std::test::Fail;
 use tendril_bench::callers::leading_digits;
 use tendril_bench::doubled::Doubled;
 use tendril_fmt::fmt::{
@@ -135,7 +134,7 @@ fn an_encoding_is_the_bytes_that_it_was_made_of(rt: HostRuntime) {
 }
 
 #[test]
-fn places_in_utf8_are_those_of_the_bytes(rt: HostRuntime) -> Result<(), Fail> {
+fn places_in_utf8_are_those_of_the_bytes(rt: HostRuntime) {
     let text = "f\u{151}o-\u{4E2D}\u{1F4A9}z";
     let want = [
         (0, 'f'),
@@ -146,19 +145,19 @@ fn places_in_utf8_are_those_of_the_bytes(rt: HostRuntime) -> Result<(), Fail> {
         (8, '\u{1F4A9}'),
         (12, 'z'),
     ];
-    let items: Vec<(usize, char)> = Utf8CharIndices::new(text.as_bytes()).collect(rt.alloc())?;
+    let items: Vec<(usize, char)> = Utf8CharIndices::new(text.as_bytes())
+        .collect(rt.alloc())
+        .expect(&rt, "accepted");
     same(&rt, items.as_slice(), want.as_slice());
-    Ok(())
 }
 
 #[test]
-fn each_byte_is_a_character_of_latin1(rt: HostRuntime) -> Result<(), Fail> {
+fn each_byte_is_a_character_of_latin1(rt: HostRuntime) {
     let want = [(0, 'x'), (1, '\0'), (2, '\u{A0}'), (3, '\u{FF}'), (4, 'y')];
-    let items: Vec<(usize, char)> = SingleByteCharIndices::new(b"x\0\xA0\xFFy").collect(
-        rt.alloc(),
-    )?;
+    let items: Vec<(usize, char)> = SingleByteCharIndices::new(b"x\0\xA0\xFFy")
+        .collect(rt.alloc())
+        .expect(&rt, "accepted");
     same(&rt, items.as_slice(), want.as_slice());
-    Ok(())
 }
 
 #[test]

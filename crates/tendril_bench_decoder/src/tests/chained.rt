@@ -50,13 +50,15 @@ fn texts_that_are_decoded_again(rt: HostRuntime) -> Result<(), Fail> {
     let mut pieces = Vec::new(alloc);
     let mut same_pieces = Vec::new(alloc);
     for part in parts {
-        let piece: ByteTendril = slice_to_tendril(alloc, part)?;
-        same_pieces.push(piece.clone()?)?;
-        pieces.push(piece)?;
+        let piece: ByteTendril = slice_to_tendril(alloc, part).expect(&rt, "accepted");
+        same_pieces
+            .push(piece.clone().expect(&rt, "accepted"))
+            .expect(&rt, "accepted");
+        pieces.push(piece).expect(&rt, "accepted");
     }
     let inner = Utf8LossyDecoder::new(alloc, Accumulate::new(alloc));
     let outer: Utf8LossyDecoder<Relay> = Utf8LossyDecoder::new(alloc, Relay { decoder: inner });
-    let twice = outer.from_iter(pieces)?;
+    let twice = outer.from_iter(pieces).expect(&rt, "accepted");
     let once = decode_pieces(alloc, same_pieces)?;
     let joined = joined_events(&rt, &once)?;
     assert!(rt; !joined.is_empty());

@@ -73,7 +73,7 @@ fn check_streams(
 ) -> Result<(), Fail> {
     for number in 0..streams {
         let mut buffer = [0; 4];
-        let bytes = buffer.get_mut(..len).ok_or("at most four bytes")?;
+        let bytes = buffer.get_mut(..len).expect(rt, "at most four bytes");
         write_stream(bytes, number);
         let expected = slow_decode(rt.alloc(), bytes)?;
         check_cuttings(rt, bytes, cuttings, &expected)?;
@@ -94,8 +94,10 @@ fn a_lone_surrogate_in_every_cutting(rt: HostRuntime) -> Result<(), Fail> {
     let mark = "\u{FFFD}".as_bytes();
     let mut expected = Vec::new(rt.alloc());
     for _ in 0..3 {
-        expected.extend_from_slice(b"\xFFinvalid byte sequence\xFF")?;
-        expected.extend_from_slice(mark)?;
+        expected
+            .extend_from_slice(b"\xFFinvalid byte sequence\xFF")
+            .expect(&rt, "accepted");
+        expected.extend_from_slice(mark).expect(&rt, "accepted");
     }
     check_cuttings(&rt, b"\xED\xA0\xBF", 4, &expected)
 }

@@ -24,12 +24,10 @@ fn decode_file<F: Files>(
 #[test]
 fn a_file(rt: HostRuntime) -> Result<(), Fail> {
     let name = "tendril_bench_decoder_a_file.txt";
-    fs::write(&rt, name, b"foo\xFFbar\xEA\x99\xAE".as_slice())?;
+    fs::write(&rt, name, b"foo\xFFbar\xEA\x99\xAE".as_slice()).expect(&rt, "accepted");
     let read = decode_file(&rt, rt.alloc(), name, 9);
-    fs::remove_file(&rt, name)?;
-    let Ok(noted) = read else {
-        return Err(Fail::from("the file is read to its end"));
-    };
+    fs::remove_file(&rt, name).expect(&rt, "accepted");
+    let noted = read.ok().expect(&rt, "the file is read to its end");
     let due = [
         Due::Text("foo"),
         INVALID,
@@ -44,16 +42,16 @@ fn a_long_file(rt: HostRuntime) -> Result<(), Fail> {
     let name = "tendril_bench_decoder_a_long_file.txt";
     let mut bytes = Vec::new(rt.alloc());
     for _ in 0..10_000 {
-        bytes.extend_from_slice("\u{a66e}".as_bytes())?;
+        bytes
+            .extend_from_slice("\u{a66e}".as_bytes())
+            .expect(&rt, "accepted");
     }
-    fs::write(&rt, name, bytes.as_slice())?;
+    fs::write(&rt, name, bytes.as_slice()).expect(&rt, "accepted");
     // 4096 isn't a multiple of 3, so pieces end inside a character.
     let read = decode_file(&rt, rt.alloc(), name, 100);
-    fs::remove_file(&rt, name)?;
-    let Ok(noted) = read else {
-        return Err(Fail::from("the file is read to its end"));
-    };
-    let text = std::str::from_utf8(&bytes)?;
+    fs::remove_file(&rt, name).expect(&rt, "accepted");
+    let noted = read.ok().expect(&rt, "the file is read to its end");
+    let text = std::str::from_utf8(&bytes).expect(&rt, "accepted");
     noted.check(&rt, &[Due::Text(text)])
 }
 
@@ -63,7 +61,7 @@ fn a_file_that_is_not_there(rt: HostRuntime) -> Result<(), Fail> {
         return Err(Fail::from("there is no such file"));
     };
     same(&rt, stopped.refusal, Refusal::Io);
-    let decoder = stopped.sink.ok_or("the decoder comes back")?;
+    let decoder = stopped.sink.expect(&rt, "the decoder comes back");
     decoder.inner_sink().check(&rt, &[])
 }
 
@@ -73,6 +71,6 @@ fn a_folder(rt: HostRuntime) -> Result<(), Fail> {
         return Err(Fail::from("a folder can't be read"));
     };
     same(&rt, stopped.refusal, Refusal::Io);
-    let decoder = stopped.sink.ok_or("the decoder comes back")?;
+    let decoder = stopped.sink.expect(&rt, "the decoder comes back");
     decoder.inner_sink().check(&rt, &[])
 }

@@ -31,7 +31,7 @@ fn check_failed(
     due: &[Due],
 ) -> Result<(), Fail> {
     check_events(rt, decoder.inner_sink().events(), due)?;
-    let piece = slice_to_tendril(rt.alloc(), b"abc")?;
+    let piece = slice_to_tendril(rt.alloc(), b"abc").expect(rt, "accepted");
     assert!(rt; decoder.process(piece) == Err(Refusal::Failed));
     let answer = decoder.error(CowStr::Borrowed("more"));
     assert!(rt; answer == Err(Refusal::Failed));
@@ -42,9 +42,11 @@ fn check_failed(
 
 #[test]
 fn the_end_behind_a_piece_whose_block_is_full(rt: HostRuntime) -> Result<(), Fail> {
-    let piece: ByteTendril<ThreeHolders> = slice_to_tendril(rt.alloc(), ONE_FAULT)?;
-    let first = piece.clone()?;
-    let second = piece.clone()?;
+    let piece: ByteTendril<ThreeHolders> = slice_to_tendril(rt.alloc(), ONE_FAULT).expect(
+        &rt, "accepted",
+    );
+    let first = piece.clone().expect(&rt, "accepted");
+    let second = piece.clone().expect(&rt, "accepted");
     let mut decoder = new_decoder(rt.alloc());
     assert!(rt; decoder.process(piece) == Err(Refusal::Count));
     assert!(rt; matches!(decoder.finish(), Err(Refusal::Failed)));
@@ -55,9 +57,11 @@ fn the_end_behind_a_piece_whose_block_is_full(rt: HostRuntime) -> Result<(), Fai
 
 #[test]
 fn calls_behind_a_piece_whose_block_is_full(rt: HostRuntime) -> Result<(), Fail> {
-    let piece: ByteTendril<ThreeHolders> = slice_to_tendril(rt.alloc(), ONE_FAULT)?;
-    let _first = piece.clone()?;
-    let _second = piece.clone()?;
+    let piece: ByteTendril<ThreeHolders> = slice_to_tendril(rt.alloc(), ONE_FAULT).expect(
+        &rt, "accepted",
+    );
+    let _first = piece.clone().expect(&rt, "accepted");
+    let _second = piece.clone().expect(&rt, "accepted");
     let mut decoder = new_decoder(rt.alloc());
     assert!(rt; decoder.process(piece) == Err(Refusal::Count));
     check_failed(&rt, decoder, &[])
@@ -65,8 +69,10 @@ fn calls_behind_a_piece_whose_block_is_full(rt: HostRuntime) -> Result<(), Fail>
 
 #[test]
 fn what_was_sent_before_a_block_is_full(rt: HostRuntime) -> Result<(), Fail> {
-    let piece: ByteTendril<ThreeHolders> = slice_to_tendril(rt.alloc(), TWO_FAULTS)?;
-    let _clone = piece.clone()?;
+    let piece: ByteTendril<ThreeHolders> = slice_to_tendril(rt.alloc(), TWO_FAULTS).expect(
+        &rt, "accepted",
+    );
+    let _clone = piece.clone().expect(&rt, "accepted");
     let mut decoder = new_decoder(rt.alloc());
     assert!(rt; decoder.process(piece) == Err(Refusal::Count));
     check_failed(&rt, decoder, &[Due::Text("0123456789"), INVALID, REPLACED])
@@ -74,11 +80,13 @@ fn what_was_sent_before_a_block_is_full(rt: HostRuntime) -> Result<(), Fail> {
 
 #[test]
 fn a_piece_beside_one_clone(rt: HostRuntime) -> Result<(), Fail> {
-    let piece: ByteTendril<ThreeHolders> = slice_to_tendril(rt.alloc(), ONE_FAULT)?;
-    let _clone = piece.clone()?;
+    let piece: ByteTendril<ThreeHolders> = slice_to_tendril(rt.alloc(), ONE_FAULT).expect(
+        &rt, "accepted",
+    );
+    let _clone = piece.clone().expect(&rt, "accepted");
     let mut decoder = new_decoder(rt.alloc());
-    decoder.process(piece)?;
-    let events = decoder.finish()?;
+    decoder.process(piece).expect(&rt, "accepted");
+    let events = decoder.finish().expect(&rt, "accepted");
     let digits = Due::Text("0123456789");
     check_events(&rt, &events, &[digits, INVALID, REPLACED, digits])
 }

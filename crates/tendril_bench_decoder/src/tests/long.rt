@@ -98,7 +98,7 @@ fn check_long(rt: &(impl Abort + AllocGlobal), bytes: &[u8]) -> Result<(), Fail>
 // The pieces are decoded as the slow decoder decodes the whole.
 fn check_short(rt: &(impl Abort + AllocGlobal), bytes: &[u8]) -> Result<(), Fail> {
     let expected = slow_decode(rt.alloc(), bytes)?;
-    let events = decode_pieces(rt.alloc(), cut(rt.alloc(), bytes)?)?;
+    let events = decode_pieces(rt.alloc(), cut(rt.alloc(), bytes)?).expect(rt, "accepted");
     assert!(rt; joined_events(rt, &events)?.as_slice() == expected.as_slice());
     Ok(())
 }
@@ -107,12 +107,12 @@ fn check_short(rt: &(impl Abort + AllocGlobal), bytes: &[u8]) -> Result<(), Fail
 fn random_bytes_in_pieces(rt: HostRuntime) -> Result<(), Fail> {
     let bytes = random_bytes(rt.alloc(), LEN)?;
     check_long(&rt, &bytes)?;
-    check_short(&rt, bytes.get(..SHORT).ok_or("too short")?)
+    check_short(&rt, bytes.get(..SHORT).expect(&rt, "too short"))
 }
 
 #[test]
 fn faulty_text_in_pieces(rt: HostRuntime) -> Result<(), Fail> {
     let bytes = faulty_text(rt.alloc(), LEN)?;
     check_long(&rt, &bytes)?;
-    check_short(&rt, bytes.get(..SHORT).ok_or("too short")?)
+    check_short(&rt, bytes.get(..SHORT).expect(&rt, "too short"))
 }

@@ -153,7 +153,7 @@ fn check_read_from(rt: &(impl Abort + AllocGlobal), row: Row) -> Result<(), Fail
         }
         Err(stopped) => {
             same(rt, Some(stopped.refusal), row.stops);
-            let decoder = stopped.sink.ok_or("the decoder comes back")?;
+            let decoder = stopped.sink.expect(rt, "the decoder comes back");
             decoder.inner_sink().check(rt, row.due)?;
         }
     }
@@ -174,7 +174,7 @@ fn check_decode_reader<A: Atomicity>(
         }
         Err(stopped) => {
             same(rt, Some(stopped.refusal), row.stops);
-            let decoder = stopped.sink.ok_or("the decoder comes back")?;
+            let decoder = stopped.sink.expect(rt, "the decoder comes back");
             check_events(rt, decoder.inner_sink().events(), row.due)?;
         }
     }
@@ -192,7 +192,7 @@ fn check_accumulated(rt: &(impl Abort + AllocGlobal), row: Row) -> Result<(), Fa
         }
         Err(stopped) => {
             same(rt, Some(stopped.refusal), row.stops);
-            let decoder = stopped.sink.ok_or("the decoder comes back")?;
+            let decoder = stopped.sink.expect(rt, "the decoder comes back");
             let events = decoder.inner_sink().events();
             check_events(rt, events, row.due)?;
             events.len()
@@ -209,15 +209,17 @@ fn check_read_to_tendril<A: Atomicity>(
     before: &[u8],
 ) -> Result<(), Fail> {
     let mut script = Script::new(rt.alloc(), row.steps);
-    let mut text: ByteTendril<A> = ByteTendril::from_slice(rt.alloc(), before)?;
+    let mut text: ByteTendril<A> = ByteTendril::from_slice(rt.alloc(), before).expect(
+        rt, "accepted",
+    );
     let answer = Counted::new(&mut script).read_to_tendril(&mut text, row.most);
     match row.stops {
         None => assert!(rt; answer == Ok(row.read.len())),
         Some(refusal) => assert!(rt; answer == Err(refusal)),
     }
     let mut expected = Vec::new(rt.alloc());
-    expected.extend_from_slice(before)?;
-    expected.extend_from_slice(row.read)?;
+    expected.extend_from_slice(before).expect(rt, "accepted");
+    expected.extend_from_slice(row.read).expect(rt, "accepted");
     same(rt, text.as_byte_slice(), expected.as_slice());
     same(rt, script.offered.len(), row.reads);
     Ok(())
@@ -256,7 +258,7 @@ fn readers_that_are_read_into_a_text(rt: HostRuntime) -> Result<(), Fail> {
 #[test]
 fn a_reader_that_fails_behind_what_a_text_has(rt: HostRuntime) -> Result<(), Fail> {
     let mut script = Script::new(rt.alloc(), &[Step::Give(b"cd"), Step::Fail]);
-    let mut text: ByteTendril = ByteTendril::from_slice(rt.alloc(), b"ab")?;
+    let mut text: ByteTendril = ByteTendril::from_slice(rt.alloc(), b"ab").expect(&rt, "accepted");
     let answer = Counted::new(&mut script).read_to_tendril(&mut text, 5);
     assert!(rt; answer == Err(Refusal::Io));
     same(&rt, text.as_byte_slice(), b"abcd".as_slice());
@@ -270,9 +272,11 @@ fn a_decoder_that_came_back_goes_on(rt: HostRuntime) -> Result<(), Fail> {
     let Err(stopped) = decode_reader::<NonAtomic, _>(alloc, &mut reader, 9) else {
         return Err(Fail::from("the reader fails"));
     };
-    let mut decoder = stopped.sink.ok_or("the decoder comes back")?;
-    decoder.process(ByteTendril::from_slice(alloc, b"\x91cd")?)?;
-    let events = decoder.finish()?;
+    let mut decoder = stopped.sink.expect(&rt, "the decoder comes back");
+    decoder
+        .process(ByteTendril::from_slice(alloc, b"\x91cd").expect(&rt, "accepted"))
+        .expect(&rt, "accepted");
+    let events = decoder.finish().expect(&rt, "accepted");
     check_events(&rt, &events, &[Due::Text("ab\u{151}cd")])
 }
 
@@ -284,7 +288,7 @@ fn a_reader_that_is_interrupted_for_ever(rt: HostRuntime) -> Result<(), Fail> {
         return Err(Fail::from("the reader gives nothing"));
     };
     same(&rt, stopped.refusal, Refusal::TooManyReads);
-    let decoder = stopped.sink.ok_or("the decoder comes back")?;
+    let decoder = stopped.sink.expect(&rt, "the decoder comes back");
     assert!(rt; decoder.inner_sink().events().is_empty());
     same(&rt, reader.reads, 1000);
 

@@ -131,7 +131,7 @@ fn check_noted(rt: &(impl Abort + AllocGlobal), decoder: &Decoder, at: u32) -> R
     let noted = &decoder.inner_sink().noted;
     let count = at.saturating_sub(1) as usize;
     assert!(rt; noted.count == count, "call {at} is refused");
-    noted.check(rt, DUE.get(..count).ok_or("too many")?)
+    noted.check(rt, DUE.get(..count).expect(rt, "too many"))
 }
 
 // A decoder whose sink refused answers so from then on, and leaves the sink alone.
@@ -142,7 +142,7 @@ fn check_failed(
     calls: &Rc<Cell<u32>>,
 ) -> Result<(), Fail> {
     for bytes in [b"".as_slice(), b"abc", b"\xFF"] {
-        let piece: ByteTendril = slice_to_tendril(rt.alloc(), bytes)?;
+        let piece: ByteTendril = slice_to_tendril(rt.alloc(), bytes).expect(rt, "accepted");
         assert!(rt;
             decoder.process(piece) == Err(Refusal::Failed),
             "call {at} was refused"
@@ -204,7 +204,7 @@ fn no_call_is_refused(rt: HostRuntime) -> Result<(), Fail> {
     let mut decoder = Utf8LossyDecoder::new(rt.alloc(), sink);
     let (count, _) = send_pieces(rt.alloc(), &mut decoder)?;
     same(&rt, count, 3);
-    let sink = decoder.finish()?;
+    let sink = decoder.finish().expect(&rt, "accepted");
     same(&rt, sink.noted.count, 10);
     sink.noted.check(&rt, &DUE)?;
     same(&rt, calls.get(), LAST);
@@ -216,7 +216,9 @@ fn a_refused_error_of_the_caller(rt: HostRuntime) -> Result<(), Fail> {
     let calls = no_calls(rt.alloc())?;
     let sink = RefuseAt::new(rt.alloc(), 2, &calls)?;
     let mut decoder = Utf8LossyDecoder::new(rt.alloc(), sink);
-    decoder.process(slice_to_tendril(rt.alloc(), b"xy\xEA")?)?;
+    decoder
+        .process(slice_to_tendril(rt.alloc(), b"xy\xEA").expect(&rt, "accepted"))
+        .expect(&rt, "accepted");
     let answer = decoder.error(CowStr::Borrowed("more"));
     assert!(rt; answer == Err(Refusal::SinkRefused));
     check_failed(&rt, decoder, 2, &calls)
@@ -229,7 +231,9 @@ fn a_refused_end_inside_a_character(rt: HostRuntime) -> Result<(), Fail> {
         let calls = no_calls(rt.alloc())?;
         let sink = RefuseAt::new(rt.alloc(), at, &calls)?;
         let mut decoder: Decoder = Utf8LossyDecoder::new(rt.alloc(), sink);
-        decoder.process(slice_to_tendril(rt.alloc(), b"\xEA\x99")?)?;
+        decoder
+            .process(slice_to_tendril(rt.alloc(), b"\xEA\x99").expect(&rt, "accepted"))
+            .expect(&rt, "accepted");
         assert!(rt; matches!(decoder.finish(), Err(Refusal::SinkRefused)));
         same(&rt, calls.get(), at);
     }
@@ -262,7 +266,7 @@ fn a_refused_call_while_reading(rt: HostRuntime) -> Result<(), Fail> {
             stopped.refusal == Refusal::SinkRefused,
             "call {at} is refused"
         );
-        let decoder = stopped.sink.ok_or("the sink comes back")?;
+        let decoder = stopped.sink.expect(&rt, "the sink comes back");
         check_noted(&rt, &decoder, at)?;
         check_failed(&rt, decoder, at, &calls)?;
     }
@@ -286,8 +290,8 @@ fn a_refused_end_while_reading(rt: HostRuntime) -> Result<(), Fail> {
 fn reading_with_no_refused_call(rt: HostRuntime) -> Result<(), Fail> {
     let calls = no_calls(rt.alloc())?;
     let sink = RefuseAt::new(rt.alloc(), 0, &calls)?;
-    let Ok(sink) = read_pieces(rt.alloc(), sink) else {
-        return Err(Fail::from("no call is refused"));
-    };
+    let sink = read_pieces(rt.alloc(), sink)
+        .ok()
+        .expect(&rt, "no call is refused");
     sink.noted.check(&rt, &DUE)
 }

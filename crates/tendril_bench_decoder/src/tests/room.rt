@@ -61,15 +61,15 @@ fn short_reads_are_offered_what_is_left(rt: HostRuntime) -> Result<(), Fail> {
 #[test]
 fn a_clone_stays(rt: HostRuntime) -> Result<(), Fail> {
     for before in [b"ab".as_slice(), b"0123456789abcdef"] {
-        let mut text: ByteTendril = slice_to_tendril(rt.alloc(), before)?;
-        let clone = text.clone()?;
+        let mut text: ByteTendril = slice_to_tendril(rt.alloc(), before).expect(&rt, "accepted");
+        let clone = text.clone().expect(&rt, "accepted");
         let bytes = counted_bytes(rt.alloc(), 100)?;
         let answer = Counted::new(bytes.as_slice()).read_to_tendril(&mut text, 100);
         assert!(rt; answer == Ok(100));
         same(&rt, clone.as_byte_slice(), before);
         let mut expected = Vec::new(rt.alloc());
-        expected.extend_from_slice(before)?;
-        expected.extend_from_slice(&bytes)?;
+        expected.extend_from_slice(before).expect(&rt, "accepted");
+        expected.extend_from_slice(&bytes).expect(&rt, "accepted");
         same(&rt, text.as_byte_slice(), expected.as_slice());
     }
     Ok(())

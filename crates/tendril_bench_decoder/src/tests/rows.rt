@@ -105,10 +105,12 @@ fn check_row<A: Atomicity>(rt: &(impl Abort + AllocGlobal), row: Row) -> Result<
     check_events(rt, &events, due)?;
 
     let decoder: LossyDecoder<Accumulate<A>, A> = LossyDecoder::utf8(alloc, Accumulate::new(alloc));
-    let events = decoder.from_iter(pieces_of::<A>(alloc, parts)?)?;
+    let events = decoder
+        .from_iter(pieces_of::<A>(alloc, parts)?)
+        .expect(rt, "accepted");
     check_events(rt, &events, due)?;
 
-    let events = decode_pieces(alloc, pieces_of::<A>(alloc, parts)?)?;
+    let events = decode_pieces(alloc, pieces_of::<A>(alloc, parts)?).expect(rt, "accepted");
     check_events(rt, &events, due)
 }
 
@@ -129,7 +131,9 @@ fn rows_of_one_piece(rt: HostRuntime) -> Result<(), Fail> {
                 rt.alloc(),
                 Accumulate::new(rt.alloc()),
             );
-            let events = decoder.one(slice_to_tendril(rt.alloc(), part)?)?;
+            let events = decoder
+                .one(slice_to_tendril(rt.alloc(), part).expect(&rt, "accepted"))
+                .expect(&rt, "accepted");
             check_events(&rt, &events, due)?;
         }
     }
@@ -138,9 +142,9 @@ fn rows_of_one_piece(rt: HostRuntime) -> Result<(), Fail> {
 
 #[test]
 fn pieces_out_of_an_array(rt: HostRuntime) -> Result<(), Fail> {
-    let first: ByteTendril = slice_to_tendril(rt.alloc(), b"xy\xEA")?;
-    let second = slice_to_tendril(rt.alloc(), b"\x99\xAEzw")?;
-    let events = decode_pieces(rt.alloc(), [first, second])?;
+    let first: ByteTendril = slice_to_tendril(rt.alloc(), b"xy\xEA").expect(&rt, "accepted");
+    let second = slice_to_tendril(rt.alloc(), b"\x99\xAEzw").expect(&rt, "accepted");
+    let events = decode_pieces(rt.alloc(), [first, second]).expect(&rt, "accepted");
     check_events(&rt, &events, &[Due::Text("xy\u{a66e}zw")])
 }
 
@@ -150,10 +154,16 @@ fn an_error_leaves_what_is_kept(rt: HostRuntime) -> Result<(), Fail> {
         rt.alloc(),
         Accumulate::new(rt.alloc()),
     );
-    decoder.process(slice_to_tendril(rt.alloc(), b"ab\xEA\x99")?)?;
-    decoder.error(CowStr::Borrowed("the line was noisy"))?;
-    decoder.process(slice_to_tendril(rt.alloc(), b"\xAEc")?)?;
-    let events = decoder.finish()?;
+    decoder
+        .process(slice_to_tendril(rt.alloc(), b"ab\xEA\x99").expect(&rt, "accepted"))
+        .expect(&rt, "accepted");
+    decoder
+        .error(CowStr::Borrowed("the line was noisy"))
+        .expect(&rt, "accepted");
+    decoder
+        .process(slice_to_tendril(rt.alloc(), b"\xAEc").expect(&rt, "accepted"))
+        .expect(&rt, "accepted");
+    let events = decoder.finish().expect(&rt, "accepted");
     check_events(
         &rt,
         &events,
@@ -171,9 +181,11 @@ fn errors_with_nothing_kept(rt: HostRuntime) -> Result<(), Fail> {
         rt.alloc(),
         Accumulate::new(rt.alloc()),
     );
-    decoder.error(CowStr::Borrowed("first"))?;
-    decoder.error(CowStr::Borrowed(""))?;
-    let events = decoder.finish()?;
+    decoder
+        .error(CowStr::Borrowed("first"))
+        .expect(&rt, "accepted");
+    decoder.error(CowStr::Borrowed("")).expect(&rt, "accepted");
+    let events = decoder.finish().expect(&rt, "accepted");
     check_events(&rt, &events, &[Due::Error("first"), Due::Error("")])
 }
 
@@ -184,11 +196,16 @@ fn events_while_the_stream_goes_on(rt: HostRuntime) -> Result<(), Fail> {
         Accumulate::new(rt.alloc()),
     );
     assert!(rt; decoder.inner_sink().events().is_empty());
-    decoder.process(slice_to_tendril(rt.alloc(), b"ab\xFF\xEA")?)?;
+    decoder
+        .process(slice_to_tendril(rt.alloc(), b"ab\xFF\xEA").expect(&rt, "accepted"))
+        .expect(&rt, "accepted");
     let so_far = [Due::Text("ab"), INVALID, REPLACED];
     check_events(&rt, decoder.inner_sink().events(), &so_far)?;
-    decoder.inner_sink_mut().error(CowStr::Borrowed("between"))?;
-    let events = decoder.finish()?;
+    decoder
+        .inner_sink_mut()
+        .error(CowStr::Borrowed("between"))
+        .expect(&rt, "accepted");
+    let events = decoder.finish().expect(&rt, "accepted");
     let at_the_end = [
         Due::Text("ab"),
         INVALID,

@@ -21,7 +21,7 @@ fn left_of_a_long_text(alloc: Global) -> Result<ByteTendril, Fail> {
 #[test]
 fn a_push(rt: HostRuntime) -> Result<(), Fail> {
     let mut text = left_of_a_long_text(rt.alloc())?;
-    text.push_slice(b"abc")?;
+    text.push_slice(b"abc").expect(&rt, "accepted");
     same(&rt, text.as_byte_slice(), b"0123456789abc".as_slice());
     Ok(())
 }
@@ -29,7 +29,7 @@ fn a_push(rt: HostRuntime) -> Result<(), Fail> {
 #[test]
 fn zeros(rt: HostRuntime) -> Result<(), Fail> {
     let mut text = left_of_a_long_text(rt.alloc())?;
-    text.push_uninitialized(3)?;
+    text.push_uninitialized(3).expect(&rt, "accepted");
     same(
         &rt,
         text.as_byte_slice(),
@@ -41,7 +41,7 @@ fn zeros(rt: HostRuntime) -> Result<(), Fail> {
 #[test]
 fn room(rt: HostRuntime) -> Result<(), Fail> {
     let mut text = left_of_a_long_text(rt.alloc())?;
-    text.reserve(10)?;
+    text.reserve(10).expect(&rt, "accepted");
     same(&rt, text.as_byte_slice(), b"0123456789".as_slice());
     Ok(())
 }
@@ -49,7 +49,8 @@ fn room(rt: HostRuntime) -> Result<(), Fail> {
 #[test]
 fn bytes_written(rt: HostRuntime) -> Result<(), Fail> {
     let mut text = left_of_a_long_text(rt.alloc())?;
-    text.bytes_mut(|bytes| bytes.reverse())?;
+    text.bytes_mut(|bytes| bytes.reverse())
+        .expect(&rt, "accepted");
     same(&rt, text.as_byte_slice(), b"9876543210".as_slice());
     Ok(())
 }

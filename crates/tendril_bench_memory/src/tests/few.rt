@@ -11,27 +11,38 @@ const FEW: &[u8] = b"0123456789abcdefghijklmnopqrstuvwxyzABCD";
 
 /// Cuts, clones, writes and fills up a text of few bytes, where the second request is refused.
 pub(super) fn change_few(rt: &(impl Abort + AllocGlobal)) -> Result<(), Fail> {
-    refuse_request(rt.alloc(), 2)?;
-    let mut text: ByteTendril = slice_to_tendril(rt.alloc(), FEW)?;
+    refuse_request(rt.alloc(), 2).expect(rt, "accepted");
+    let mut text: ByteTendril = slice_to_tendril(rt.alloc(), FEW).expect(rt, "accepted");
     cut_few(rt, &text)?;
-    text.bytes_mut(|bytes| bytes.reverse())?;
-    text.bytes_mut(|bytes| bytes.reverse())?;
-    text.try_pop_back(20)?;
-    text.push_uninitialized(20)?;
-    text.try_pop_back(20)?;
-    text.reserve(20)?;
-    text.push_slice(FEW.get(20..).ok_or("an end")?)?;
+    text.bytes_mut(|bytes| bytes.reverse())
+        .expect(rt, "accepted");
+    text.bytes_mut(|bytes| bytes.reverse())
+        .expect(rt, "accepted");
+    text.try_pop_back(20).expect(rt, "accepted");
+    text.push_uninitialized(20).expect(rt, "accepted");
+    text.try_pop_back(20).expect(rt, "accepted");
+    text.reserve(20).expect(rt, "accepted");
+    text.push_slice(FEW.get(20..).expect(rt, "an end"))
+        .expect(rt, "accepted");
     same(rt, text.as_byte_slice(), FEW);
     Ok(())
 }
 
 fn cut_few(rt: &(impl Abort + AllocGlobal), text: &ByteTendril) -> Result<(), Fail> {
-    let mut clone = text.clone()?;
-    let slice = text.try_subtendril(3, 30)?;
-    same(rt, slice.as_byte_slice(), FEW.get(3..33).ok_or("a slice")?);
-    clone.try_pop_front(10)?;
-    clone.try_pop_back(10)?;
-    same(rt, clone.as_byte_slice(), FEW.get(10..30).ok_or("a part")?);
+    let mut clone = text.clone().expect(rt, "accepted");
+    let slice = text.try_subtendril(3, 30).expect(rt, "accepted");
+    same(
+        rt,
+        slice.as_byte_slice(),
+        FEW.get(3..33).expect(rt, "a slice"),
+    );
+    clone.try_pop_front(10).expect(rt, "accepted");
+    clone.try_pop_back(10).expect(rt, "accepted");
+    same(
+        rt,
+        clone.as_byte_slice(),
+        FEW.get(10..30).expect(rt, "a part"),
+    );
     Ok(())
 }
 
@@ -41,23 +52,19 @@ fn forty_bytes_where_the_second_request_is_refused(rt: HostRuntime) -> Result<()
 }
 
 #[test]
-fn pushes_up_to_forty_bytes_where_the_second_request_is_refused(
-    rt: HostRuntime,
-) -> Result<(), Fail> {
-    refuse_request(rt.alloc(), 2)?;
+fn pushes_up_to_forty_bytes_where_the_second_request_is_refused(rt: HostRuntime) {
+    refuse_request(rt.alloc(), 2).expect(&rt, "accepted");
     let mut text: ByteTendril = Tendril::new(rt.alloc());
     for byte in FEW {
-        text.push_slice(&[*byte])?;
+        text.push_slice(&[*byte]).expect(&rt, "accepted");
     }
     same(&rt, text.as_byte_slice(), FEW);
-    Ok(())
 }
 
 #[test]
-fn room_for_forty_bytes_where_the_second_request_is_refused(rt: HostRuntime) -> Result<(), Fail> {
-    refuse_request(rt.alloc(), 2)?;
-    let mut text: ByteTendril = Tendril::with_capacity(rt.alloc(), 40)?;
-    text.push_uninitialized(40)?;
+fn room_for_forty_bytes_where_the_second_request_is_refused(rt: HostRuntime) {
+    refuse_request(rt.alloc(), 2).expect(&rt, "accepted");
+    let mut text: ByteTendril = Tendril::with_capacity(rt.alloc(), 40).expect(&rt, "accepted");
+    text.push_uninitialized(40).expect(&rt, "accepted");
     same(&rt, text.len32(), 40);
-    Ok(())
 }

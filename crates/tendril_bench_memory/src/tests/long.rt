@@ -22,35 +22,37 @@ fn long_text(alloc: Global) -> Option<StrTendril> {
 /// Cuts a long text in each way, where the request of this number is refused. Unless the text itself was refused, each
 /// call answers as it does with ample memory.
 pub(super) fn cut_long_text(rt: &(impl Abort + AllocGlobal), number: usize) -> Result<(), Fail> {
-    refuse_request(rt.alloc(), number)?;
+    refuse_request(rt.alloc(), number).expect(rt, "accepted");
     let Some(text) = long_text(rt.alloc()) else {
         return Ok(());
     };
     slice_long_text(rt, &text)?;
-    let mut clone = text.clone()?;
+    let mut clone = text.clone().expect(rt, "accepted");
     assert!(rt; clone == text);
     pop_long_text(rt, &text, &mut clone)?;
     part_long_text(rt, &text, &mut clone)
 }
 
 fn slice_long_text(rt: &impl Abort, text: &StrTendril) -> Result<(), Fail> {
-    let slice = text.try_subtendril(1, 999998)?;
+    let slice = text.try_subtendril(1, 999998).expect(rt, "accepted");
     let bytes = text.as_byte_slice().get(1..999999);
     assert!(rt; bytes == Some(slice.as_byte_slice()));
     Ok(())
 }
 
 fn pop_long_text(rt: &impl Abort, text: &StrTendril, clone: &mut StrTendril) -> Result<(), Fail> {
-    clone.try_pop_front(5)?;
-    clone.try_pop_back(5)?;
+    clone.try_pop_front(5).expect(rt, "accepted");
+    clone.try_pop_back(5).expect(rt, "accepted");
     let bytes = text.as_byte_slice().get(5..999995);
     assert!(rt; bytes == Some(clone.as_byte_slice()));
     Ok(())
 }
 
 fn part_long_text(rt: &impl Abort, text: &StrTendril, clone: &mut StrTendril) -> Result<(), Fail> {
-    let run = clone.pop_front_char_run(char::is_whitespace)?;
-    let (run, is_space) = run.ok_or("a run")?;
+    let run = clone
+        .pop_front_char_run(char::is_whitespace)
+        .expect(rt, "accepted");
+    let (run, is_space) = run.expect(rt, "a run");
     assert!(rt; !is_space);
     let bytes = text.as_byte_slice();
     assert!(rt; bytes.get(5..500000) == Some(run.as_byte_slice()));
@@ -60,7 +62,7 @@ fn part_long_text(rt: &impl Abort, text: &StrTendril, clone: &mut StrTendril) ->
 
 /// Writes a byte into a long text that has its block alone, where the request of this number is refused.
 pub(super) fn write_long_text(rt: &(impl Abort + AllocGlobal), number: usize) -> Result<(), Fail> {
-    refuse_request(rt.alloc(), number)?;
+    refuse_request(rt.alloc(), number).expect(rt, "accepted");
     let Some(text) = long_text(rt.alloc()) else {
         return Ok(());
     };
@@ -69,23 +71,34 @@ pub(super) fn write_long_text(rt: &(impl Abort + AllocGlobal), number: usize) ->
         if let Some(byte) = bytes.get_mut(700000) {
             *byte = b'!';
         }
-    })?;
+    })
+    .expect(rt, "accepted");
     same(rt, text.len32() as usize, LEN);
-    assert!(rt; text.as_byte_slice().get(699999..700002).ok_or("a slice")? == b" ! ".as_slice());
+    assert!(rt;
+        text.as_byte_slice()
+            .get(699999..700002)
+            .expect(rt, "a slice")
+            == b" ! ".as_slice()
+    );
     Ok(())
 }
 
 /// Sends a long text that has its block alone, where the request of this number is refused. Unless the text itself was
 /// refused, it leaves its block without a request, and comes back in one with one request.
 pub(super) fn send_long_text(rt: &(impl Abort + AllocGlobal), number: usize) -> Result<(), Fail> {
-    refuse_request(rt.alloc(), number)?;
+    refuse_request(rt.alloc(), number).expect(rt, "accepted");
     let Some(text) = long_text(rt.alloc()) else {
         return Ok(());
     };
-    let sent = text.into_send().ok().ok_or("into_send")?;
+    let sent = text.into_send().ok().expect(rt, "into_send");
     let text = receive(rt, sent)?;
     same(rt, text.len32() as usize, LEN);
-    assert!(rt; text.as_byte_slice().get(499999..500001).ok_or("a slice")? == b"a ".as_slice());
+    assert!(rt;
+        text.as_byte_slice()
+            .get(499999..500001)
+            .expect(rt, "a slice")
+            == b"a ".as_slice()
+    );
     Ok(())
 }
 

@@ -3,7 +3,6 @@
 use super::refuse_request;
 use std::fmt;
 use std::fmt::{Display, Formatter};
-use std::test::Fail;
 use tendril::block::Refusal;
 use tendril::{NonAtomic, StrTendril};
 
@@ -26,17 +25,15 @@ fn is_all_or_refused(text: Result<StrTendril, Refusal>) -> bool {
 }
 
 #[test]
-fn into_a_text_that_is_refused(rt: HostRuntime) -> Result<(), Fail> {
-    refuse_request(rt.alloc(), 1)?;
+fn into_a_text_that_is_refused(rt: HostRuntime) {
+    refuse_request(rt.alloc(), 1).expect(&rt, "accepted");
     assert!(rt; is_all_or_refused(StrTendril::<NonAtomic>::format(rt.alloc(), &Breaks)));
-    Ok(())
 }
 
 #[test]
-fn into_a_text_that_is_refused_and_told(rt: HostRuntime) -> Result<(), Fail> {
-    refuse_request(rt.alloc(), 1)?;
+fn into_a_text_that_is_refused_and_told(rt: HostRuntime) {
+    refuse_request(rt.alloc(), 1).expect(&rt, "accepted");
     let (text, answered) = StrTendril::<NonAtomic>::print(rt.alloc(), &Breaks);
     assert!(rt; is_all_or_refused(text));
     assert!(rt; answered.is_err());
-    Ok(())
 }

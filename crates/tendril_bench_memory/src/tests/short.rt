@@ -10,7 +10,7 @@ const DIGITS: &[u8] = b"01234567";
 
 /// Makes, clones, cuts, joins, writes and sends texts of at most 8 bytes, where the first request is refused.
 pub(super) fn change_short_texts(rt: &(impl Abort + AllocGlobal)) -> Result<(), Fail> {
-    refuse_request(rt.alloc(), 1)?;
+    refuse_request(rt.alloc(), 1).expect(rt, "accepted");
     for len in 0..=8u32 {
         let mut text = join_short_texts(rt, len)?;
         change_short_text(rt, &mut text, len)?;
@@ -32,32 +32,37 @@ fn join_short_texts(rt: &(impl Abort + AllocGlobal), len: u32) -> Result<ByteTen
 }
 
 fn change_short_text(rt: &impl Abort, text: &mut ByteTendril, len: u32) -> Result<(), Fail> {
-    text.bytes_mut(|bytes| bytes.reverse())?;
-    text.reserve(0)?;
-    text.try_pop_front(len)?;
-    text.push_uninitialized(len)?;
+    text.bytes_mut(|bytes| bytes.reverse())
+        .expect(rt, "accepted");
+    text.reserve(0).expect(rt, "accepted");
+    text.try_pop_front(len).expect(rt, "accepted");
+    text.push_uninitialized(len).expect(rt, "accepted");
     same(rt, text.len32(), 8);
     Ok(())
 }
 
 fn send_short_text(rt: &impl Abort, text: ByteTendril) -> Result<(), Fail> {
-    let expected = text.clone()?;
-    let sent = text.into_send().ok().ok_or("into_send")?;
-    let clone: ByteTendril = Tendril::from_send(sent.clone()?).ok().ok_or("from_send")?;
-    let back: ByteTendril = Tendril::from_send(sent).ok().ok_or("from_send")?;
+    let expected = text.clone().expect(rt, "accepted");
+    let sent = text.into_send().ok().expect(rt, "into_send");
+    let clone: ByteTendril = Tendril::from_send(sent.clone().expect(rt, "accepted"))
+        .ok()
+        .expect(rt, "from_send");
+    let back: ByteTendril = Tendril::from_send(sent).ok().expect(rt, "from_send");
     assert!(rt; clone == expected && back == expected);
     Ok(())
 }
 
 fn push_characters(rt: &(impl Abort + AllocGlobal)) -> Result<(), Fail> {
-    let mut text: StrTendril = StrTendril::from_slice(rt.alloc(), "ab ")?;
-    text.try_push_char('c')?;
-    let other: StrTendril = StrTendril::from_char(rt.alloc(), '\u{1f4a9}')?;
-    text.push_tendril(&other)?;
+    let mut text: StrTendril = StrTendril::from_slice(rt.alloc(), "ab ").expect(rt, "accepted");
+    text.try_push_char('c').expect(rt, "accepted");
+    let other: StrTendril = StrTendril::from_char(rt.alloc(), '\u{1f4a9}').expect(rt, "accepted");
+    text.push_tendril(&other).expect(rt, "accepted");
     same(rt, text.as_str(), "ab c\u{1f4a9}");
 
-    let run = text.pop_front_char_run(char::is_whitespace)?;
-    let (run, is_space) = run.ok_or("a run")?;
+    let run = text
+        .pop_front_char_run(char::is_whitespace)
+        .expect(rt, "accepted");
+    let (run, is_space) = run.expect(rt, "a run");
     assert!(rt; !is_space);
     same(rt, run.as_str(), "ab");
     same(rt, text.as_str(), " c\u{1f4a9}");

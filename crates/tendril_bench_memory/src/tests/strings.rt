@@ -11,7 +11,7 @@ const DIGITS: &str = "0123456789012345678901234567890123456789012345678901234567
 
 /// Makes a string, which takes one request, and a text of it, where the request of this number is refused.
 pub(super) fn take_strings(rt: &(impl Abort + AllocGlobal), number: usize) -> Result<(), Fail> {
-    refuse_request(rt.alloc(), number)?;
+    refuse_request(rt.alloc(), number).expect(rt, "accepted");
     let Ok(string) = String::from_str(rt.alloc(), DIGITS) else {
         return Ok(());
     };

@@ -75,12 +75,11 @@ const ROWS: [Row<'static>; 21] = [
 ];
 
 #[test]
-fn bytes_that_begin_a_character(rt: HostRuntime) -> Result<(), Fail> {
+fn bytes_that_begin_a_character(rt: HostRuntime) {
     for bytes in [b"".as_slice(), b"\xC5", b"\xED\x9F", b"\xF0\x9F\x92"] {
-        let kept = IncompleteUtf8::new(bytes).ok_or("they begin a character")?;
+        let kept = IncompleteUtf8::new(bytes).expect(&rt, "they begin a character");
         same(&rt, kept.kept(), bytes);
     }
-    Ok(())
 }
 
 #[test]
@@ -104,7 +103,7 @@ fn bytes_that_are_a_character_or_begin_none(rt: HostRuntime) {
 // Completes the kept bytes of a row from a slice.
 fn check_slice(rt: &impl Abort, row: Row) -> Result<(), Fail> {
     let (bytes, input, due) = row;
-    let mut kept = IncompleteUtf8::new(bytes).ok_or("the bytes begin no character")?;
+    let mut kept = IncompleteUtf8::new(bytes).expect(rt, "the bytes begin no character");
     match (kept.try_to_complete_codepoint(input), due) {
         (Some((Ok(text), rest)), Due::Text(expected, left)) => {
             assert!(rt; text.as_str() == expected, "{bytes:?} and {input:?}");
@@ -127,8 +126,8 @@ fn check_slice(rt: &impl Abort, row: Row) -> Result<(), Fail> {
 // Completes the kept bytes of a row from a piece.
 fn check_piece<A: Atomicity>(rt: &(impl Abort + AllocGlobal), row: Row) -> Result<(), Fail> {
     let (bytes, input, due) = row;
-    let mut kept = IncompleteUtf8::new(bytes).ok_or("the bytes begin no character")?;
-    let piece: ByteTendril<A> = slice_to_tendril(rt.alloc(), input)?;
+    let mut kept = IncompleteUtf8::new(bytes).expect(rt, "the bytes begin no character");
+    let piece: ByteTendril<A> = slice_to_tendril(rt.alloc(), input).expect(rt, "accepted");
     let mut collected = Collected::new(rt.alloc());
     let completed = kept.try_complete(piece, |text: StrTendril<A>| collected.push(text));
     let texts = collected.into_texts()?;
@@ -171,7 +170,7 @@ fn kept_bytes_and_pieces(rt: HostRuntime) -> Result<(), Fail> {
 
 #[test]
 fn a_character_byte_by_byte(rt: HostRuntime) -> Result<(), Fail> {
-    let mut kept = IncompleteUtf8::new(b"").ok_or("nothing is kept")?;
+    let mut kept = IncompleteUtf8::new(b"").expect(&rt, "nothing is kept");
     for byte in [b"\xF0", b"\x9F", b"\x92"] {
         assert!(rt;
             kept.try_to_complete_codepoint(byte).is_none(),

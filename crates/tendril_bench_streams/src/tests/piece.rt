@@ -33,7 +33,7 @@ const ROWS: [Row<'static>; 11] = [
 
 fn check_row<A: Atomicity>(rt: &(impl Abort + AllocGlobal), row: Row) -> Result<(), Fail> {
     let (bytes, expected, left) = row;
-    let piece: ByteTendril<A> = slice_to_tendril(rt.alloc(), bytes)?;
+    let piece: ByteTendril<A> = slice_to_tendril(rt.alloc(), bytes).expect(rt, "accepted");
     let (texts, kept) = decode_all(rt.alloc(), piece)?;
     check_texts(rt, &texts, expected);
     match kept {
@@ -55,7 +55,7 @@ fn pieces(rt: HostRuntime) -> Result<(), Fail> {
 #[test]
 fn nothing_is_kept_of_whole_pieces(rt: HostRuntime) -> Result<(), Fail> {
     for bytes in [b"".as_slice(), b"abc", b"0123456789", b"\xFF", b"foo\xFF"] {
-        let piece: ByteTendril = slice_to_tendril(rt.alloc(), bytes)?;
+        let piece: ByteTendril = slice_to_tendril(rt.alloc(), bytes).expect(&rt, "accepted");
         let (_, kept) = decode_all(rt.alloc(), piece)?;
         assert!(rt; kept.is_none(), "of {bytes:?}");
     }
@@ -64,7 +64,9 @@ fn nothing_is_kept_of_whole_pieces(rt: HostRuntime) -> Result<(), Fail> {
 
 #[test]
 fn a_piece_that_is_one_text_is_handed_on_itself(rt: HostRuntime) -> Result<(), Fail> {
-    let piece: ByteTendril = slice_to_tendril(rt.alloc(), b"0123456789abcdef")?;
+    let piece: ByteTendril = slice_to_tendril(rt.alloc(), b"0123456789abcdef").expect(
+        &rt, "accepted",
+    );
     let (texts, kept) = decode_all(rt.alloc(), piece)?;
     check_texts(&rt, &texts, &["0123456789abcdef"]);
     // A long slice of the piece would be shared.
@@ -75,7 +77,9 @@ fn a_piece_that_is_one_text_is_handed_on_itself(rt: HostRuntime) -> Result<(), F
 
 #[test]
 fn long_texts_share_the_bytes_of_the_piece(rt: HostRuntime) -> Result<(), Fail> {
-    let piece: ByteTendril = slice_to_tendril(rt.alloc(), b"0123456789\xFFabcdefghijk")?;
+    let piece: ByteTendril = slice_to_tendril(rt.alloc(), b"0123456789\xFFabcdefghijk").expect(
+        &rt, "accepted",
+    );
     let (texts, _) = decode_all(rt.alloc(), piece)?;
     let [first, replacement, second] = texts.as_slice() else {
         return Err(Fail::from("two texts and U+FFFD are due"));
@@ -88,12 +92,12 @@ fn long_texts_share_the_bytes_of_the_piece(rt: HostRuntime) -> Result<(), Fail> 
 #[test]
 fn a_decoded_piece_leaves_its_clone(rt: HostRuntime) -> Result<(), Fail> {
     let bytes = b"0123456789\xFFabcdefghijk\xC5".as_slice();
-    let piece: ByteTendril = slice_to_tendril(rt.alloc(), bytes)?;
-    let clone = piece.clone()?;
+    let piece: ByteTendril = slice_to_tendril(rt.alloc(), bytes).expect(&rt, "accepted");
+    let clone = piece.clone().expect(&rt, "accepted");
     let (mut texts, _) = decode_all(rt.alloc(), piece)?;
     // A text that is written to leaves the others, too.
     for text in texts.iter_mut() {
-        text.push_slice("!")?;
+        text.push_slice("!").expect(&rt, "accepted");
     }
     check_texts(&rt, &texts, &["0123456789!", "\u{FFFD}!", "abcdefghijk!"]);
     same(&rt, clone.as_byte_slice(), bytes);
@@ -101,9 +105,9 @@ fn a_decoded_piece_leaves_its_clone(rt: HostRuntime) -> Result<(), Fail> {
 }
 
 #[test]
-fn a_million_broken_bytes(rt: HostRuntime) -> Result<(), Fail> {
-    let bytes = vec![in rt.alloc(); 0xFFu8; 1_000_000]?;
-    let piece: ByteTendril = slice_to_tendril(rt.alloc(), &bytes)?;
+fn a_million_broken_bytes(rt: HostRuntime) {
+    let bytes = vec![in rt.alloc(); 0xFFu8; 1_000_000].expect(&rt, "accepted");
+    let piece: ByteTendril = slice_to_tendril(rt.alloc(), &bytes).expect(&rt, "accepted");
     let mut count = 0u32;
     let mut are_replacements = true;
     let answer = piece.decode_utf8_lossy(|text: StrTendril| {
@@ -113,16 +117,15 @@ fn a_million_broken_bytes(rt: HostRuntime) -> Result<(), Fail> {
     assert!(rt; matches!(answer, Ok(None)));
     same(&rt, count, 1_000_000);
     assert!(rt; are_replacements);
-    Ok(())
 }
 
 #[test]
-fn a_million_bytes_of_which_some_are_broken(rt: HostRuntime) -> Result<(), Fail> {
-    let mut bytes = vec![in rt.alloc(); b'a'; 1_000_000]?;
+fn a_million_bytes_of_which_some_are_broken(rt: HostRuntime) {
+    let mut bytes = vec![in rt.alloc(); b'a'; 1_000_000].expect(&rt, "accepted");
     for byte in bytes.iter_mut().skip(126).step_by(127) {
         *byte = 0xFF;
     }
-    let piece: ByteTendril = slice_to_tendril(rt.alloc(), &bytes)?;
+    let piece: ByteTendril = slice_to_tendril(rt.alloc(), &bytes).expect(&rt, "accepted");
     let mut count = 0u32;
     let mut are_due = true;
     let answer = piece.decode_utf8_lossy(|text: StrTendril| {
@@ -138,34 +141,33 @@ fn a_million_bytes_of_which_some_are_broken(rt: HostRuntime) -> Result<(), Fail>
     assert!(rt; matches!(answer, Ok(None)));
     same(&rt, count, 15749);
     assert!(rt; are_due);
-    Ok(())
 }
 
 #[test]
-fn texts_out_of_the_front_of_a_piece(rt: HostRuntime) -> Result<(), Fail> {
-    let mut piece: ByteTendril = slice_to_tendril(rt.alloc(), b"abc\xFFdef")?;
-    let (text, ending) = piece.pop_text()?;
+fn texts_out_of_the_front_of_a_piece(rt: HostRuntime) {
+    let mut piece: ByteTendril = slice_to_tendril(rt.alloc(), b"abc\xFFdef").expect(
+        &rt, "accepted",
+    );
+    let (text, ending) = piece.pop_text().expect(&rt, "accepted");
     assert!(rt; text.is_some_and(|text| text.eq_str("abc")));
     same(&rt, ending, Ending::Broken(1));
     same(&rt, piece.as_byte_slice(), b"def".as_slice());
 
-    let (text, ending) = piece.pop_text()?;
+    let (text, ending) = piece.pop_text().expect(&rt, "accepted");
     assert!(rt; text.is_some_and(|text| text.eq_str("def")));
     same(&rt, ending, Ending::Whole);
     same(&rt, piece.as_byte_slice(), b"".as_slice());
 
-    let (text, ending) = piece.pop_text()?;
+    let (text, ending) = piece.pop_text().expect(&rt, "accepted");
     assert!(rt; text.is_none());
     same(&rt, ending, Ending::Whole);
-    Ok(())
 }
 
 #[test]
-fn an_open_end_stays_in_the_piece(rt: HostRuntime) -> Result<(), Fail> {
-    let mut piece: ByteTendril = slice_to_tendril(rt.alloc(), b"\xC3")?;
-    let (text, ending) = piece.pop_text()?;
+fn an_open_end_stays_in_the_piece(rt: HostRuntime) {
+    let mut piece: ByteTendril = slice_to_tendril(rt.alloc(), b"\xC3").expect(&rt, "accepted");
+    let (text, ending) = piece.pop_text().expect(&rt, "accepted");
     assert!(rt; text.is_none());
     same(&rt, ending, Ending::Open);
     same(&rt, piece.as_byte_slice(), b"\xC3".as_slice());
-    Ok(())
 }

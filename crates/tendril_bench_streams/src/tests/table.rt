@@ -80,12 +80,14 @@ fn slow_decode(alloc: Global, bytes: &[u8]) -> Result<(Vec<u8>, &[u8]), Fail> {
 }
 
 fn check_piece<A: Atomicity>(rt: &(impl Abort + AllocGlobal), bytes: &[u8]) -> Result<(), Fail> {
-    let piece: ByteTendril<A> = slice_to_tendril(rt.alloc(), bytes)?;
+    let piece: ByteTendril<A> = slice_to_tendril(rt.alloc(), bytes).expect(rt, "accepted");
     let (texts, kept) = decode_all(rt.alloc(), piece)?;
     let mut joined = Vec::new(rt.alloc());
     for text in texts.iter() {
         assert!(rt; text.len32() > 0, "an empty text of {bytes:?}");
-        joined.extend_from_slice(text.as_byte_slice())?;
+        joined
+            .extend_from_slice(text.as_byte_slice())
+            .expect(rt, "accepted");
     }
     let (expected, left) = slow_decode(rt.alloc(), bytes)?;
     assert!(rt; joined.as_slice() == expected.as_slice(), "of {bytes:?}");

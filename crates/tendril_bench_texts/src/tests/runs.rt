@@ -25,84 +25,81 @@ fn pop_words_run(text: &mut StrTendril) -> Result<(Option<(StrTendril, bool)>, u
 }
 
 #[test]
-fn characters_one_by_one(rt: HostRuntime) -> Result<(), Fail> {
-    let mut text: StrTendril = str_to_tendril(rt.alloc(), "f\u{151}o-")?;
+fn characters_one_by_one(rt: HostRuntime) {
+    let mut text: StrTendril = str_to_tendril(rt.alloc(), "f\u{151}o-").expect(&rt, "accepted");
     for character in ['f', '\u{151}', 'o', '-'] {
         same(&rt, text.pop_front_char(), Some(character));
     }
     same(&rt, text.pop_front_char(), None);
     same(&rt, text.len32(), 0);
-    Ok(())
 }
 
 #[test]
-fn a_pop_of_a_character_leaves_a_clone(rt: HostRuntime) -> Result<(), Fail> {
-    let mut text: StrTendril = str_to_tendril(rt.alloc(), "\u{4e2d}0123456789")?;
-    let clone = text.clone()?;
+fn a_pop_of_a_character_leaves_a_clone(rt: HostRuntime) {
+    let mut text: StrTendril = str_to_tendril(rt.alloc(), "\u{4e2d}0123456789").expect(
+        &rt, "accepted",
+    );
+    let clone = text.clone().expect(&rt, "accepted");
     same(&rt, text.pop_front_char(), Some('\u{4e2d}'));
     same(&rt, text.as_byte_slice(), b"0123456789".as_slice());
     same(&rt, clone.as_byte_slice(), "\u{4e2d}0123456789".as_bytes());
-    Ok(())
 }
 
 #[test]
-fn a_run_of_one_character(rt: HostRuntime) -> Result<(), Fail> {
-    let mut text: StrTendril = str_to_tendril(rt.alloc(), "\u{4e2d} ")?;
-    let (found, asked) = pop_words_run(&mut text)?;
-    let Some((run, is_space)) = found else {
-        return Err(Fail::from("the text isn't empty"));
-    };
+fn a_run_of_one_character(rt: HostRuntime) {
+    let mut text: StrTendril = str_to_tendril(rt.alloc(), "\u{4e2d} ").expect(&rt, "accepted");
+    let (found, asked) = pop_words_run(&mut text).expect(&rt, "accepted");
+    let (run, is_space) = found.expect(&rt, "the text isn't empty");
     same(&rt, run.as_byte_slice(), "\u{4e2d}".as_bytes());
     assert!(rt; !is_space);
     same(&rt, asked, 2);
     same(&rt, text.as_byte_slice(), b" ".as_slice());
 
     // A function serves as well.
-    let Some((run, is_space)) = text.pop_front_char_run(char::is_whitespace)? else {
-        return Err(Fail::from("the text isn't empty"));
-    };
+    let (run, is_space) = text
+        .pop_front_char_run(char::is_whitespace)
+        .expect(&rt, "accepted")
+        .expect(&rt, "the text isn't empty");
     same(&rt, run.as_byte_slice(), b" ".as_slice());
     assert!(rt; is_space);
     same(&rt, text.len32(), 0);
-    Ok(())
 }
 
 #[test]
-fn runs_until_the_text_is_empty(rt: HostRuntime) -> Result<(), Fail> {
-    let mut text: StrTendril = str_to_tendril(rt.alloc(), "   xyzzy  ")?;
+fn runs_until_the_text_is_empty(rt: HostRuntime) {
+    let mut text: StrTendril = str_to_tendril(rt.alloc(), "   xyzzy  ").expect(&rt, "accepted");
     for (want, want_space, times) in [("   ", true, 4u32), ("xyzzy", false, 6), ("  ", true, 2)] {
-        let (found, asked) = pop_words_run(&mut text)?;
-        let Some((run, is_space)) = found else {
-            return Err(Fail::from("the text isn't empty"));
-        };
+        let (found, asked) = pop_words_run(&mut text).expect(&rt, "accepted");
+        let (run, is_space) = found.expect(&rt, "the text isn't empty");
         same(&rt, run.as_byte_slice(), want.as_bytes());
         assert!(rt; is_space == want_space, "the class of {want:?}");
         assert!(rt; asked == times, "asked for {want:?}");
     }
-    let (found, asked) = pop_words_run(&mut text)?;
+    let (found, asked) = pop_words_run(&mut text).expect(&rt, "accepted");
     assert!(rt; found.is_none());
     same(&rt, asked, 0);
     same(&rt, text.len32(), 0);
-    Ok(())
 }
 
 #[test]
-fn runs_of_one_answer_among_many(rt: HostRuntime) -> Result<(), Fail> {
-    let mut text: StrTendril = str_to_tendril(rt.alloc(), "112\u{151}\u{4e2d}3")?;
+fn runs_of_one_answer_among_many(rt: HostRuntime) {
+    let mut text: StrTendril = str_to_tendril(rt.alloc(), "112\u{151}\u{4e2d}3").expect(
+        &rt, "accepted",
+    );
     for (want, digit) in [
         ("11", Some(1)),
         ("2", Some(2)),
         ("\u{151}\u{4e2d}", None),
         ("3", Some(3)),
     ] {
-        let Some((run, class)) = text.pop_front_char_run(|c: char| c.to_digit(10))? else {
-            return Err(Fail::from("the text isn't empty"));
-        };
+        let (run, class) = text
+            .pop_front_char_run(|c: char| c.to_digit(10))
+            .expect(&rt, "accepted")
+            .expect(&rt, "the text isn't empty");
         same(&rt, run.as_byte_slice(), want.as_bytes());
         assert!(rt; class == digit, "the class of {want:?}");
     }
     same(&rt, text.len32(), 0);
-    Ok(())
 }
 
 // As in the README of `tendril`.
@@ -118,29 +115,31 @@ fn next_word(line: &mut StrTendril) -> Result<Option<StrTendril>, Refusal> {
 }
 
 #[test]
-fn words_of_a_line(rt: HostRuntime) -> Result<(), Fail> {
-    let mut line: StrTendril = str_to_tendril(rt.alloc(), "a  line\tof words \u{4e2d} ")?;
+fn words_of_a_line(rt: HostRuntime) {
+    let mut line: StrTendril = str_to_tendril(rt.alloc(), "a  line\tof words \u{4e2d} ").expect(
+        &rt, "accepted",
+    );
     for want in ["a", "line", "of", "words", "\u{4e2d}"] {
-        let Some(word) = next_word(&mut line)? else {
-            return Err(Fail::from("the line has more words"));
-        };
+        let word = next_word(&mut line)
+            .expect(&rt, "accepted")
+            .expect(&rt, "the line has more words");
         same(&rt, word.as_byte_slice(), want.as_bytes());
     }
-    assert!(rt; next_word(&mut line)?.is_none());
+    assert!(rt; next_word(&mut line).expect(&rt, "accepted").is_none());
     same(&rt, line.len32(), 0);
-    Ok(())
 }
 
 #[test]
-fn runs_and_rests_round_the_inline_length(rt: HostRuntime) -> Result<(), Fail> {
+fn runs_and_rests_round_the_inline_length(rt: HostRuntime) {
     for len in [7usize, 8, 9] {
         for rest in [0usize, 7, 8, 9] {
-            let mut text: StrTendril = Tendril::try_from_byte_slice(rt.alloc(), &LETTERS[..len])?;
-            text.try_push_bytes(&SPACES[..rest])?;
-            let (found, _) = pop_words_run(&mut text)?;
-            let Some((run, is_space)) = found else {
-                return Err(Fail::from("the text isn't empty"));
-            };
+            let mut text: StrTendril = Tendril::try_from_byte_slice(
+                rt.alloc(),
+                &LETTERS[..len],
+            ).expect(&rt, "accepted");
+            text.try_push_bytes(&SPACES[..rest]).expect(&rt, "accepted");
+            let (found, _) = pop_words_run(&mut text).expect(&rt, "accepted");
+            let (run, is_space) = found.expect(&rt, "the text isn't empty");
             assert!(rt; !is_space);
             assert!(rt;
                 run.as_byte_slice() == &LETTERS[..len],
@@ -155,16 +154,15 @@ fn runs_and_rests_round_the_inline_length(rt: HostRuntime) -> Result<(), Fail> {
             }
         }
     }
-    Ok(())
 }
 
 #[test]
-fn a_run_over_the_whole_text(rt: HostRuntime) -> Result<(), Fail> {
-    let mut text: StrTendril = str_to_tendril(rt.alloc(), "abcdefghijklmno\u{151}")?;
-    let (found, asked) = pop_words_run(&mut text)?;
-    let Some((run, is_space)) = found else {
-        return Err(Fail::from("the text isn't empty"));
-    };
+fn a_run_over_the_whole_text(rt: HostRuntime) {
+    let mut text: StrTendril = str_to_tendril(rt.alloc(), "abcdefghijklmno\u{151}").expect(
+        &rt, "accepted",
+    );
+    let (found, asked) = pop_words_run(&mut text).expect(&rt, "accepted");
+    let (run, is_space) = found.expect(&rt, "the text isn't empty");
     same(
         &rt,
         run.as_byte_slice(),
@@ -173,25 +171,23 @@ fn a_run_over_the_whole_text(rt: HostRuntime) -> Result<(), Fail> {
     assert!(rt; !is_space);
     same(&rt, asked, 16);
     same(&rt, text.len32(), 0);
-    Ok(())
 }
 
 #[test]
-fn long_parts_share(rt: HostRuntime) -> Result<(), Fail> {
-    let mut text: StrTendril = str_to_tendril(rt.alloc(), "0123456789          ")?;
-    let (found, _) = pop_words_run(&mut text)?;
-    let Some((mut run, _)) = found else {
-        return Err(Fail::from("the text isn't empty"));
-    };
+fn long_parts_share(rt: HostRuntime) {
+    let mut text: StrTendril = str_to_tendril(rt.alloc(), "0123456789          ").expect(
+        &rt, "accepted",
+    );
+    let (found, _) = pop_words_run(&mut text).expect(&rt, "accepted");
+    let (mut run, _) = found.expect(&rt, "the text isn't empty");
     assert!(rt; run.is_shared());
     assert!(rt; text.is_shared());
 
     // A push onto the run leaves the rest, and one onto the rest the run.
-    run.push_char('!')?;
-    text.push_char('?')?;
+    run.push_char('!').expect(&rt, "accepted");
+    text.push_char('?').expect(&rt, "accepted");
     same(&rt, run.as_byte_slice(), b"0123456789!".as_slice());
     same(&rt, text.as_byte_slice(), b"          ?".as_slice());
-    Ok(())
 }
 
 #[test]
@@ -235,7 +231,7 @@ fn characters_that_ascii_has(rt: HostRuntime) -> Result<(), Fail> {
 }
 
 #[test]
-fn characters_of_one_to_four_bytes(rt: HostRuntime) -> Result<(), Fail> {
+fn characters_of_one_to_four_bytes(rt: HostRuntime) {
     let mut text: StrTendril = Tendril::new(rt.alloc());
     let rows: [(char, &[u8]); 4] = [
         ('a', b"a"),
@@ -244,40 +240,40 @@ fn characters_of_one_to_four_bytes(rt: HostRuntime) -> Result<(), Fail> {
         ('\u{1f4a9}', b"\xf0\x9f\x92\xa9"),
     ];
     for (character, bytes) in rows {
-        let mut alone: StrTendril = StrTendril::from_char(rt.alloc(), character)?;
+        let mut alone: StrTendril = StrTendril::from_char(rt.alloc(), character).expect(
+            &rt, "accepted",
+        );
         assert!(rt; alone.as_byte_slice() == bytes, "of {character}");
         same(&rt, alone.pop_front_char(), Some(character));
-        alone.try_push_char(character)?;
+        alone.try_push_char(character).expect(&rt, "accepted");
         assert!(rt; alone.as_byte_slice() == bytes, "of {character}");
-        text.push_char(character)?;
+        text.push_char(character).expect(&rt, "accepted");
     }
     same(
         &rt,
         text.as_byte_slice(),
         b"a\xc5\x91\xe4\xb8\xad\xf0\x9f\x92\xa9".as_slice(),
     );
-    Ok(())
 }
 
 #[test]
-fn twenty_pushes_leave_a_clone(rt: HostRuntime) -> Result<(), Fail> {
-    let mut text: StrTendril = str_to_tendril(rt.alloc(), "0123456789")?;
-    let clone = text.clone()?;
+fn twenty_pushes_leave_a_clone(rt: HostRuntime) {
+    let mut text: StrTendril = str_to_tendril(rt.alloc(), "0123456789").expect(&rt, "accepted");
+    let clone = text.clone().expect(&rt, "accepted");
     for _ in 0..20 {
-        text.push_char('\u{151}')?;
+        text.push_char('\u{151}').expect(&rt, "accepted");
     }
     same(&rt, clone.as_byte_slice(), b"0123456789".as_slice());
     same(&rt, text.len32(), 50);
-    text.try_pop_front(10)?;
+    text.try_pop_front(10).expect(&rt, "accepted");
     for _ in 0..20 {
         same(&rt, text.pop_front_char(), Some('\u{151}'));
     }
     same(&rt, text.pop_front_char(), None);
-    Ok(())
 }
 
 #[test]
-fn every_character_pushed_and_popped(rt: HostRuntime) -> Result<(), Fail> {
+fn every_character_pushed_and_popped(rt: HostRuntime) {
     let mut text: StrTendril = Tendril::new(rt.alloc());
     for code in 0..0x11_0000 {
         let Some(character) = char::from_u32(code) else {
@@ -285,10 +281,9 @@ fn every_character_pushed_and_popped(rt: HostRuntime) -> Result<(), Fail> {
         };
         let mut buffer = [0; 4];
         let bytes = character.encode_utf8(&mut buffer).as_bytes();
-        text.push_char(character)?;
+        text.push_char(character).expect(&rt, "accepted");
         assert!(rt; text.as_byte_slice() == bytes, "{code:x}");
         same(&rt, text.pop_front_char(), Some(character));
         same(&rt, text.len32(), 0);
     }
-    Ok(())
 }

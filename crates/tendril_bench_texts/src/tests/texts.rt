@@ -34,13 +34,18 @@ fn empty_text(rt: HostRuntime) {
 }
 
 #[test]
-fn texts_round_the_inline_length(rt: HostRuntime) -> Result<(), Fail> {
+fn texts_round_the_inline_length(rt: HostRuntime) {
     for len in [0usize, 1, 7, 8, 9, 10] {
         let bytes = &DIGITS[..len];
-        let mut text: ByteTendril = Tendril::try_from_byte_slice(rt.alloc(), bytes)?;
+        let mut text: ByteTendril = Tendril::try_from_byte_slice(rt.alloc(), bytes).expect(
+            &rt, "accepted",
+        );
         assert!(rt; text.as_byte_slice() == bytes, "made of {len}");
-        assert!(rt; text.clone()?.as_byte_slice() == bytes, "clone of {len}");
-        text.try_push_bytes(b"X")?;
+        assert!(rt;
+            text.clone().expect(&rt, "accepted").as_byte_slice() == bytes,
+            "clone of {len}"
+        );
+        text.try_push_bytes(b"X").expect(&rt, "accepted");
         assert!(rt; text.len32() as usize == len + 1, "pushed onto {len}");
         assert!(rt;
             &text.as_byte_slice()[..len] == bytes,
@@ -48,42 +53,43 @@ fn texts_round_the_inline_length(rt: HostRuntime) -> Result<(), Fail> {
         );
         assert!(rt; text.as_byte_slice()[len] == b'X', "pushed onto {len}");
     }
-    Ok(())
 }
 
 #[test]
-fn a_push_onto_a_clone_or_its_source_leaves_the_other(rt: HostRuntime) -> Result<(), Fail> {
-    let mut source: ByteTendril = ByteTendril::from_slice(rt.alloc(), DIGITS)?;
-    let mut clone = source.clone()?;
-    clone.push_slice(b"X")?;
+fn a_push_onto_a_clone_or_its_source_leaves_the_other(rt: HostRuntime) {
+    let mut source: ByteTendril = ByteTendril::from_slice(rt.alloc(), DIGITS).expect(
+        &rt, "accepted",
+    );
+    let mut clone = source.clone().expect(&rt, "accepted");
+    clone.push_slice(b"X").expect(&rt, "accepted");
     same(&rt, source.as_byte_slice(), DIGITS);
     same(&rt, clone.as_byte_slice(), b"0123456789X".as_slice());
 
-    let other = source.clone()?;
-    source.push_slice(b"YZ")?;
-    source.push_slice(b"!")?;
+    let other = source.clone().expect(&rt, "accepted");
+    source.push_slice(b"YZ").expect(&rt, "accepted");
+    source.push_slice(b"!").expect(&rt, "accepted");
     same(&rt, source.as_byte_slice(), b"0123456789YZ!".as_slice());
     same(&rt, other.as_byte_slice(), DIGITS);
     same(&rt, clone.as_byte_slice(), b"0123456789X".as_slice());
-    Ok(())
 }
 
 #[test]
-fn a_push_onto_a_slice_cuts_what_lies_behind_it(rt: HostRuntime) -> Result<(), Fail> {
+fn a_push_onto_a_slice_cuts_what_lies_behind_it(rt: HostRuntime) {
     let mut slice = {
-        let source: ByteTendril = ByteTendril::from_slice(rt.alloc(), b"0123456789abcdef")?;
-        source.try_subtendril(2, 9)?
+        let source: ByteTendril = ByteTendril::from_slice(rt.alloc(), b"0123456789abcdef").expect(
+            &rt, "accepted",
+        );
+        source.try_subtendril(2, 9).expect(&rt, "accepted")
     };
-    slice.push_slice(b"X")?;
+    slice.push_slice(b"X").expect(&rt, "accepted");
     same(&rt, slice.as_byte_slice(), b"23456789aX".as_slice());
-    Ok(())
 }
 
 #[test]
-fn slices_end_within_the_text(rt: HostRuntime) -> Result<(), Fail> {
-    let text: ByteTendril = ByteTendril::from_slice(rt.alloc(), DIGITS)?;
+fn slices_end_within_the_text(rt: HostRuntime) {
+    let text: ByteTendril = ByteTendril::from_slice(rt.alloc(), DIGITS).expect(&rt, "accepted");
     for (offset, count) in [(0u32, 10u32), (1, 9), (0, 9), (9, 1), (10, 0), (3, 2)] {
-        let slice = text.try_subtendril(offset, count)?;
+        let slice = text.try_subtendril(offset, count).expect(&rt, "accepted");
         let start = offset as usize;
         assert!(rt; start + count as usize <= DIGITS.len());
         same(
@@ -99,119 +105,136 @@ fn slices_end_within_the_text(rt: HostRuntime) -> Result<(), Fail> {
             Some(SubtendrilError::OutOfBounds),
         );
     }
-    Ok(())
 }
 
 #[test]
-fn marks_of_sharing(rt: HostRuntime) -> Result<(), Fail> {
-    let mut text: ByteTendril = ByteTendril::from_slice(rt.alloc(), DIGITS)?;
+fn marks_of_sharing(rt: HostRuntime) {
+    let mut text: ByteTendril = ByteTendril::from_slice(rt.alloc(), DIGITS).expect(&rt, "accepted");
     assert!(rt; !text.is_shared(), "freshly made");
-    let clone = text.clone()?;
+    let clone = text.clone().expect(&rt, "accepted");
     assert!(rt; text.is_shared() && clone.is_shared(), "after a clone");
-    assert!(rt; clone.try_subtendril(0, 9)?.is_shared(), "a long slice");
-    assert!(rt; !clone.try_subtendril(0, 8)?.is_shared(), "a short slice");
-    text.push_slice(b"X")?;
+    assert!(rt;
+        clone
+            .try_subtendril(0, 9)
+            .expect(&rt, "accepted")
+            .is_shared(),
+        "a long slice"
+    );
+    assert!(rt;
+        !clone
+            .try_subtendril(0, 8)
+            .expect(&rt, "accepted")
+            .is_shared(),
+        "a short slice"
+    );
+    text.push_slice(b"X").expect(&rt, "accepted");
     assert!(rt; !text.is_shared(), "after a push");
-    Ok(())
 }
 
 #[test]
-fn texts_of_slices_and_strings(rt: HostRuntime) -> Result<(), Fail> {
-    let mut text: StrTendril = StrTendril::from_slice(rt.alloc(), "0123456789")?;
-    text.push_slice("ab")?;
+fn texts_of_slices_and_strings(rt: HostRuntime) {
+    let mut text: StrTendril = StrTendril::from_slice(rt.alloc(), "0123456789").expect(
+        &rt, "accepted",
+    );
+    text.push_slice("ab").expect(&rt, "accepted");
     same(&rt, text.as_byte_slice(), b"0123456789ab".as_slice());
-    let text: StrTendril = str_to_tendril(rt.alloc(), "0123456789")?;
+    let text: StrTendril = str_to_tendril(rt.alloc(), "0123456789").expect(&rt, "accepted");
     same(&rt, text.as_byte_slice(), DIGITS);
-    let text: ByteTendril = slice_to_tendril(rt.alloc(), DIGITS)?;
+    let text: ByteTendril = slice_to_tendril(rt.alloc(), DIGITS).expect(&rt, "accepted");
     same(&rt, text.as_byte_slice(), DIGITS);
-    let text: ByteTendril = Tendril::from_byte_slice_without_validating(rt.alloc(), DIGITS)?;
+    let text: ByteTendril = Tendril::from_byte_slice_without_validating(rt.alloc(), DIGITS).expect(
+        &rt, "accepted",
+    );
     same(&rt, text.as_byte_slice(), DIGITS);
-    Ok(())
 }
 
 #[test]
-fn room_for_more(rt: HostRuntime) -> Result<(), Fail> {
+fn room_for_more(rt: HostRuntime) {
     for capacity in [0u32, 8, 9, 1000] {
-        let mut text: ByteTendril = Tendril::with_capacity(rt.alloc(), capacity)?;
+        let mut text: ByteTendril = Tendril::with_capacity(rt.alloc(), capacity).expect(
+            &rt, "accepted",
+        );
         same(&rt, text.len32(), 0);
         for len in [3usize, 10] {
-            text.reserve(100)?;
-            text.push_slice(&DIGITS[..len])?;
+            text.reserve(100).expect(&rt, "accepted");
+            text.push_slice(&DIGITS[..len]).expect(&rt, "accepted");
         }
         assert!(rt;
             text.as_byte_slice() == b"0120123456789".as_slice(),
             "capacity {capacity}"
         );
-        let clone = text.clone()?;
-        text.reserve(1000)?;
+        let clone = text.clone().expect(&rt, "accepted");
+        text.reserve(1000).expect(&rt, "accepted");
         text.clear();
         same(&rt, text.as_byte_slice(), b"".as_slice());
-        text.push_bytes_without_validating(b"x")?;
+        text.push_bytes_without_validating(b"x")
+            .expect(&rt, "accepted");
         same(&rt, text.as_byte_slice(), b"x".as_slice());
         same(&rt, clone.as_byte_slice(), b"0120123456789".as_slice());
     }
-    Ok(())
 }
 
 #[test]
-fn too_long(rt: HostRuntime) -> Result<(), Fail> {
-    let mut text: ByteTendril = ByteTendril::from_slice(rt.alloc(), b"abc")?;
+fn too_long(rt: HostRuntime) {
+    let mut text: ByteTendril = ByteTendril::from_slice(rt.alloc(), b"abc").expect(&rt, "accepted");
     same(&rt, text.reserve(4294967293).err(), Some(Refusal::TooLong));
     same(&rt, text.as_byte_slice(), b"abc".as_slice());
 
     // Also where the text is shared.
-    let mut text: ByteTendril = ByteTendril::from_slice(rt.alloc(), DIGITS)?;
-    let mut clone = text.clone()?;
+    let mut text: ByteTendril = ByteTendril::from_slice(rt.alloc(), DIGITS).expect(&rt, "accepted");
+    let mut clone = text.clone().expect(&rt, "accepted");
     same(&rt, text.reserve(4294967295).err(), Some(Refusal::TooLong));
     same(&rt, clone.reserve(4294967295).err(), Some(Refusal::TooLong));
-    clone.reserve(0)?;
-    Ok(())
+    clone.reserve(0).expect(&rt, "accepted");
 }
 
 #[test]
-fn a_text_pushed_on_its_clone(rt: HostRuntime) -> Result<(), Fail> {
-    let mut text: ByteTendril = ByteTendril::from_slice(rt.alloc(), DIGITS)?;
-    let clone = text.clone()?;
-    text.push_tendril(&clone)?;
+fn a_text_pushed_on_its_clone(rt: HostRuntime) {
+    let mut text: ByteTendril = ByteTendril::from_slice(rt.alloc(), DIGITS).expect(&rt, "accepted");
+    let clone = text.clone().expect(&rt, "accepted");
+    text.push_tendril(&clone).expect(&rt, "accepted");
     same(
         &rt,
         text.as_byte_slice(),
         b"01234567890123456789".as_slice(),
     );
     same(&rt, clone.as_byte_slice(), DIGITS);
-    Ok(())
 }
 
 #[test]
-fn a_million_bytes_one_by_one(rt: HostRuntime) -> Result<(), Fail> {
+fn a_million_bytes_one_by_one(rt: HostRuntime) {
     let mut text: ByteTendril = Tendril::new(rt.alloc());
     for _ in 0..1000000 {
-        text.push_slice(b"a")?;
+        text.push_slice(b"a").expect(&rt, "accepted");
     }
     same(&rt, text.len32(), 1000000);
     assert!(rt; text.as_byte_slice().iter().all(|byte| *byte == b'a'));
     same(
         &rt,
-        text.clone()?.try_subtendril(1, 999998)?.len32(),
+        text.clone()
+            .expect(&rt, "accepted")
+            .try_subtendril(1, 999998)
+            .expect(&rt, "accepted")
+            .len32(),
         999998,
     );
-    Ok(())
 }
 
 #[test]
-fn a_queue_of_pieces(rt: HostRuntime) -> Result<(), Fail> {
+fn a_queue_of_pieces(rt: HostRuntime) {
     let mut queue: ByteTendril = Tendril::new(rt.alloc());
     for round in 0..100000u32 {
-        queue.push_slice(&[(round % 251) as u8; 24])?;
+        queue
+            .push_slice(&[(round % 251) as u8; 24])
+            .expect(&rt, "accepted");
         if round > 2 {
-            queue.try_pop_front(24)?;
+            queue.try_pop_front(24).expect(&rt, "accepted");
         }
     }
     same(&rt, queue.len32(), 72);
     // The last three rounds are 99997 to 99999, which leave 99, 100 and 101.
     let left = [[99u8; 24], [100; 24], [101; 24]];
     same(&rt, queue.as_byte_slice(), left.as_flattened());
-    Ok(())
 }
 
 // How much memory the process holds, in pages, as Linux tells it.
@@ -223,11 +246,11 @@ fn resident_pages(rt: &(impl Files + AllocGlobal)) -> Result<u64, Fail> {
 
 #[test]
 fn a_queue_holds_no_more_memory_the_longer_it_runs(rt: HostRuntime) -> Result<(), Fail> {
-    let mut queue: ByteTendril = slice_to_tendril(rt.alloc(), &[b'x'; 128])?;
+    let mut queue: ByteTendril = slice_to_tendril(rt.alloc(), &[b'x'; 128]).expect(&rt, "accepted");
     let before = resident_pages(&rt)?;
     for _ in 0..10_000_000u32 {
-        queue.push_slice(b"01234567")?;
-        queue.try_pop_front(8)?;
+        queue.push_slice(b"01234567").expect(&rt, "accepted");
+        queue.try_pop_front(8).expect(&rt, "accepted");
     }
     same(&rt, queue.len32(), 128);
     // All that went through would be some 20000 pages.
@@ -236,14 +259,14 @@ fn a_queue_holds_no_more_memory_the_longer_it_runs(rt: HostRuntime) -> Result<()
 }
 
 #[test]
-fn room_behind_bytes_that_were_popped(rt: HostRuntime) -> Result<(), Fail> {
-    let mut text: ByteTendril = slice_to_tendril(rt.alloc(), &[b'x'; 100])?;
-    text.try_pop_front(90)?;
-    text.bytes_mut(|bytes| bytes.fill(b'y'))?;
-    text.reserve(100)?;
+fn room_behind_bytes_that_were_popped(rt: HostRuntime) {
+    let mut text: ByteTendril = slice_to_tendril(rt.alloc(), &[b'x'; 100]).expect(&rt, "accepted");
+    text.try_pop_front(90).expect(&rt, "accepted");
+    text.bytes_mut(|bytes| bytes.fill(b'y'))
+        .expect(&rt, "accepted");
+    text.reserve(100).expect(&rt, "accepted");
     same(&rt, text.as_byte_slice(), [b'y'; 10].as_slice());
-    text.push_uninitialized(3)?;
-    text.push_slice(b"z")?;
+    text.push_uninitialized(3).expect(&rt, "accepted");
+    text.push_slice(b"z").expect(&rt, "accepted");
     same(&rt, text.as_byte_slice(), b"yyyyyyyyyy\0\0\0z".as_slice());
-    Ok(())
 }

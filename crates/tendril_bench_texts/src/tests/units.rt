@@ -123,8 +123,8 @@ fn check_groups(
     expected: &[u8],
 ) -> Result<(), Fail> {
     for front in FRONTS {
-        let mut whole = Vec::from_slice(rt.alloc(), front)?;
-        whole.extend_from_slice(expected)?;
+        let mut whole = Vec::from_slice(rt.alloc(), front).expect(rt, "accepted");
+        whole.extend_from_slice(expected).expect(rt, "accepted");
         let text = joined_bytes(rt.alloc(), front, groups)?;
         assert!(rt;
             text.as_byte_slice() == whole.as_slice(),
@@ -170,7 +170,7 @@ fn check_lists(
 ) -> Result<(), Fail> {
     for number in 0..lists {
         let mut buffer = [0; 4];
-        let units = buffer.get_mut(..len).ok_or("at most four units")?;
+        let units = buffer.get_mut(..len).expect(rt, "at most four units");
         write_units(units, number);
         check_groupings(rt, units, groupings)?;
     }

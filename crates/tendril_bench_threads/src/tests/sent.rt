@@ -38,7 +38,7 @@ fn check_that_texts_of_each_size_come_back<A: Atomicity, B: Atomicity>(
 ) -> Result<(), Fail> {
     for len in [0usize, 1, 7, 8, 9, 16, 40, 41, 52] {
         let letters = &LETTERS.as_bytes()[..len];
-        let text: ByteTendril<A> = slice_to_tendril(rt.alloc(), letters)?;
+        let text: ByteTendril<A> = slice_to_tendril(rt.alloc(), letters).expect(rt, "accepted");
         let back: ByteTendril<B> = sent(text)?;
         same(rt, back.as_byte_slice(), letters);
         assert!(rt; !back.is_shared());
@@ -57,11 +57,11 @@ fn texts_of_each_size_come_back(rt: HostRuntime) -> Result<(), Fail> {
 fn check_that_clones_and_parts_keep_their_text<A: Atomicity>(
     rt: &(impl Abort + AllocGlobal),
 ) -> Result<(), Fail> {
-    let text: StrTendril<A> = str_to_tendril(rt.alloc(), LETTERS)?;
-    let part = text.try_subtendril(3, 20)?;
-    let mut popped = text.clone()?;
-    popped.try_pop_front(1)?;
-    let whole: StrTendril<Atomic> = sent(text.clone()?)?;
+    let text: StrTendril<A> = str_to_tendril(rt.alloc(), LETTERS).expect(rt, "accepted");
+    let part = text.try_subtendril(3, 20).expect(rt, "accepted");
+    let mut popped = text.clone().expect(rt, "accepted");
+    popped.try_pop_front(1).expect(rt, "accepted");
+    let whole: StrTendril<Atomic> = sent(text.clone().expect(rt, "accepted"))?;
     let part: StrTendril<Atomic> = sent(part)?;
     let popped: StrTendril<Atomic> = sent(popped)?;
     same(rt, text.as_byte_slice(), LETTERS.as_bytes());
@@ -78,40 +78,39 @@ fn clones_and_parts_keep_their_text(rt: HostRuntime) -> Result<(), Fail> {
 }
 
 #[test]
-fn a_clone_of_what_is_sent(rt: HostRuntime) -> Result<(), Fail> {
+fn a_clone_of_what_is_sent(rt: HostRuntime) {
     for text in ["short", LETTERS] {
-        let text: StrTendril = str_to_tendril(rt.alloc(), text)?;
-        let expected: StrTendril = text.clone()?;
-        let first = text.into_send().ok().ok_or("into_send")?;
-        let second = first.clone()?;
-        let first: StrTendril = Tendril::from_send(first).ok().ok_or("from_send")?;
-        let second: StrTendril = Tendril::from_send(second).ok().ok_or("from_send")?;
+        let text: StrTendril = str_to_tendril(rt.alloc(), text).expect(&rt, "accepted");
+        let expected: StrTendril = text.clone().expect(&rt, "accepted");
+        let first = text.into_send().ok().expect(&rt, "into_send");
+        let second = first.clone().expect(&rt, "accepted");
+        let first: StrTendril = Tendril::from_send(first).ok().expect(&rt, "from_send");
+        let second: StrTendril = Tendril::from_send(second).ok().expect(&rt, "from_send");
         same(&rt, first.as_byte_slice(), expected.as_byte_slice());
         same(&rt, second.as_byte_slice(), expected.as_byte_slice());
     }
-    Ok(())
 }
 
 #[test]
-fn what_may_be_sent(rt: HostRuntime) -> Result<(), Fail> {
-    let text: Tendril<UTF8, Atomic> = str_to_tendril(rt.alloc(), LETTERS)?;
+fn what_may_be_sent(rt: HostRuntime) {
+    let text: Tendril<UTF8, Atomic> = str_to_tendril(rt.alloc(), LETTERS).expect(&rt, "accepted");
     takes_what_is_send(&text);
-    let text: SendTendril<UTF8> = text.into_send().ok().ok_or("into_send")?;
+    let text: SendTendril<UTF8> = text.into_send().ok().expect(&rt, "into_send");
     takes_what_is_send(&text);
-    Ok(())
 }
 
 #[test]
-fn a_worker_changes_a_text(rt: HostRuntime) -> Result<(), Fail> {
+fn a_worker_changes_a_text(rt: HostRuntime) {
     for (text, expected) in [("hello", "hello!"), ("hello, worker", "hello, worker!")] {
-        let text: StrTendril = str_to_tendril(rt.alloc(), text)?;
+        let text: StrTendril = str_to_tendril(rt.alloc(), text).expect(&rt, "accepted");
         same(
             &rt,
-            louder_in_a_worker(&rt, text)?.as_byte_slice(),
+            louder_in_a_worker(&rt, text)
+                .expect(&rt, "accepted")
+                .as_byte_slice(),
             expected.as_bytes(),
         );
     }
-    Ok(())
 }
 
 // Pushes the byte to each text, in the thread that this runs in.
@@ -131,55 +130,63 @@ fn pushed(
 }
 
 #[test]
-fn a_thousand_texts_pass_four_threads(rt: HostRuntime) -> Result<(), Fail> {
+fn a_thousand_texts_pass_four_threads(rt: HostRuntime) {
     let alloc = rt.alloc();
     let mut texts = Vec::new(alloc);
     for number in 0..1000usize {
         let letters = &LETTERS.as_bytes()[..number % 53];
-        let text: ByteTendril = slice_to_tendril(rt.alloc(), letters)?;
-        texts.push(text.into_send().ok().ok_or("into_send")?)?;
+        let text: ByteTendril = slice_to_tendril(rt.alloc(), letters).expect(&rt, "accepted");
+        texts
+            .push(text.into_send().ok().expect(&rt, "into_send"))
+            .expect(&rt, "accepted");
     }
     for byte in *b"1234" {
-        let worker = thread::spawn_with(&rt, Anything, move || pushed(alloc, texts, byte))?;
-        texts = worker.join(&rt)?;
+        let worker = thread::spawn_with(&rt, Anything, move || pushed(alloc, texts, byte)).expect(
+            &rt, "accepted",
+        );
+        texts = worker.join(&rt).expect(&rt, "accepted");
     }
     same(&rt, texts.len(), 1000);
     for (number, text) in texts.into_iter().enumerate() {
-        let text: ByteTendril = Tendril::from_send(text).ok().ok_or("from_send")?;
+        let text: ByteTendril = Tendril::from_send(text).ok().expect(&rt, "from_send");
         let (letters, digits) = text
             .as_byte_slice()
             .split_at_checked(number % 53)
-            .ok_or("too short")?;
+            .expect(&rt, "too short");
         same(&rt, letters, &LETTERS.as_bytes()[..number % 53]);
         same(&rt, digits, b"1234".as_slice());
     }
-    Ok(())
 }
 
 #[test]
-fn a_text_over_atomic_blocks_is_cloned_in_two_threads(rt: HostRuntime) -> Result<(), Fail> {
-    let text: Tendril<Bytes, Atomic> = slice_to_tendril(rt.alloc(), LETTERS.as_bytes())?;
-    let mine = text.clone()?;
+fn a_text_over_atomic_blocks_is_cloned_in_two_threads(rt: HostRuntime) {
+    let text: Tendril<Bytes, Atomic> = slice_to_tendril(rt.alloc(), LETTERS.as_bytes()).expect(
+        &rt, "accepted",
+    );
+    let mine = text.clone().expect(&rt, "accepted");
     let worker = thread::spawn_with(&rt, Anything, move || {
         (0..1000).all(|_| mine.clone().is_ok())
-    })?;
+    })
+    .expect(&rt, "accepted");
     let here = (0..1000).all(|_| text.clone().is_ok());
     let there = worker.join(&rt);
     assert!(rt; here && there);
     same(&rt, text.as_byte_slice(), LETTERS.as_bytes());
-    Ok(())
 }
 
 #[test]
 fn halves_of_a_pair_cross_and_meet(rt: HostRuntime) -> Result<(), Fail> {
-    let lead: Tendril<WTF8, NonAtomic> = Tendril::try_from_byte_slice(rt.alloc(), b"\xED\xA0\xBD")?;
+    let lead: Tendril<WTF8, NonAtomic> = Tendril::try_from_byte_slice(
+        rt.alloc(),
+        b"\xED\xA0\xBD",
+    ).expect(&rt, "accepted");
     let trail: Tendril<WTF8, NonAtomic> = Tendril::try_from_byte_slice(
         rt.alloc(),
         b"\xED\xB2\xA9",
-    )?;
+    ).expect(&rt, "accepted");
     let mut lead: Tendril<WTF8, Atomic> = sent(lead)?;
     let trail: Tendril<WTF8, Atomic> = sent(trail)?;
-    lead.push_tendril(&trail)?;
+    lead.push_tendril(&trail).expect(&rt, "accepted");
     same(&rt, lead.as_byte_slice(), b"\xF0\x9F\x92\xA9".as_slice());
     Ok(())
 }

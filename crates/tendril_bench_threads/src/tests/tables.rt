@@ -84,7 +84,13 @@ fn check_done(
     };
     same(rt, replies.len(), lines.len());
     for (reply, line) in replies.iter().zip(lines) {
-        same(rt, print_reply(rt.alloc(), reply)?.as_str(), *line);
+        same(
+            rt,
+            print_reply(rt.alloc(), reply)
+                .expect(rt, "accepted")
+                .as_str(),
+            *line,
+        );
     }
     Ok(())
 }
@@ -104,8 +110,10 @@ fn check_slot(rt: &impl Abort, outcome: Option<&Outcome>, expected: &[u8]) -> Re
 #[test]
 fn three_jobs_on_clones_of_one_text(rt: HostRuntime) -> Result<(), Fail> {
     let alloc = rt.alloc();
-    let text = slice_to_tendril(alloc, DIGITS)?;
-    let first = Vec::from_array(alloc, [push_one(alloc, b'X')?, Command::Text(0)])?;
+    let text = slice_to_tendril(alloc, DIGITS).expect(&rt, "accepted");
+    let first = Vec::from_array(alloc, [push_one(alloc, b'X')?, Command::Text(0)]).expect(
+        &rt, "accepted",
+    );
     let second = Vec::from_array(
         alloc,
         [
@@ -113,16 +121,19 @@ fn three_jobs_on_clones_of_one_text(rt: HostRuntime) -> Result<(), Fail> {
             Command::ThroughSend(0),
             Command::Text(0),
         ],
-    )?;
+    )
+    .expect(&rt, "accepted");
     let third = Vec::from_array(
         alloc,
         [Command::Slice(0, 0, 17), Command::Drop(0), Command::Text(0)],
-    )?;
+    )
+    .expect(&rt, "accepted");
     let mut jobs = Vec::new(alloc);
     for commands in [first, second, third] {
-        jobs.push(job(alloc, &text, NoGate, commands)?)?;
+        jobs.push(job(alloc, &text, NoGate, commands)?)
+            .expect(&rt, "accepted");
     }
-    let outcomes = run_tables(&rt, alloc, jobs).ok().ok_or("run_tables")?;
+    let outcomes = run_tables(&rt, alloc, jobs).ok().expect(&rt, "run_tables");
     same(&rt, outcomes.len(), 3);
     check_done(
         &rt,
@@ -146,27 +157,29 @@ fn three_jobs_on_clones_of_one_text(rt: HostRuntime) -> Result<(), Fail> {
 #[test]
 fn two_workers_meet(rt: HostRuntime) -> Result<(), Fail> {
     let alloc = rt.alloc();
-    let text = slice_to_tendril(alloc, DIGITS)?;
-    let first = Arc::new(alloc, AtomicBool::new(false))?;
-    let second = Arc::new(alloc, AtomicBool::new(false))?;
-    let first_met = Arc::new(alloc, AtomicBool::new(false))?;
-    let second_met = Arc::new(alloc, AtomicBool::new(false))?;
+    let text = slice_to_tendril(alloc, DIGITS).expect(&rt, "accepted");
+    let first = Arc::new(alloc, AtomicBool::new(false)).expect(&rt, "accepted");
+    let second = Arc::new(alloc, AtomicBool::new(false)).expect(&rt, "accepted");
+    let first_met = Arc::new(alloc, AtomicBool::new(false)).expect(&rt, "accepted");
+    let second_met = Arc::new(alloc, AtomicBool::new(false)).expect(&rt, "accepted");
     let mut jobs = Vec::new(alloc);
     let gate = Meeting {
-        mine: first.clone()?,
-        theirs: second.clone()?,
-        met: first_met.clone()?,
+        mine: first.clone().expect(&rt, "accepted"),
+        theirs: second.clone().expect(&rt, "accepted"),
+        met: first_met.clone().expect(&rt, "accepted"),
     };
-    let commands = Vec::from_array(alloc, [push_one(alloc, b'X')?])?;
-    jobs.push(job(alloc, &text, gate, commands)?)?;
+    let commands = Vec::from_array(alloc, [push_one(alloc, b'X')?]).expect(&rt, "accepted");
+    jobs.push(job(alloc, &text, gate, commands)?)
+        .expect(&rt, "accepted");
     let gate = Meeting {
-        mine: second.clone()?,
-        theirs: first.clone()?,
-        met: second_met.clone()?,
+        mine: second.clone().expect(&rt, "accepted"),
+        theirs: first.clone().expect(&rt, "accepted"),
+        met: second_met.clone().expect(&rt, "accepted"),
     };
-    let commands = Vec::from_array(alloc, [Command::PopFront(0, 4)])?;
-    jobs.push(job(alloc, &text, gate, commands)?)?;
-    let outcomes = run_tables(&rt, alloc, jobs).ok().ok_or("run_tables")?;
+    let commands = Vec::from_array(alloc, [Command::PopFront(0, 4)]).expect(&rt, "accepted");
+    jobs.push(job(alloc, &text, gate, commands)?)
+        .expect(&rt, "accepted");
+    let outcomes = run_tables(&rt, alloc, jobs).ok().expect(&rt, "run_tables");
     assert!(rt; first_met.load(Ordering::SeqCst));
     assert!(rt; second_met.load(Ordering::SeqCst));
     check_slot(&rt, outcomes.get(0), b"0123456789abcdefX")?;
@@ -176,17 +189,18 @@ fn two_workers_meet(rt: HostRuntime) -> Result<(), Fail> {
 }
 
 #[test]
-fn no_jobs(rt: HostRuntime) -> Result<(), Fail> {
+fn no_jobs(rt: HostRuntime) {
     let jobs: Vec<Job<OneClass, NoGate>> = Vec::new(rt.alloc());
-    let outcomes = run_tables(&rt, rt.alloc(), jobs).ok().ok_or("run_tables")?;
+    let outcomes = run_tables(&rt, rt.alloc(), jobs)
+        .ok()
+        .expect(&rt, "run_tables");
     same(&rt, outcomes.len(), 0);
-    Ok(())
 }
 
 #[test]
 fn a_job_whose_commands_are_all_refused(rt: HostRuntime) -> Result<(), Fail> {
     let alloc = rt.alloc();
-    let text = slice_to_tendril(alloc, DIGITS)?;
+    let text = slice_to_tendril(alloc, DIGITS).expect(&rt, "accepted");
     let commands = Vec::from_array(
         alloc,
         [
@@ -195,10 +209,12 @@ fn a_job_whose_commands_are_all_refused(rt: HostRuntime) -> Result<(), Fail> {
             Command::ThroughSend(1),
             Command::PopChar(0),
         ],
-    )?;
+    )
+    .expect(&rt, "accepted");
     let mut jobs = Vec::new(alloc);
-    jobs.push(job(alloc, &text, NoGate, commands)?)?;
-    let outcomes = run_tables(&rt, alloc, jobs).ok().ok_or("run_tables")?;
+    jobs.push(job(alloc, &text, NoGate, commands)?)
+        .expect(&rt, "accepted");
+    let outcomes = run_tables(&rt, alloc, jobs).ok().expect(&rt, "run_tables");
     check_done(
         &rt,
         outcomes.get(0),
@@ -215,7 +231,7 @@ fn a_job_whose_commands_are_all_refused(rt: HostRuntime) -> Result<(), Fail> {
 #[test]
 fn sixty_four_jobs_on_one_block(rt: HostRuntime) -> Result<(), Fail> {
     let alloc = rt.alloc();
-    let text = slice_to_tendril(alloc, DIGITS)?;
+    let text = slice_to_tendril(alloc, DIGITS).expect(&rt, "accepted");
     let mut jobs = Vec::new(alloc);
     for number in 0..64u8 {
         let commands = Vec::from_array(
@@ -225,16 +241,18 @@ fn sixty_four_jobs_on_one_block(rt: HostRuntime) -> Result<(), Fail> {
                 push_one(alloc, number)?,
                 Command::Drop(1),
             ],
-        )?;
-        jobs.push(job(alloc, &text, NoGate, commands)?)?;
+        )
+        .expect(&rt, "accepted");
+        jobs.push(job(alloc, &text, NoGate, commands)?)
+            .expect(&rt, "accepted");
     }
-    let outcomes = run_tables(&rt, alloc, jobs).ok().ok_or("run_tables")?;
+    let outcomes = run_tables(&rt, alloc, jobs).ok().expect(&rt, "run_tables");
     // Written out, since the number of outcomes bounds the cast below.
     assert_eq!(rt; outcomes.len(), 64);
     for (number, outcome) in outcomes.iter().enumerate() {
         check_done(&rt, Some(outcome), &["slot 1", "ok", "ok"])?;
-        let mut expected = DIGITS.to_vec(alloc)?;
-        expected.push(number as u8)?;
+        let mut expected = DIGITS.to_vec(alloc).expect(&rt, "accepted");
+        expected.push(number as u8).expect(&rt, "accepted");
         check_slot(&rt, Some(outcome), expected.as_slice())?;
     }
     same(&rt, text.as_byte_slice(), DIGITS);

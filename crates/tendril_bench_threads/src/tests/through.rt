@@ -14,10 +14,18 @@ fn check_script<A: Atomicity>(
 ) -> Result<(), Fail> {
     let mut table = Table::<A>::new(rt.alloc());
     for (line, expected) in script {
-        let command = parse_line(rt.alloc(), line.as_bytes())?.ok_or("no command")?;
-        let replies = run(&mut table, &[command], &OneClass)?;
-        let reply = replies.first().ok_or("no reply")?;
-        same(rt, print_reply(rt.alloc(), reply)?.as_str(), *expected);
+        let command = parse_line(rt.alloc(), line.as_bytes())
+            .expect(rt, "accepted")
+            .expect(rt, "no command");
+        let replies = run(&mut table, &[command], &OneClass).expect(rt, "accepted");
+        let reply = replies.first().expect(rt, "no reply");
+        same(
+            rt,
+            print_reply(rt.alloc(), reply)
+                .expect(rt, "accepted")
+                .as_str(),
+            *expected,
+        );
     }
     Ok(())
 }
@@ -25,11 +33,11 @@ fn check_script<A: Atomicity>(
 // Short and long texts, a shared one and a part, in the format of this name.
 fn check_texts<A: Atomicity>(rt: &(impl Abort + AllocGlobal), format: &str) -> Result<(), Fail> {
     let alloc = rt.alloc();
-    let short = format!(in alloc; "from {format} 6162")?;
-    let long = format!(in alloc; "from {format} 6162636465666768696a")?;
-    let short_text = format!(in alloc; "{format} 6162")?;
-    let long_text = format!(in alloc; "{format} 6162636465666768696a")?;
-    let part_text = format!(in alloc; "{format} 62636465666768696a")?;
+    let short = format!(in alloc; "from {format} 6162").expect(rt, "accepted");
+    let long = format!(in alloc; "from {format} 6162636465666768696a").expect(rt, "accepted");
+    let short_text = format!(in alloc; "{format} 6162").expect(rt, "accepted");
+    let long_text = format!(in alloc; "{format} 6162636465666768696a").expect(rt, "accepted");
+    let part_text = format!(in alloc; "{format} 62636465666768696a").expect(rt, "accepted");
     check_script::<A>(
         rt,
         &[

@@ -3,7 +3,6 @@
 use crate::tests::same;
 use std::alloc::AllocError;
 use std::fmt::{Debug, Display};
-use std::test::Fail;
 use tendril::{ByteTendril, StrTendril, slice_to_tendril, str_to_tendril};
 
 // By the bounds that a caller has.
@@ -32,45 +31,78 @@ fn debugged<T: Debug>(rt: &HostRuntime, value: &T) -> Result<String, AllocError>
 }
 
 #[test]
-fn a_text_is_displayed_as_a_string(rt: HostRuntime) -> Result<(), Fail> {
+fn a_text_is_displayed_as_a_string(rt: HostRuntime) {
     for string in [
         "",
         "foobar",
         "anextralongstring",
         "f\u{151}o \u{4e2d}\n\"\\",
     ] {
-        let text: StrTendril = str_to_tendril(rt.alloc(), string)?;
-        same(&rt, plain(&rt, &text)?.as_str(), string);
-        same(&rt, right(&rt, &text)?, right(&rt, &string)?);
-        same(&rt, dashed(&rt, &text)?, dashed(&rt, &string)?);
-        same(&rt, centred(&rt, &text)?, centred(&rt, &string)?);
-        same(&rt, cut(&rt, &text)?, cut(&rt, &string)?);
+        let text: StrTendril = str_to_tendril(rt.alloc(), string).expect(&rt, "accepted");
+        same(
+            &rt,
+            plain(&rt, &text).expect(&rt, "accepted").as_str(),
+            string,
+        );
+        same(
+            &rt,
+            right(&rt, &text).expect(&rt, "accepted"),
+            right(&rt, &string).expect(&rt, "accepted"),
+        );
+        same(
+            &rt,
+            dashed(&rt, &text).expect(&rt, "accepted"),
+            dashed(&rt, &string).expect(&rt, "accepted"),
+        );
+        same(
+            &rt,
+            centred(&rt, &text).expect(&rt, "accepted"),
+            centred(&rt, &string).expect(&rt, "accepted"),
+        );
+        same(
+            &rt,
+            cut(&rt, &text).expect(&rt, "accepted"),
+            cut(&rt, &string).expect(&rt, "accepted"),
+        );
     }
-    Ok(())
 }
 
 #[test]
-fn widths_and_fills(rt: HostRuntime) -> Result<(), Fail> {
-    let text: StrTendril = str_to_tendril(rt.alloc(), "foobar")?;
-    same(&rt, right(&rt, &text)?.as_str(), "      foobar");
-    same(&rt, dashed(&rt, &text)?.as_str(), "<foobar------>");
-    same(&rt, cut(&rt, &text)?.as_str(), "<______fo>");
-    let text: StrTendril = str_to_tendril(rt.alloc(), "anextralongstring")?;
-    same(&rt, right(&rt, &text)?.as_str(), "anextralongstring");
-    Ok(())
+fn widths_and_fills(rt: HostRuntime) {
+    let text: StrTendril = str_to_tendril(rt.alloc(), "foobar").expect(&rt, "accepted");
+    same(
+        &rt,
+        right(&rt, &text).expect(&rt, "accepted").as_str(),
+        "      foobar",
+    );
+    same(
+        &rt,
+        dashed(&rt, &text).expect(&rt, "accepted").as_str(),
+        "<foobar------>",
+    );
+    same(
+        &rt,
+        cut(&rt, &text).expect(&rt, "accepted").as_str(),
+        "<______fo>",
+    );
+    let text: StrTendril = str_to_tendril(rt.alloc(), "anextralongstring").expect(&rt, "accepted");
+    same(
+        &rt,
+        right(&rt, &text).expect(&rt, "accepted").as_str(),
+        "anextralongstring",
+    );
 }
 
 #[test]
-fn a_text_is_written_to_a_writer(rt: HostRuntime) -> Result<(), Fail> {
-    let text: StrTendril = str_to_tendril(rt.alloc(), "foobar")?;
+fn a_text_is_written_to_a_writer(rt: HostRuntime) {
+    let text: StrTendril = str_to_tendril(rt.alloc(), "foobar").expect(&rt, "accepted");
     let mut out = String::new(rt.alloc());
-    write!(out, "<{text:^8}>")?;
+    write!(out, "<{text:^8}>").expect(&rt, "accepted");
     same(&rt, out.as_str(), "< foobar >");
-    Ok(())
 }
 
 #[test]
-fn debug_of_inline_texts(rt: HostRuntime) -> Result<(), Fail> {
+fn debug_of_inline_texts(rt: HostRuntime) {
     for (string, want) in [
         ("", "Tendril<UTF8>(inline: \"\")"),
         ("foobar", "Tendril<UTF8>(inline: \"foobar\")"),
@@ -79,37 +111,66 @@ fn debug_of_inline_texts(rt: HostRuntime) -> Result<(), Fail> {
             "Tendril<UTF8>(inline: \"a\\\"\\n\u{4e2d}\")",
         ),
     ] {
-        let text: StrTendril = str_to_tendril(rt.alloc(), string)?;
-        same(&rt, debugged(&rt, &text)?.as_str(), want);
+        let text: StrTendril = str_to_tendril(rt.alloc(), string).expect(&rt, "accepted");
+        same(
+            &rt,
+            debugged(&rt, &text).expect(&rt, "accepted").as_str(),
+            want,
+        );
     }
-    let bytes: ByteTendril = slice_to_tendril(rt.alloc(), b"foobar")?;
+    let bytes: ByteTendril = slice_to_tendril(rt.alloc(), b"foobar").expect(&rt, "accepted");
     let want = "Tendril<Bytes>(inline: [102, 111, 111, 98, 97, 114])";
-    same(&rt, debugged(&rt, &bytes)?.as_str(), want);
-    Ok(())
+    same(
+        &rt,
+        debugged(&rt, &bytes).expect(&rt, "accepted").as_str(),
+        want,
+    );
 }
 
 #[test]
-fn debug_of_long_texts(rt: HostRuntime) -> Result<(), Fail> {
-    let text: StrTendril = str_to_tendril(rt.alloc(), "anextralongstring")?;
+fn debug_of_long_texts(rt: HostRuntime) {
+    let text: StrTendril = str_to_tendril(rt.alloc(), "anextralongstring").expect(&rt, "accepted");
     let owned = "Tendril<UTF8>(owned: \"anextralongstring\")";
-    same(&rt, debugged(&rt, &text)?.as_str(), owned);
-    let clone = text.clone()?;
+    same(
+        &rt,
+        debugged(&rt, &text).expect(&rt, "accepted").as_str(),
+        owned,
+    );
+    let clone = text.clone().expect(&rt, "accepted");
     let shared = "Tendril<UTF8>(shared: \"anextralongstring\")";
-    same(&rt, debugged(&rt, &text)?.as_str(), shared);
-    same(&rt, debugged(&rt, &clone)?.as_str(), shared);
-    Ok(())
+    same(
+        &rt,
+        debugged(&rt, &text).expect(&rt, "accepted").as_str(),
+        shared,
+    );
+    same(
+        &rt,
+        debugged(&rt, &clone).expect(&rt, "accepted").as_str(),
+        shared,
+    );
 }
 
 #[test]
-fn debug_of_long_byte_texts(rt: HostRuntime) -> Result<(), Fail> {
-    let mut text: ByteTendril = slice_to_tendril(rt.alloc(), b"012345678")?;
+fn debug_of_long_byte_texts(rt: HostRuntime) {
+    let mut text: ByteTendril = slice_to_tendril(rt.alloc(), b"012345678").expect(&rt, "accepted");
     let owned = "Tendril<Bytes>(owned: [48, 49, 50, 51, 52, 53, 54, 55, 56])";
-    same(&rt, debugged(&rt, &text)?.as_str(), owned);
-    let _clone = text.clone()?;
+    same(
+        &rt,
+        debugged(&rt, &text).expect(&rt, "accepted").as_str(),
+        owned,
+    );
+    let _clone = text.clone().expect(&rt, "accepted");
     let shared = "Tendril<Bytes>(shared: [48, 49, 50, 51, 52, 53, 54, 55, 56])";
-    same(&rt, debugged(&rt, &text)?.as_str(), shared);
-    text.push_slice(b"9")?;
+    same(
+        &rt,
+        debugged(&rt, &text).expect(&rt, "accepted").as_str(),
+        shared,
+    );
+    text.push_slice(b"9").expect(&rt, "accepted");
     let pushed = "Tendril<Bytes>(owned: [48, 49, 50, 51, 52, 53, 54, 55, 56, 57])";
-    same(&rt, debugged(&rt, &text)?.as_str(), pushed);
-    Ok(())
+    same(
+        &rt,
+        debugged(&rt, &text).expect(&rt, "accepted").as_str(),
+        pushed,
+    );
 }

@@ -8,13 +8,13 @@ use std::test::Fail;
 fn check_that_holders_keep_their_bytes<A: Atomicity>(
     rt: &(impl Abort + AllocGlobal),
 ) -> Result<(), Fail> {
-    let bytes = Vec::from_slice(rt.alloc(), DIGITS)?;
-    let mut first = A::make(bytes).ok().ok_or("make")?;
-    let second = A::share(&first)?;
+    let bytes = Vec::from_slice(rt.alloc(), DIGITS).expect(rt, "accepted");
+    let mut first = A::make(bytes).ok().expect(rt, "make");
+    let second = A::share(&first).expect(rt, "accepted");
     assert!(rt; A::alone_mut(&mut first).is_none());
 
-    let own = A::make_mut(&mut first)?;
-    own.append(b"X")?;
+    let own = A::make_mut(&mut first).expect(rt, "accepted");
+    own.append(b"X").expect(rt, "accepted");
     assert_eq!(rt; A::bytes(&first), b"0123456789X".as_slice());
     assert_eq!(rt; A::bytes(&second), DIGITS);
     Ok(())
@@ -23,12 +23,12 @@ fn check_that_holders_keep_their_bytes<A: Atomicity>(
 fn check_that_the_only_holder_writes<A: Atomicity>(
     rt: &(impl Abort + AllocGlobal),
 ) -> Result<(), Fail> {
-    let bytes = Vec::from_slice(rt.alloc(), DIGITS)?;
-    let mut block = A::make(bytes).ok().ok_or("make")?;
-    let body = A::alone_mut(&mut block).ok_or("not alone")?;
-    body.reserve(100)?;
-    body.replace_end(4, b"ab", b"cde")?;
-    body.append(b"f")?;
+    let bytes = Vec::from_slice(rt.alloc(), DIGITS).expect(rt, "accepted");
+    let mut block = A::make(bytes).ok().expect(rt, "make");
+    let body = A::alone_mut(&mut block).expect(rt, "not alone");
+    body.reserve(100).expect(rt, "accepted");
+    body.replace_end(4, b"ab", b"cde").expect(rt, "accepted");
+    body.append(b"f").expect(rt, "accepted");
     body.truncate(9);
     assert_eq!(rt; A::bytes(&block), b"0123abcde".as_slice());
     Ok(())
@@ -37,13 +37,13 @@ fn check_that_the_only_holder_writes<A: Atomicity>(
 fn check_that_the_only_holder_takes_the_bytes_out<A: Atomicity>(
     rt: &(impl Abort + AllocGlobal),
 ) -> Result<(), Fail> {
-    let bytes = Vec::from_slice(rt.alloc(), DIGITS)?;
-    let first = A::make(bytes).ok().ok_or("make")?;
-    let second = A::share(&first)?;
-    let first = A::into_sole(first).err().ok_or("two holders")?;
+    let bytes = Vec::from_slice(rt.alloc(), DIGITS).expect(rt, "accepted");
+    let first = A::make(bytes).ok().expect(rt, "make");
+    let second = A::share(&first).expect(rt, "accepted");
+    let first = A::into_sole(first).err().expect(rt, "two holders");
     drop(second);
-    let sole = A::into_sole(first).ok().ok_or("one holder")?;
-    let block = A::from_sole(sole).ok().ok_or("from_sole")?;
+    let sole = A::into_sole(first).ok().expect(rt, "one holder");
+    let block = A::from_sole(sole).ok().expect(rt, "from_sole");
     assert_eq!(rt; A::bytes(&block), DIGITS);
     Ok(())
 }

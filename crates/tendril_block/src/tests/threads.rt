@@ -4,7 +4,6 @@ use crate::{Atomic, AtomicUpTo, Atomicity, Refusal};
 use std::alloc::Global;
 use std::sync::Arc;
 use std::sync::atomic::{AtomicU64, Ordering};
-use std::test::Fail;
 use std::thread;
 use std::thread::{Promise, yield_now};
 
@@ -25,13 +24,17 @@ fn share_often(mine: <Atomic as Atomicity>::Block) -> bool {
 }
 
 #[test]
-fn eight_threads_share_and_drop(rt: HostRuntime) -> Result<(), Fail> {
-    let bytes = Vec::from_slice(rt.alloc(), TWENTY)?;
-    let mut last = Atomic::make(bytes).ok().ok_or("make")?;
+fn eight_threads_share_and_drop(rt: HostRuntime) {
+    let bytes = Vec::from_slice(rt.alloc(), TWENTY).expect(&rt, "accepted");
+    let mut last = Atomic::make(bytes).ok().expect(&rt, "make");
     let mut threads = Vec::new(rt.alloc());
     for _ in 0..8 {
-        let mine = Atomic::share(&last)?;
-        threads.push(thread::spawn_with(&rt, Anything, move || share_often(mine))?)?;
+        let mine = Atomic::share(&last).expect(&rt, "accepted");
+        threads
+            .push(thread::spawn_with(&rt, Anything, move || share_often(mine)).expect(
+                &rt, "accepted",
+            ))
+            .expect(&rt, "accepted");
     }
     for thread in threads {
         let all_were_ok = thread.join(&rt);
@@ -39,10 +42,9 @@ fn eight_threads_share_and_drop(rt: HostRuntime) -> Result<(), Fail> {
     }
     assert_eq!(rt; Atomic::bytes(&last), TWENTY);
     assert!(rt; Atomic::alone_mut(&mut last).is_some());
-    let sole = Atomic::into_sole(last).ok().ok_or("one holder")?;
-    let block = Atomic::from_sole(sole).ok().ok_or("from_sole")?;
+    let sole = Atomic::into_sole(last).ok().expect(&rt, "one holder");
+    let block = Atomic::from_sole(sole).ok().expect(&rt, "from_sole");
     assert_eq!(rt; Atomic::bytes(&block), TWENTY);
-    Ok(())
 }
 
 // Waits until three threads are done, so that each keeps its holder until then.
@@ -77,22 +79,25 @@ fn kept(
 }
 
 #[test]
-fn three_threads_with_three_holders_share_no_more(rt: HostRuntime) -> Result<(), Fail> {
-    let bytes = Vec::from_slice(rt.alloc(), TWENTY)?;
-    let first = ThreeHolders::make(bytes).ok().ok_or("make")?;
-    let second = ThreeHolders::share(&first)?;
-    let third = ThreeHolders::share(&first)?;
-    let done = Arc::new(rt.alloc(), AtomicU64::new(0))?;
+fn three_threads_with_three_holders_share_no_more(rt: HostRuntime) {
+    let bytes = Vec::from_slice(rt.alloc(), TWENTY).expect(&rt, "accepted");
+    let first = ThreeHolders::make(bytes).ok().expect(&rt, "make");
+    let second = ThreeHolders::share(&first).expect(&rt, "accepted");
+    let third = ThreeHolders::share(&first).expect(&rt, "accepted");
+    let done = Arc::new(rt.alloc(), AtomicU64::new(0)).expect(&rt, "accepted");
     let mut threads = Vec::new(rt.alloc());
     for mine in [first, second, third] {
-        let done = Arc::try_clone(&done)?;
-        threads.push(thread::spawn_with(&rt, Anything, move || kept(mine, done))?)?;
+        let done = Arc::try_clone(&done).expect(&rt, "accepted");
+        threads
+            .push(thread::spawn_with(&rt, Anything, move || kept(mine, done)).expect(
+                &rt, "accepted",
+            ))
+            .expect(&rt, "accepted");
     }
     let mut last = None;
     for thread in threads {
-        last = Some(thread.join(&rt).ok_or("a share that wasn't refused")?);
+        last = Some(thread.join(&rt).expect(&rt, "a share that wasn't refused"));
     }
-    let mut last = last.ok_or("a thread")?;
+    let mut last = last.expect(&rt, "a thread");
     assert!(rt; ThreeHolders::alone_mut(&mut last).is_some());
-    Ok(())
 }

@@ -81,10 +81,14 @@ fn a_malformed_line_changes_nothing(rt: HostRuntime) -> Result<(), Fail> {
         \xff\xfe 0\n\
         text \xff\n\
         text 0\n";
-    let mut printed = Vec::from_slice(rt.alloc(), b"slot 0\n")?;
+    let mut printed = Vec::from_slice(rt.alloc(), b"slot 0\n").expect(&rt, "accepted");
     for _ in 0..39 {
-        printed.extend_from_slice(b"malformed\n")?;
+        printed
+            .extend_from_slice(b"malformed\n")
+            .expect(&rt, "accepted");
     }
-    printed.extend_from_slice(b"utf8 3031\n")?;
+    printed
+        .extend_from_slice(b"utf8 3031\n")
+        .expect(&rt, "accepted");
     check_script(rt.alloc(), script, printed.as_slice())
 }

@@ -1,6 +1,6 @@
-use Rattle.std.proofs.Common.{⊎_elim}
+use Rattle.std.proofs.Common.{⊎_elim, inl, inr}
 use Rattle.std.proofs.lemmas.Result.{IfOk-weaker, IfErr-weaker}
-use Rattle.tendril_stream.proofs.Refused.{alive, end_refused, piece_refused}
+use Rattle.tendril_stream.proofs.Refused.{alive, stops_at_end, stops_at_piece}
 use Rattle.tendril_stream.proofs.Stands.{bytes_of, ends_at, stands_from_nothing}
 use Rattle.tendril_stream.proofs.pieces.decode_pieces_into.Goals as goal
 
@@ -12,8 +12,18 @@ returns-clause-ok g c = IfOk-weaker c.from_iter.result _ _ (λ out h.
 
 pub returns-clause-refusal : goal.returns-clause-refusal
 returns-clause-refusal g c = IfErr-weaker c.from_iter.result _ _ (λ r h.
-    let running = alive g.S.TendrilSink.takes g.S.TendrilSink.refuses g.S.TendrilSink.ends (λ d. d.inner_sink) (λ d. d.kept) (λ d. d.failed) h.sent c.new.result h.sunk c.new.ensures.failed h.calls in
-    ⊎_elim
-    (λ k. piece_refused g.S.TendrilSink.takes g.S.TendrilSink.refuses g.S.TendrilSink.ends (λ d. d.inner_sink) (λ d. d.kept) (λ d. d.failed) h.sunk k.0 r k.2 running k.3)
-    (λ k. end_refused g.S.TendrilSink.takes g.S.TendrilSink.refuses g.S.TendrilSink.ends (λ d. d.inner_sink) (λ d. d.kept) (λ d. d.failed) h.sunk r running k.1)
-    h.stop) c.from_iter.ensures.err
+    let d = c.new.result in
+    let at = stands_from_nothing g.S.TendrilSink.takes g.S.Tracks.after g.met.S.Tracks.goes_on (λ d. d.inner_sink) (λ d. d.kept) (λ d. d.failed) h.sent d h.sunk c.args.sink c.new.ensures.sink c.new.ensures.kept c.requires.new h.calls in
+    let running = alive g.S.TendrilSink.takes g.S.TendrilSink.refuses (λ d. d.inner_sink) (λ d. d.kept) (λ d. d.failed) h.sent d h.sunk c.new.ensures.failed h.calls in
+    record {
+      iterator = h.iterator;
+      made = h.made;
+      read = h.sent;
+      last = h.last;
+      sink = h.sunk.inner_sink;
+      tells = at.tells;
+      stop = ⊎_elim
+          (λ k. inl (k.0, k.1, k.2.inner_sink, stops_at_piece g.S.TendrilSink.takes g.S.TendrilSink.refuses (λ d. d.inner_sink) (λ d. d.kept) (λ d. d.failed) h.sunk k.0 r k.2 (bytes_of h.sent) running at.keeps k.3))
+          (λ k. inr (k.0, stops_at_end g.S.TendrilSink.takes g.S.TendrilSink.refuses (λ d. d.inner_sink) (λ d. d.kept) (λ d. d.failed) g.S.TendrilSink.ends h.sunk r (bytes_of h.sent) running at.keeps k.1))
+          h.stop;
+    }) c.from_iter.ensures.err
