@@ -17,3 +17,4 @@ pub use Rattle.tendril_stream.specs.Reads
 pub use Rattle.tendril_stream.specs.Readings
 pub use Rattle.tendril_stream.specs.Stored
 pub use Rattle.tendril_lossy.specs.Lossy
+pub use Rattle.tendril_lossy.specs.Completions

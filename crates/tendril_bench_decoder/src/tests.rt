@@ -15,6 +15,7 @@ mod room;
 mod rows;
 mod script;
 mod slow;
+mod worked;
 
 use std::fmt::Debug;
 use std::process::Abort;

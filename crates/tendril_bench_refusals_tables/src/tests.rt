@@ -1,8 +1,12 @@
-//! Each file has a session, as `tendril_bench_refusals` says.
+//! Each file but `rows` has a session, as `tendril_bench_refusals` says.
 
+mod changing;
 mod commands;
 mod growing;
+mod pushing;
+mod rows;
 mod tables;
+mod worked_rows;
 
 use std::test::Fail;
 use tendril::Atomicity;

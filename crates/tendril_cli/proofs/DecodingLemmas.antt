@@ -8,7 +8,7 @@ use Rattle.std.specs.List.{FoldsTo}
 use Rattle.tendril_text.specs.Pushes.{Joins as Pushes}
 use Rattle.tendril_text.specs.Texts.{Text}
 use Rattle.tendril_block.specs.declared.refusal.Refusal.{Refusal}
-use Rattle.tendril_block.specs.declared.refusal.Refusal.TheVariants.{Failed, TooManyReads}
+use Rattle.tendril_block.specs.declared.refusal.Refusal.TheVariants.{Failed, SinkRefused, TooManyReads}
 use Rattle.tendril_lossy.proofs.Streams.{due-append, due_open-append, kept-append}
 use Rattle.tendril_lossy.proofs.Lossy.{lossy-nil}
 use Rattle.tendril_lossy.specs.Lossy.{Told, Char, Mark, characters, closed_of, cut_bytes, due, due_open, kept}
@@ -19,7 +19,6 @@ use Rattle.tendril_stream.specs.Reads.{Reads}
 use Rattle.tendril_stream.specs.Sinks.{Sent, Piece, Feeds, IsStop, told, told_of}
 use Rattle.tendril_cli.specs.Decodings.{DecodingStops, EndsDecoding, IsReady, StopsBehind, Writes, WritesFront, WritesOn}
 use Rattle.tendril_cli.specs.Endings.{TakesFront}
-use Rattle.tendril_cli.proofs.EndingLemmas.{whole_front}
 
 pub characters-append : (xs ys : List Told) → characters (xs ++ ys) ≡ characters xs ++ characters ys
 characters-append [] ys = refl
@@ -81,20 +80,20 @@ pub due_front : (b l : List ℕ) → characters (due (b ++ l)) ≡ characters (d
 due_front b l = ap characters (due-append b l) ∙ characters-append (due_open b) (due (kept b ++ l))
 
 -- nothing is written
-pub front_nothing : (known : Option (List ℕ)) (cs : List ℕ) → WritesFront cs known known
-front_nothing known cs = record { bytes = []; rest = cs; utf8 = IsUtf8-nil; spells = ap (λ l. l ++ cs) chars-nil; front = whole_front known known [] (Appends-nil known) }
+pub front_nothing : (known : Option (List ℕ)) (cs : List ℕ) (r : Refusal) → WritesFront cs known known r
+front_nothing known cs r = record { bytes = []; rest = cs; utf8 = IsUtf8-nil; spells = ap (λ l. l ++ cs) chars-nil; front = record { taken = []; rest = []; splits = refl; appends = Appends-nil known }; whole = inr refl }
 
-pub stops_unwritten : (b p : List ℕ) (left known : Option (List ℕ)) → StopsBehind b p left known known
-stops_unwritten b p left known =
+pub stops_unwritten : (b p : List ℕ) (left known : Option (List ℕ)) (r : Refusal) → StopsBehind b p left known known r
+stops_unwritten b p left known r =
     let more = characters (due_open (kept b ++ p)) in
-    (more, front_nothing known more, inl (sym (characters-append (due_open b) (due_open (kept b ++ p))) ∙ ap characters (sym (due_open-append b p))))
+    (more, front_nothing known more r, inl (sym (characters-append (due_open b) (due_open (kept b ++ p))) ∙ ap characters (sym (due_open-append b p))))
 
 -- a text
 pub writes_text : (before after : Option (List ℕ)) (bytes : List ℕ) → IsUtf8 bytes → Appends before after bytes → Writes (chars bytes) before after
 writes_text before after bytes u h = record { bytes = bytes; utf8 = u; spells = refl; appends = h }
 
-pub front_of_text : (before after : Option (List ℕ)) (bytes : List ℕ) → IsUtf8 bytes → TakesFront before after bytes → WritesFront (chars bytes) before after
-front_of_text before after bytes u h = record { bytes = bytes; rest = []; utf8 = u; spells = append-nil (chars bytes); front = h }
+pub front_of_text : (before after : Option (List ℕ)) (bytes : List ℕ) (r : Refusal) → IsUtf8 bytes → TakesFront before after bytes → r ≡ SinkRefused → WritesFront (chars bytes) before after r
+front_of_text before after bytes r u h is = record { bytes = bytes; rest = []; utf8 = u; spells = append-nil (chars bytes); front = h; whole = inl is }
 
 -- one behind the other
 pub writes_both : (a b c : Option (List ℕ)) (cs ds : List ℕ) → Writes cs a b → Writes ds b c → Writes (cs ++ ds) a c
@@ -105,31 +104,29 @@ writes_both a b c cs ds x y = record {
   appends = Appends-trans a b c x.bytes y.bytes x.appends y.appends;
 }
 
-pub writes_then_front : (a b c : Option (List ℕ)) (cs ds : List ℕ) → Writes cs a b → WritesFront ds b c → WritesFront (cs ++ ds) a c
-writes_then_front a b c cs ds x y = record {
+pub writes_then_front : (a b c : Option (List ℕ)) (cs ds : List ℕ) (r : Refusal) → Writes cs a b → WritesFront ds b c r → WritesFront (cs ++ ds) a c r
+writes_then_front a b c cs ds r x y = record {
   bytes = x.bytes ++ y.bytes;
   rest = y.rest;
   utf8 = IsUtf8-append x.bytes y.bytes x.utf8 y.utf8;
   spells = ap (λ l. l ++ y.rest) (chars-append x.bytes y.bytes x.utf8) ∙ append_assoc (chars x.bytes) (chars y.bytes) y.rest ∙ ap₂ (λ l m. l ++ m) x.spells y.spells;
   front = record { taken = x.bytes ++ y.front.taken; rest = y.front.rest; splits = ap (λ l. x.bytes ++ l) y.front.splits ∙ sym (append_assoc x.bytes y.front.taken y.front.rest); appends = Appends-trans a b c x.bytes y.front.taken x.appends y.front.appends };
+  whole = y.whole;
 }
 
 -- more is due behind it
-pub front_of_more : (a b : Option (List ℕ)) (cs more all : List ℕ) → WritesFront cs a b → cs ++ more ≡ all → WritesFront all a b
-front_of_more a b cs more all x is = record { bytes = x.bytes; rest = x.rest ++ more; utf8 = x.utf8; spells = sym (append_assoc (chars x.bytes) x.rest more) ∙ ap (λ l. l ++ more) x.spells ∙ is; front = x.front }
-
-pub whole_is_front : (a b : Option (List ℕ)) (cs : List ℕ) → Writes cs a b → WritesFront cs a b
-whole_is_front a b cs x = record { bytes = x.bytes; rest = []; utf8 = x.utf8; spells = append-nil (chars x.bytes) ∙ x.spells; front = whole_front a b x.bytes x.appends }
+pub front_of_more : (a b : Option (List ℕ)) (cs more all : List ℕ) (r : Refusal) → WritesFront cs a b r → cs ++ more ≡ all → WritesFront all a b r
+front_of_more a b cs more all r x is = record { bytes = x.bytes; rest = x.rest ++ more; utf8 = x.utf8; spells = sym (append_assoc (chars x.bytes) x.rest more) ∙ ap (λ l. l ++ more) x.spells ∙ is; front = x.front; whole = x.whole }
 
 -- a stop behind what was written
-pub stops_all : (old left : Option (List ℕ)) (before mid after : Option (List ℕ)) (b p : List ℕ) → Writes (characters (due_open b)) before mid → Consumes old left (b ++ p) → StopsBehind b p left mid after → IfSome old (λ bytes. DecodingStops bytes before after)
-stops_all None left before mid after b p w c s = tt
-stops_all (Some x) None before mid after b p w c s = absurd c
-stops_all (Some x) (Some y) before mid after b p w c (more, front, inl is) =
-    front_of_more before after (characters (due_open b) ++ more) (characters (due (kept (b ++ p) ++ y))) (characters (due x)) (writes_then_front before mid after (characters (due_open b)) more w front)
+pub stops_all : (old left : Option (List ℕ)) (before mid after : Option (List ℕ)) (b p : List ℕ) (r : Refusal) → Writes (characters (due_open b)) before mid → Consumes old left (b ++ p) → StopsBehind b p left mid after r → IfSome old (λ bytes. DecodingStops bytes before after r)
+stops_all None left before mid after b p r w c s = tt
+stops_all (Some x) None before mid after b p r w c s = absurd c
+stops_all (Some x) (Some y) before mid after b p r w c (more, front, inl is) =
+    front_of_more before after (characters (due_open b) ++ more) (characters (due (kept (b ++ p) ++ y))) (characters (due x)) r (writes_then_front before mid after (characters (due_open b)) more r w front)
     (ap (λ l. l ++ characters (due (kept (b ++ p) ++ y))) is ∙ sym (due_front (b ++ p) y) ∙ ap (λ l. characters (due l)) (sym c))
-stops_all (Some x) (Some y) before mid after b p w c (more, front, inr is) =
-    front_of_more before after (characters (due_open b) ++ more) [] (characters (due x)) (writes_then_front before mid after (characters (due_open b)) more w front)
+stops_all (Some x) (Some y) before mid after b p r w c (more, front, inr is) =
+    front_of_more before after (characters (due_open b) ++ more) [] (characters (due x)) r (writes_then_front before mid after (characters (due_open b)) more r w front)
     (append-nil (characters (due_open b) ++ more) ∙ is.0 ∙ ap (λ l. characters (due l)) (sym (append-nil (b ++ p)) ∙ ap (λ l. (b ++ p) ++ l) (sym is.1) ∙ sym c))
 
 pub pushed : (r : Result (Unit {0}) Refusal) (old new : Text) (more : List ℕ) → IsUtf8 old.bytes → Pushes (λ a b. a ++ b) more old r new → OnOk r (chars new.bytes ≡ chars old.bytes ++ characters (map Char (chars more)))
@@ -157,20 +154,20 @@ module _ {D S : Type 0} (inner : D → S) (held : D → List ℕ) (failed : D �
   reads_more most written b d next these (inr (inl h)) whole s = absurd (process_clash _ _ _ _ _ _ h.2 TooManyReads h.6.1 (inl refl))
   reads_more most written b d next these (inr (inr h)) whole s = absurd (end_clash _ _ _ _ _ _ TooManyReads h.2 (inl refl))
 
-  stop_ends : (mid new : S) (r : Refusal) → IsStop refuses mid r new → EndsDecoding r
-  stop_ends mid new r (inl h) = inr (inl h.0)
-  stop_ends mid new r (inr h) = inr (inr (inr (inr h.0)))
+  stop_ends : (piece : Text) (mid new : S) (r : Refusal) → IsStop refuses piece mid r new → EndsDecoding r
+  stop_ends piece mid new r (inl h) = inr (inl h.0.0)
+  stop_ends piece mid new r (inr h) = inr (inr (inr (inr h.0)))
 
   -- any other refusal ends the decoding
   pub halts_ends : (most : ℕ) (d : D) (these : Reads) (r : Refusal) (handed : Option D) → Halts DecoderTakes DecoderRefuses DecoderEnds most d these r handed → failed d ≡ false → EndsDecoding r
   halts_ends most d these r handed (inl h) whole = ⊎_elim (λ k. inr (inr (inl k.0))) (λ k. ⊎_elim (λ i. inr (inr (inr (inl i.0)))) (λ m. inl m.0) k) h.3
   halts_ends most d these r handed (inr (inl h)) whole = ⊎_elim
       (λ k. absurd (true≢false (sym k.0 ∙ unfailed failed _ h.4.0 d h.0 whole h.4.1)))
-      (λ k. stop_ends k.1.mid (inner h.3) r k.1.stop)
+      (λ k. stop_ends h.2 k.1.mid (inner h.3) r k.1.stop)
       h.6.1
   halts_ends most d these r handed (inr (inr h)) whole = ⊎_elim
       (λ k. absurd (true≢false (sym k.0 ∙ unfailed failed _ h.1.0 d h.0 whole h.1.1)))
-      (λ k. ⊎_elim (λ v. stop_ends v.1.mid v.0 r v.1.stop) (λ v. inr (inr (inr (inr v.2)))) k.1)
+      (λ k. ⊎_elim (λ v. stop_ends nothing v.1.mid v.0 r v.1.stop) (λ v. inr (inr (inr (inr v.2)))) k.1)
       h.2
 
   -- all is read, and the sink's end is accepted

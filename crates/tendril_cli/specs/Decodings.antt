@@ -13,21 +13,22 @@ pub record Writes (characters : List ℕ) (before after : Option (List ℕ)) : T
   pub spells : chars bytes ≡ characters
   pub appends : Appends before after bytes
 
--- or a front of some that these begin with: what a refusal leaves
-pub record WritesFront (characters : List ℕ) (before after : Option (List ℕ)) : Type 0 where
+-- or some that these begin with, of which a refused write takes a front: what a refusal leaves
+pub record WritesFront (characters : List ℕ) (before after : Option (List ℕ)) (refusal : Refusal) : Type 0 where
   pub bytes : List ℕ
   pub rest : List ℕ
   pub utf8 : IsUtf8 bytes
   pub spells : chars bytes ++ rest ≡ characters
   pub front : TakesFront before after bytes
+  pub whole : (refusal ≡ SinkRefused) ⊎ (front.rest ≡ [])
 
 -- all that is due of these bytes is written
 abbrev pub Decoded : List ℕ → Option (List ℕ) → Option (List ℕ) → Type 0
 Decoded bytes before after = Writes (characters (due bytes)) before after
 
 -- or the beginning of it
-abbrev pub DecodingStops : List ℕ → Option (List ℕ) → Option (List ℕ) → Type 0
-DecodingStops bytes before after = WritesFront (characters (due bytes)) before after
+abbrev pub DecodingStops : List ℕ → Option (List ℕ) → Option (List ℕ) → Refusal → Type 0
+DecodingStops bytes before after refusal = WritesFront (characters (due bytes)) before after refusal
 
 -- a decoder that hasn't failed, keeps what b leaves open, and has sent on all that is due of b
 pub record IsReady (b held : List ℕ) (failed : Bool) (unwritten : List ℕ) : Type 0 where
@@ -40,8 +41,8 @@ abbrev pub WritesOn : List ℕ → List Told → Option (List ℕ) → Option (L
 WritesOn b told before after = (more : List ℕ) × Writes more before after × (characters (due_open b) ++ more ≡ characters told)
 
 -- or the beginning of it, where p was read behind b
-abbrev pub StopsBehind : List ℕ → List ℕ → Option (List ℕ) → Option (List ℕ) → Option (List ℕ) → Type 0
-StopsBehind b p left before after = (more : List ℕ) × WritesFront more before after
+abbrev pub StopsBehind : List ℕ → List ℕ → Option (List ℕ) → Option (List ℕ) → Option (List ℕ) → Refusal → Type 0
+StopsBehind b p left before after refusal = (more : List ℕ) × WritesFront more before after refusal
     × ((characters (due_open b) ++ more ≡ characters (due_open (b ++ p))) ⊎ ((characters (due_open b) ++ more ≡ characters (due (b ++ p))) × IsAtEnd left))
 
 -- the refusals that end a decoding
@@ -52,5 +53,5 @@ EndsDecoding refusal = (refusal ≡ Memory) ⊎ ((refusal ≡ Count) ⊎ ((refus
 pub record DecodingEnded (remaining before after told told' : Option (List ℕ)) : Type 0 where
   pub refusal : Refusal
   pub ends : EndsDecoding refusal
-  pub stops : IfSome remaining (λ bytes. DecodingStops bytes before after)
+  pub stops : IfSome remaining (λ bytes. DecodingStops bytes before after refusal)
   pub tells : TakesFront told told' (complaint refusal)

@@ -13,17 +13,20 @@ use tendril_stream::{Counted, CountedRead, Stopped, Utf8LossyDecoder, read_from}
 use tendril_text::StrTendril;
 use tendril_text::block::Refusal;
 
+/// How many reads are made at most. Of a file or a pipe that fills each read that is 4 TB.
+const MOST_READS: u64 = 1_000_000_000;
+
 /// Decodes all that the input has, and writes the texts: those of one read before the next is made. A failed write is
-/// SinkRefused.
+/// SinkRefused; where 1000000000 reads don't reach the end, the answer is TooManyReads.
 pub fn decode<R: Read + Drop, W: Write>(alloc: Global, input: R, out: &mut W) -> Result<(), Refusal>
     ensures ok { OnOk result (IfSome (R.remaining input) (λ bytes. Decoded bytes (W.contents out.old) (W.contents out.new))) }
     ensures refusal { IfErr result EndsDecoding }
     ensures stops { IfErr result (λ r. IfSome (R.remaining input)
-        (λ bytes. DecodingStops bytes (W.contents out.old) (W.contents out.new))) }
+        (λ bytes. DecodingStops bytes (W.contents out.old) (W.contents out.new) r)) }
 {
     let mut reader = Counted::new(input);
     let mut decoder = Utf8LossyDecoder::new(alloc, Joined::new(alloc));
-    for _ in 0..u64::MAX {
+    for _ in 0..MOST_READS {
         match decode_read(alloc, decoder, &mut reader, out) {
             Ok(Some(next)) => decoder = next,
             Ok(None) => return Ok(()),
@@ -47,7 +50,7 @@ fn decode_read<R: CountedRead, W: Write>(
         × IsReady (b ++ p) d.kept d.failed d.inner_sink.text.bytes)) }
     ensures err { (b : List ℕ) → IsReady b decoder.kept decoder.failed decoder.inner_sink.text.bytes → IfErr result (λ r.
         EndsDecoding r × ((p : List ℕ) × Consumes (R.remaining reader.old) (R.remaining reader.new) p
-        × StopsBehind b p (R.remaining reader.new) (W.contents out.old) (W.contents out.new))) }
+        × StopsBehind b p (R.remaining reader.new) (W.contents out.old) (W.contents out.new) r)) }
 {
     match read_from(alloc, decoder, reader, 1) {
         Ok(text) => {

@@ -4,6 +4,7 @@ mod arguments;
 mod decoding;
 mod malformed;
 mod refusals;
+mod requests;
 mod sessions;
 
 use crate::program::program;

@@ -1,5 +1,5 @@
 -- A sink that is fed what a reader gives.
-use Rattle.std.proofs.Common.{◌≡◌, ℕ, ◌+◌, ◌≤◌, List, [], ◌∷◌, ◌++◌, Option, Some, None, refl, sym, ap, subst, ◌∙◌, arith, append_assoc, append-nil, inl, inr}
+use Rattle.std.proofs.Common.{◌≡◌, ℕ, ◌+◌, ◌<◌, ◌≤◌, List, [], ◌∷◌, ◌++◌, Option, Some, None, refl, sym, ap, subst, ◌∙◌, arith, append_assoc, append-nil, inl, inr}
 use Rattle.std.proofs.KnownBytes.{Consumes-nil, Consumes-trans}
 use Rattle.std.proofs.lemmas.Fn.{FoldsTo-push}
 use Rattle.std.specs.Io.KnownBytes.{Consumes, IsAtEnd}
@@ -91,33 +91,33 @@ module _ {R : Type 0} (history : R → Reads) (remaining : R → Option (List �
           (going bytes made, f.makes, inl (now, received made now at f, refl, inl (refl, is, refl), refl))
 
       -- there was no memory for a read
-      pub halts_without_memory : (made : ℕ) (now : S) (at next : R) → Fed made now at → next ≡ at → Halted next Memory (Some now)
-      halts_without_memory made now at next f same =
+      pub halts_without_memory : (made : ℕ) (now : S) (at next : R) → Fed made now at → next ≡ at → made < most → Halted next Memory (Some now)
+      halts_without_memory made now at next f same left =
           let bytes = bytes_of f.pieces in
-          (going bytes made, subst (λ r. Makes history remaining reader (going bytes made) r) (sym same) f.makes, inl (now, received made now at f, refl, inr (inr (refl, refl)), refl))
+          (going bytes made, subst (λ r. Makes history remaining reader (going bytes made) r) (sym same) f.makes, inl (now, received made now at f, refl, inr (inr (refl, refl, left)), refl))
 
-      pub halts_at_failure : (made : ℕ) (now : S) (at next : R) → Fed made now at → Makes history remaining at failure next → Halted next Io (Some now)
-      halts_at_failure made now at next f read =
+      pub halts_at_failure : (made : ℕ) (now : S) (at next : R) → Fed made now at → Makes history remaining at failure next → made + 1 ≤ most → Halted next Io (Some now)
+      halts_at_failure made now at next f read within =
           let bytes = bytes_of f.pieces in (
             record { given = bytes; reads = made + 1; failed = 1; empty = 0 },
             Makes-on reader at next bytes bytes made failure f.makes read (append-nil bytes),
-            inl (now, received made now at f, refl, inr (inl (refl, refl)), refl),
+            inl (now, received made now at f, refl, inr (inl (refl, refl, within)), refl),
           )
 
       -- a read gave bytes that the sink refused
-      pub halts_at_piece : (made : ℕ) (now last : S) (at next : R) (t : Text) (refusal : Refusal) → Fed made now at → Makes history remaining at (giving t.bytes) next → refuses now (Piece t) refusal last → Halted next refusal (Some last)
-      halts_at_piece made now last at next t refusal f read refused =
+      pub halts_at_piece : (made : ℕ) (now last : S) (at next : R) (t : Text) (refusal : Refusal) → Fed made now at → Makes history remaining at (giving t.bytes) next → refuses now (Piece t) refusal last → made + 1 ≤ most → Halted next refusal (Some last)
+      halts_at_piece made now last at next t refusal f read refused within =
           let bytes = bytes_of f.pieces in (
             record { given = bytes ++ t.bytes; reads = made + 1; failed = 0; empty = 0 },
             Makes-on reader at next bytes (bytes ++ t.bytes) made (giving t.bytes) f.makes read refl,
-            inr (inl (now, bytes, t, last, received made now at f, refl, refused, refl, refl, refl)),
+            inr (inl (now, bytes, t, last, received made now at f, refl, refused, refl, refl, refl, within)),
           )
 
       -- the sink refused its end
-      pub halts_at_end : (made : ℕ) (now : S) (at next : R) (refusal : Refusal) → Fed made now at → Makes history remaining at end next → ends now refusal → Halted next refusal None
-      halts_at_end made now at next refusal f read refused =
+      pub halts_at_end : (made : ℕ) (now : S) (at next : R) (refusal : Refusal) → Fed made now at → Makes history remaining at end next → ends now refusal → made + 1 ≤ most → Halted next refusal None
+      halts_at_end made now at next refusal f read refused within =
           let bytes = bytes_of f.pieces in (
             record { given = bytes; reads = made + 1; failed = 0; empty = 1 },
             Makes-on reader at next bytes bytes made end f.makes read (append-nil bytes),
-            inr (inr (now, received made now at f, refused, refl, refl, refl)),
+            inr (inr (now, received made now at f, refused, refl, refl, refl, within)),
           )

@@ -33,7 +33,7 @@ pub Feeds-same : {S : Type 0} (takes : S → Sent → S → Type 0) (piece : Tex
 Feeds-same takes piece a b x y e h = subst (λ l. Feeds takes piece a l b) e h
 
 -- a call is refused where nothing was sent yet
-pub Stops-here : {S : Type 0} (takes : S → Sent → S → Type 0) (refuses : S → Sent → Refusal → S → Type 0) (piece : Text) (a : S) (due : List Told) (e : Refusal) (c : S) → IsStop refuses a e c → Stops takes refuses piece a due e c
+pub Stops-here : {S : Type 0} (takes : S → Sent → S → Type 0) (refuses : S → Sent → Refusal → S → Type 0) (piece : Text) (a : S) (due : List Told) (e : Refusal) (c : S) → IsStop refuses piece a e c → Stops takes refuses piece a due e c
 Stops-here takes refuses piece a due e c h = record { sent = []; each = All-nil (IsSentOf piece); mid = a; calls = refl; rest = due; front = refl; stop = h }
 
 pub Stops-after : {S : Type 0} (takes : S → Sent → S → Type 0) (refuses : S → Sent → Refusal → S → Type 0) (piece : Text) (a b c : S) (x y z : List Told) (e : Refusal) → Feeds takes piece a x b → Stops takes refuses piece b y e c → x ++ y ≡ z → Stops takes refuses piece a z e c

@@ -51,9 +51,9 @@ module _ {R : Type 0} (history : R → Reads) (remaining : R → Option (List �
   filled_end count most made filled bytes new at next f same read within short = (record { given = f.given; reads = made + 1; failed = 0; empty = 1 }, Makes-on history remaining reader at next f.given f.given made end f.makes read (append-nil f.given), same ∙ f.front, (refl, refl, within, short))
 
   -- a read failed
-  pub filled_failed : (T : Type 0) (most made filled : ℕ) (bytes new : List ℕ) (at next : R) → Filled made filled bytes at → take filled new ≡ take filled bytes → Makes history remaining at failure next → filled < 4294967295
+  pub filled_failed : (T : Type 0) (most made filled : ℕ) (bytes new : List ℕ) (at next : R) → Filled made filled bytes at → take filled new ≡ take filled bytes → Makes history remaining at failure next → made + 1 ≤ most → filled < 4294967295
       → (these : Reads) × Makes history remaining reader these next × (take filled new ≡ old ++ these.given) × Fills {T = T} most these (Err Io) filled
-  filled_failed T most made filled bytes new at next f same read short = (record { given = f.given; reads = made + 1; failed = 1; empty = 0 }, Makes-on history remaining reader at next f.given f.given made failure f.makes read (append-nil f.given), same ∙ f.front, inr (inr (inl (refl, refl)), refl, short))
+  filled_failed T most made filled bytes new at next f same read within short = (record { given = f.given; reads = made + 1; failed = 1; empty = 0 }, Makes-on history remaining reader at next f.given f.given made failure f.makes read (append-nil f.given), same ∙ f.front, inr (inr (inl (refl, refl, within)), refl, short))
 
 -- the read that came to this answer
 module _ {R : Type 0} (history : R → Reads) (remaining : R → Option (List ℕ)) (at next : R) (answer : Result ℕ ReadFault) (buffer : List ℕ) (read : ReadsOn (history at) (read_of answer buffer) (history next)) (consumed : ReadConsumes (remaining at) (remaining next) answer buffer) where

@@ -1,20 +1,23 @@
 -- How a decoder stops that hadn't failed.
-use Rattle.std.proofs.Common.{◌≡◌, ℕ, Bool, true, false, List, [], ◌∷◌, ◌++◌, ◌⊎◌, ⊎_elim, sym, subst, ◌∙◌, true≢false}
-use Rattle.std.specs.List.{FoldsTo}
+use Rattle.std.proofs.Common.{◌≡◌, ℕ, Bool, true, false, List, [], ◌++◌, ◌⊎◌, ⊎_elim, inl, inr, Option, sym, subst, ◌∙◌, true≢false}
 use Rattle.tendril_text.specs.Texts.{Text}
 use Rattle.tendril_block.specs.declared.refusal.Refusal.{Refusal}
 use Rattle.tendril_block.specs.declared.refusal.Refusal.TheVariants.{Failed}
-use Rattle.tendril_lossy.specs.Lossy.{due_open, kept}
+use Rattle.tendril_lossy.specs.Lossy.{Told, due_open, kept}
+use Rattle.tendril_stream.proofs.Own.{unfailed}
+use Rattle.tendril_stream.proofs.Stands.{stands_from_nothing}
+use Rattle.tendril_stream.specs.Compositions.{GoesOn, StandsAt, StreamStops}
 use Rattle.tendril_stream.specs.Decoders.{Decodes, DecodingStops, EndStops}
+use Rattle.tendril_stream.specs.Readings.{Halts, IsOfReading, StopsBetween}
+use Rattle.tendril_stream.specs.Reads.{Reads}
 use Rattle.tendril_stream.specs.Sinks.{Sent, Piece, Stops}
 
-module _ {S D : Type 0} (takes : S → Sent → S → Type 0) (refuses : S → Sent → Refusal → S → Type 0) (inner : D → S) (held : D → List ℕ) (failed : D → Bool) where
-  pub alive : (pieces : List Text) (d last : D) → failed d ≡ false
-      → FoldsTo (λ s x t. (failed s ≡ false) × (failed t ≡ false) × Decodes takes (inner s) (held s) (Piece x) (inner t) (held t)) d pieces last
-      → failed last ≡ false
-  alive [] d last e h = subst (λ s. failed s ≡ false) h e
-  alive (x ∷ pieces) d last e h = alive pieces h.0 last h.1.1 h.2
+of_reading : (most : ℕ) (these : Reads) (r : Refusal) → StopsBetween most these r → IsOfReading r
+of_reading most these r (inl k) = inl k.0
+of_reading most these r (inr (inl k)) = inr (inl k.0)
+of_reading most these r (inr (inr k)) = inr (inr k.0)
 
+module _ {S D : Type 0} (takes : S → Sent → S → Type 0) (refuses : S → Sent → Refusal → S → Type 0) (inner : D → S) (held : D → List ℕ) (failed : D → Bool) where
   -- at a piece, where the cut end of b is kept
   pub stops_at_piece : (d : D) (x : Text) (r : Refusal) (n : D) (b : List ℕ) → failed d ≡ false → held d ≡ kept b
       → (failed n ≡ true) × (((failed d ≡ true) × (r ≡ Failed) × (inner n ≡ inner d)) ⊎ ((failed d ≡ false) × DecodingStops takes refuses (inner d) (held d) (Piece x) r (inner n)))
@@ -30,3 +33,21 @@ module _ {S D : Type 0} (takes : S → Sent → S → Type 0) (refuses : S → S
   stops_at_end ends d r b e keeps h = ⊎_elim
       (λ k. absurd (true≢false (sym k.0 ∙ e)))
       (λ k. subst (λ l. EndStops takes refuses ends (inner d) l r) keeps k.1) h
+
+  -- while it was read into, as a new one
+  pub stream_stops : (ends : S → Refusal → Type 0) (after : S → List Told → Type 0) → GoesOn takes after → (sink : S) (d : D) (most : ℕ) (these : Reads) (r : Refusal) (handed : Option D)
+      → inner d ≡ sink → held d ≡ [] → failed d ≡ false → after sink []
+      → Halts (λ d e n. (failed d ≡ false) × (failed n ≡ false) × Decodes takes (inner d) (held d) e (inner n) (held n))
+      (λ d e r n. (failed n ≡ true) × (((failed d ≡ true) × (r ≡ Failed) × (inner n ≡ inner d)) ⊎ ((failed d ≡ false) × DecodingStops takes refuses (inner d) (held d) e r (inner n))))
+      (λ d r. ((failed d ≡ true) × (r ≡ Failed)) ⊎ ((failed d ≡ false) × EndStops takes refuses ends (inner d) (held d) r))
+      most d these r handed
+      → IsOfReading r ⊎ StreamStops takes refuses ends after inner failed most these r handed
+  stream_stops ends after goes sink d most these r handed is none alive new (inl k) = inl (of_reading most these r k.3)
+  stream_stops ends after goes sink d most these r handed is none alive new (inr (inl k)) =
+      let at = subst (StandsAt after (inner k.0) (held k.0)) k.4.2 (stands_from_nothing takes after goes inner held failed k.4.0 d k.0 sink is none new k.4.1) in
+      let running = unfailed failed _ k.4.0 d k.0 alive k.4.1 in
+      inr (inl (k.1, k.2, inner k.0, k.3, k.5, at.tells, stops_at_piece k.0 k.2 r k.3 k.1 running at.keeps k.6, k.6.0, k.7, k.8, k.9, k.10))
+  stream_stops ends after goes sink d most these r handed is none alive new (inr (inr k)) =
+      let at = subst (StandsAt after (inner k.0) (held k.0)) k.1.2 (stands_from_nothing takes after goes inner held failed k.1.0 d k.0 sink is none new k.1.1) in
+      let running = unfailed failed _ k.1.0 d k.0 alive k.1.1 in
+      inr (inr (inner k.0, at.tells, stops_at_end ends k.0 r these.given running at.keeps k.2, k.3, k.4, k.5, k.6))

@@ -18,7 +18,7 @@ use Rattle.tendril_lossy.specs.Lossy.{Told, Keep, Bad, Cut, Char, IsOpen, lossy,
 use Rattle.tendril_lossy.specs.declared.search.Ending.{Ending}
 use Rattle.tendril_lossy.specs.declared.search.Ending.TheVariants.{Whole, Broken, Open}
 use Rattle.tendril_stream.proofs.Feeds.{Feeds-append, Feeds-none, Feeds-one, Feeds-same, Stops-after, Stops-more}
-use Rattle.tendril_stream.specs.Sinks.{Sent, Piece, Fault, Feeds, Stops, IsSentOf}
+use Rattle.tendril_stream.specs.Sinks.{Sent, Piece, Fault, Feeds, IsStop, Stops, IsSentOf}
 
 -- what is told of an ending, before the rest
 abbrev pub told_by : Ending → List Told
@@ -132,8 +132,12 @@ module _ {S : Type 0} (takes : S → Sent → S → Type 0) (refuses : S → Sen
   pub Feeds-through : (a b : S) (told : List Told) → Feeds takes rest a told b → Feeds takes piece a told b
   Feeds-through a b told h = record { sent = h.sent; each = All-weaker (IsSentOf rest) (IsSentOf piece) (sent_through piece rest part less) h.sent h.each; calls = h.calls; tells = h.tells }
 
+  stop_through : (mid new : S) (r : Refusal) → IsStop refuses rest mid r new → IsStop refuses piece mid r new
+  stop_through mid new r (inl k) = let long = k.0.1 in inl ((k.0.0, omega (arith, long, less)), k.1)
+  stop_through mid new r (inr k) = inr k
+
   pub Stops-through : (a b : S) (told : List Told) (r : Refusal) → Stops takes refuses rest a told r b → Stops takes refuses piece a told r b
-  Stops-through a b told r h = record { sent = h.sent; each = All-weaker (IsSentOf rest) (IsSentOf piece) (sent_through piece rest part less) h.sent h.each; mid = h.mid; calls = h.calls; rest = h.rest; front = h.front; stop = h.stop }
+  Stops-through a b told r h = record { sent = h.sent; each = All-weaker (IsSentOf rest) (IsSentOf piece) (sent_through piece rest part less) h.sent h.each; mid = h.mid; calls = h.calls; rest = h.rest; front = h.front; stop = stop_through h.mid b r h.stop }
 
 -- a text of few bytes, which kept ones and a piece begin with
 pub short_handed : (piece t : Text) (k input rest : List ℕ) → 0 < length k → CompletesTo k input t.bytes rest → t.copied ≡ length t.bytes → IsHandedOn piece t

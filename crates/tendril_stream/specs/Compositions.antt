@@ -1,10 +1,11 @@
 -- A decoder over a sink of which something is known by what it was told.
-use Rattle.std.specs.Prelude.{◌≡◌, ℕ, ◌⊎◌, List, [], ◌++◌, flat_map, Option, Some, None}
+use Rattle.std.specs.Prelude.{◌≡◌, ◌≤◌, ℕ, Bool, true, ◌⊎◌, List, [], ◌++◌, flat_map, Option, Some, None}
 use Rattle.std.specs.Iterator.{YieldsThen}
 use Rattle.tendril_block.specs.declared.refusal.Refusal.{Refusal}
 use Rattle.tendril_text.specs.Texts.{Text}
 use Rattle.tendril_lossy.specs.Lossy.{Told, due, due_open, kept}
 use Rattle.tendril_stream.specs.Decoders.{Decodes, Ends, EndStops}
+use Rattle.tendril_stream.specs.Reads.{Reads}
 use Rattle.tendril_stream.specs.Sinks.{Sent, Piece, Stops, told_of}
 
 -- what is known of a sink after it was told a list is known of it after an accepted call too, with what that tells behind
@@ -33,3 +34,10 @@ pub record PiecesStop {I It S : Type 0} (becomes : I → It → Type 0) (steps :
   pub sink : S
   pub tells : after sink (due_open (flat_map (λ p. p.bytes) read))
   pub stop : ((p : Text) × YieldsThen steps iterator read (Some p) last × (s : S) × Stops takes refuses p sink (due_open (kept (flat_map (λ p. p.bytes) read) ++ p.bytes)) refusal s) ⊎ (YieldsThen steps iterator read None last × EndStops takes refuses ends sink (kept (flat_map (λ p. p.bytes) read)) refusal)
+
+-- A stream was read through a new decoder, which refused a piece, and comes back failed, or the end. By then its sink was told
+-- what is due of what was read before, and of that piece or of the end a beginning.
+abbrev pub StreamStops : {S D : Type 0} → (S → Sent → S → Type 0) → (S → Sent → Refusal → S → Type 0) → (S → Refusal → Type 0) → (S → List Told → Type 0) → (D → S) → (D → Bool) → ℕ → Reads → Refusal → Option D → Type 0
+StreamStops {S} {D} takes refuses ends after inner failed most these refusal handed =
+    ((before : List ℕ) × (p : Text) × (sink : S) × (d : D) × (these.given ≡ before ++ p.bytes) × after sink (due_open before) × Stops takes refuses p sink (due_open (kept before ++ p.bytes)) refusal (inner d) × (failed d ≡ true) × (handed ≡ Some d) × (these.failed ≡ 0) × (these.empty ≡ 0) × (these.reads ≤ most))
+    ⊎ ((sink : S) × after sink (due_open these.given) × EndStops takes refuses ends sink (kept these.given) refusal × (handed ≡ None) × (these.failed ≡ 0) × (these.empty ≡ 1) × (these.reads ≤ most))

@@ -39,12 +39,12 @@ pub record ReadsAll {S O : Type 0} (takes : S → Sent → S → Type 0) (finish
   pub empty : these.empty ≡ 1
   pub within : these.reads ≤ most
 
--- no read was left, or one failed, or there was no memory for one
+-- no read was left, or one failed, or there was no memory for one that was left
 abbrev pub StopsBetween : ℕ → Reads → Refusal → Type 0
 StopsBetween most these refusal =
     ((refusal ≡ TooManyReads) × (these.reads ≡ most) × (these.failed ≡ 0))
-    ⊎ (((refusal ≡ Io) × (these.failed ≡ 1))
-    ⊎ ((refusal ≡ Memory) × (these.failed ≡ 0)))
+    ⊎ (((refusal ≡ Io) × (these.failed ≡ 1) × (these.reads ≤ most))
+    ⊎ ((refusal ≡ Memory) × (these.failed ≡ 0) × (these.reads < most)))
 
 -- a refusal of reading itself
 abbrev pub IsOfReading : Refusal → Type 0
@@ -55,8 +55,8 @@ IsOfReading refusal = (refusal ≡ TooManyReads) ⊎ ((refusal ≡ Io) ⊎ (refu
 abbrev pub Halts : {S : Type 0} → (S → Sent → S → Type 0) → (S → Sent → Refusal → S → Type 0) → (S → Refusal → Type 0) → ℕ → S → Reads → Refusal → Option S → Type 0
 Halts {S} takes refuses ends most old these refusal handed =
     ((mid : S) × Receives takes old these.given mid × (handed ≡ Some mid) × StopsBetween most these refusal × (these.empty ≡ 0))
-    ⊎ (((mid : S) × (before : List ℕ) × (p : Text) × (last : S) × Receives takes old before mid × (these.given ≡ before ++ p.bytes) × refuses mid (Piece p) refusal last × (handed ≡ Some last) × (these.failed ≡ 0) × (these.empty ≡ 0))
-    ⊎ ((mid : S) × Receives takes old these.given mid × ends mid refusal × (handed ≡ None) × (these.failed ≡ 0) × (these.empty ≡ 1)))
+    ⊎ (((mid : S) × (before : List ℕ) × (p : Text) × (last : S) × Receives takes old before mid × (these.given ≡ before ++ p.bytes) × refuses mid (Piece p) refusal last × (handed ≡ Some last) × (these.failed ≡ 0) × (these.empty ≡ 0) × (these.reads ≤ most))
+    ⊎ ((mid : S) × Receives takes old these.given mid × ends mid refusal × (handed ≡ None) × (these.failed ≡ 0) × (these.empty ≡ 1) × (these.reads ≤ most)))
 
 -- Why reading into a text ended, and how long the text is then: it was read to the end; or it is as long as a text can
 -- be; or no read was left, or one failed, or there was no memory for one.

@@ -2,10 +2,10 @@
 use Rattle.std.specs.Prelude.{◌≡◌, ℕ, ◌⊎◌, List, [], ◌∷◌, ◌++◌, map, flat_map, chars, All, Option, Some, None}
 use Rattle.std.specs.List.{FoldsTo}
 use Rattle.std.specs.Iterator.{YieldsThen}
-use Rattle.tendril_text.specs.Decoding.{IsHandedOn}
+use Rattle.tendril_text.specs.Decoding.{IsHandedOn, LongPieceMay}
 use Rattle.tendril_text.specs.Texts.{Text}
 use Rattle.tendril_block.specs.declared.refusal.Refusal.{Refusal}
-use Rattle.tendril_block.specs.declared.refusal.Refusal.TheVariants.{Count, SinkRefused}
+use Rattle.tendril_block.specs.declared.refusal.Refusal.TheVariants.{SinkRefused}
 use Rattle.tendril_lossy.specs.Lossy.{Told, Char, Mark}
 
 -- a text, or an error with its words
@@ -33,9 +33,13 @@ pub record Feeds {S : Type 0} (takes : S → Sent → S → Type 0) (piece : Tex
   pub calls : FoldsTo takes old sent new
   pub tells : told sent ≡ due
 
--- a call was refused by the sink, or wasn't made since a slice was refused
-abbrev pub IsStop : {S : Type 0} → (S → Sent → Refusal → S → Type 0) → S → Refusal → S → Type 0
-IsStop refuses mid refusal new = ((refusal ≡ Count) × (new ≡ mid)) ⊎ ((refusal ≡ SinkRefused) × (e : Sent) × (r : Refusal) × refuses mid e r new)
+-- a call was refused by the sink
+abbrev pub SinkRefuses : {S : Type 0} → (S → Sent → Refusal → S → Type 0) → S → Refusal → S → Type 0
+SinkRefuses refuses mid refusal new = (refusal ≡ SinkRefused) × (e : Sent) × (r : Refusal) × refuses mid e r new
+
+-- or wasn't made, since no text could be taken out of a long piece
+abbrev pub IsStop : {S : Type 0} → (S → Sent → Refusal → S → Type 0) → Text → S → Refusal → S → Type 0
+IsStop refuses piece mid refusal new = (LongPieceMay piece.bytes refusal × (new ≡ mid)) ⊎ SinkRefuses refuses mid refusal new
 
 -- a sink accepted calls that tell a beginning of these, and then there was a refusal
 pub record Stops {S : Type 0} (takes : S → Sent → S → Type 0) (refuses : S → Sent → Refusal → S → Type 0) (piece : Text) (old : S) (due : List Told) (refusal : Refusal) (new : S) : Type 0 where
@@ -45,7 +49,7 @@ pub record Stops {S : Type 0} (takes : S → Sent → S → Type 0) (refuses : S
   pub calls : FoldsTo takes old sent mid
   pub rest : List Told
   pub front : told sent ++ rest ≡ due
-  pub stop : IsStop refuses mid refusal new
+  pub stop : IsStop refuses piece mid refusal new
 
 -- The texts of an iterator, sent one after another.
 module _ {I It T S : Type 0} (becomes : I → It → Type 0) (steps : It → Option T → It → Type 0) (text : T → Text) (takes : S → Sent → S → Type 0) where

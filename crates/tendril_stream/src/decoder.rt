@@ -5,7 +5,7 @@ ghost use Rattle.std.specs.Borrow.{Lends, sem};
 ghost use Rattle.std.specs.List.{FoldsTo};
 ghost use Rattle.tendril_text.specs.Decoding.{listed};
 ghost use Rattle.tendril_stream.specs.Decoders.{Resumes, nothing};
-ghost use Rattle.tendril_stream.specs.Sinks.{Piece, Feeds, Stops, IsStop};
+ghost use Rattle.tendril_stream.specs.Sinks.{Piece, Feeds, SinkRefuses, Stops};
 
 use crate::sink::TendrilSink;
 use std::alloc::Global;
@@ -136,7 +136,7 @@ fn send<S: TendrilSink<StrTendril<A>>, A: Atomicity>(
     text: StrTendril<A>,
 ) -> Result<(), Refusal>
     ensures ok { OnOk result (S.takes sink.old (Piece text) sink.new) }
-    ensures err { IfErr result (λ r. IsStop S.refuses sink.old r sink.new) }
+    ensures err { IfErr result (λ r. SinkRefuses S.refuses sink.old r sink.new) }
 {
     if let Err(_refusal) = sink.process(text) {
         return Err(Refusal::SinkRefused);
@@ -192,7 +192,7 @@ fn send_some<S: TendrilSink<StrTendril<A>>, A: Atomicity>(
     text: Option<StrTendril<A>>,
 ) -> Result<(), Refusal>
     ensures ok { OnOk result (FoldsTo (λ s t u. S.takes s (Piece t) u) sink.old (listed text) sink.new) }
-    ensures err { IfErr result (λ r. IsStop S.refuses sink.old r sink.new) }
+    ensures err { IfErr result (λ r. SinkRefuses S.refuses sink.old r sink.new) }
 {
     match text {
         Some(text) => send(sink, text),

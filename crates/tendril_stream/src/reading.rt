@@ -2,7 +2,7 @@
 ghost use Rattle.std.specs.Prelude.{◌≡◌, ◌≤◌, ◌+◌, ◌⊎◌, length, take, drop, Some, false, IfOk, IfErr, OnErr};
 ghost use Rattle.std.specs.Io.KnownBytes.{IsAtEnd, Keeps, ReadConsumes};
 ghost use Rattle.tendril_lossy.specs.Lossy.{due};
-ghost use Rattle.tendril_stream.specs.Compositions.{StandsAt};
+ghost use Rattle.tendril_stream.specs.Compositions.{StandsAt, StreamStops};
 ghost use Rattle.tendril_stream.specs.Events.{sent};
 ghost use Rattle.tendril_stream.specs.Readings.{EndsAt, Halts, IsOfReading, Makes, ReadsAll, StopsBetween, reads_of};
 ghost use Rattle.tendril_stream.specs.Reads.{Reads, ReadsOn, failure, read_of};
@@ -13,6 +13,7 @@ use crate::counted::Counted;
 use crate::counted_read::{CountedRead, ReadFault};
 use crate::decoder::Utf8LossyDecoder;
 use crate::sink::TendrilSink;
+use crate::tracks::Tracks;
 use std::alloc::Global;
 use std::fs::{self, Files};
 use tendril_block::Refusal;
@@ -104,7 +105,8 @@ pub fn from_file<A: Atomicity, S: TendrilSink<ByteTendril<A>>, F: Files>(
 
 /// Reads to the end, and decodes what it reads to a list of texts and errors.
 ///
-/// Where reading itself stops, the decoder comes back and stands at the bytes that were read.
+/// Where reading itself stops, the decoder comes back and stands at the bytes that were read. Where the decoder refuses a
+/// piece it comes back failed; where it refuses the end it is gone.
 pub fn decode_reader<A: Atomicity, R: CountedRead>(
     alloc: Global,
     reader: &mut R,
@@ -116,14 +118,13 @@ pub fn decode_reader<A: Atomicity, R: CountedRead>(
     ensures stopped { IfErr result (λ s. (these : Reads) × Makes R.history R.remaining reader.old these reader.new
         × (IsOfReading s.refusal → StopsBetween most these s.refusal × (these.empty ≡ 0)
         × ((d : _) × (s.sink ≡ Some d) × (d.failed ≡ false)
-        × StandsAt (λ a t. told (sent a.events.items) ≡ t) d.inner_sink d.kept these.given))) }
+        × StandsAt (λ a t. told (sent a.events.items) ≡ t) d.inner_sink d.kept these.given))
+        × (IsOfReading s.refusal ⊎ StreamStops ⟦<Accumulate<A> as TendrilSink<StrTendril<A>>>⟧.takes
+        ⟦<Accumulate<A> as TendrilSink<StrTendril<A>>>⟧.refuses ⟦<Accumulate<A> as TendrilSink<StrTendril<A>>>⟧.ends
+        ⟦<Accumulate<A> as Tracks<StrTendril<A>>>⟧.after (λ d. d.inner_sink) (λ d. d.failed) most these s.refusal s.sink)) }
 {
-    read_decoded(
-        alloc,
-        Utf8LossyDecoder::new(alloc, Accumulate::new(alloc)),
-        reader,
-        most,
-    )
+    let decoder = Utf8LossyDecoder::new(alloc, Accumulate::new(alloc));
+    read_decoded(alloc, decoder, reader, most)
 }
 
 /// Reads to the end through a decoder: `read_from`, for callers whose sink names a lifetime, as `Accumulate` does, and at

@@ -69,3 +69,19 @@ pub(crate) fn check_events<A: Atomicity>(
     same(rt, sent.as_slice(), expected.as_slice());
     Ok(())
 }
+
+/// What was sent is what has to be, text by text.
+pub(crate) fn check_each<A: Atomicity>(rt: &impl Abort, events: &[Event<A>], due: &[Due]) {
+    same(rt, events.len(), due.len());
+    for (event, due) in events.iter().zip(due.iter()) {
+        match (event, due) {
+            (Event::Text(text), Due::Text(expected)) => {
+                same(rt, text.as_byte_slice(), expected.as_bytes())
+            }
+            (Event::Error(words), Due::Error(expected)) => {
+                same(rt, words.as_bytes(), expected.as_bytes())
+            }
+            _ => assert!(rt; false, "a text for an error"),
+        }
+    }
+}

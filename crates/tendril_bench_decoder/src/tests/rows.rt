@@ -78,7 +78,10 @@ const ROWS: [Row<'static>; 15] = [
     ),
 ];
 
-fn pieces_of<A: Atomicity>(alloc: Global, parts: &[&[u8]]) -> Result<Vec<ByteTendril<A>>, Fail> {
+pub(crate) fn pieces_of<A: Atomicity>(
+    alloc: Global,
+    parts: &[&[u8]],
+) -> Result<Vec<ByteTendril<A>>, Fail> {
     let mut pieces = Vec::new(alloc);
     for part in parts.iter() {
         pieces.push(slice_to_tendril(alloc, part)?)?;

@@ -1,9 +1,10 @@
 //! For the other files: what a decoder has to send, and what it sent.
 
+use std::alloc::Global;
 use std::borrow::CowStr;
 use std::test::Fail;
-use tendril::ByteTendril;
 use tendril::block::Refusal;
+use tendril::{ByteTendril, StrTendril};
 use tendril_bench_refusals::{Turn, same};
 use tendril_stream::{Accumulate, Event, TendrilSink, Utf8LossyDecoder};
 
@@ -31,8 +32,63 @@ fn is_due(event: &Event, due: &Due) -> bool {
     }
 }
 
+/// A sink that stores what it is sent, and counts the calls that it didn't refuse.
+#[derive(Drop)]
+pub(super) struct Recorder {
+    stored: Accumulate,
+    accepted: usize,
+}
+
+impl Recorder {
+    /// Nothing was sent yet.
+    pub(super) fn new(alloc: Global) -> Self {
+        Recorder {
+            stored: Accumulate::new(alloc),
+            accepted: 0,
+        }
+    }
+
+    /// What was sent.
+    pub(super) fn events(&self) -> &[Event] {
+        self.stored.events()
+    }
+
+    fn count(&mut self, answer: Result<(), Refusal>) -> Result<(), Refusal> {
+        if answer.is_ok() {
+            self.accepted = self.accepted.saturating_add(1);
+        }
+        answer
+    }
+}
+
+impl TendrilSink<StrTendril> for Recorder {
+    type Output = Vec<Event>;
+
+    ghost takes = { λ a e b. Unit {0} };
+
+    ghost refuses = { λ a e r b. Unit {0} };
+
+    ghost finishes = { λ a out. Unit {0} };
+
+    ghost ends = { λ a r. Unit {0} };
+
+    fn process(&mut self, text: StrTendril) -> Result<(), Refusal> {
+        let answer = self.stored.process(text);
+        self.count(answer)
+    }
+
+    fn error(&mut self, words: CowStr<'static>) -> Result<(), Refusal> {
+        let answer = self.stored.error(words);
+        self.count(answer)
+    }
+
+    fn finish(self) -> Result<Vec<Event>, Refusal> {
+        self.stored.finish()
+    }
+}
+
 /// What was sent is a front of what is due.
-fn check_front(events: &[Event], due: &[Due]) -> Result<(), Fail> {
+pub(super) fn check_front(events: &[Event], due: &[Due]) -> Result<(), Fail> {
     same(events.len() <= due.len(), true)?;
     for (event, due) in events.iter().zip(due) {
         same(is_due(event, due), true)?;
@@ -46,21 +102,26 @@ pub(super) fn check_all(events: &[Event], due: &[Due]) -> Result<(), Fail> {
     check_front(events, due)
 }
 
-/// A decoder whose sink refused a call: what was sent stays sent, and from then on it fails and sends nothing.
+/// A decoder whose sink refused a call: just what was sent before stays sent, and from then on it fails and sends nothing.
 pub(super) fn check_failed(
     turn: &Turn,
-    mut decoder: Utf8LossyDecoder<Accumulate>,
+    mut decoder: Utf8LossyDecoder<Recorder>,
     refusal: Refusal,
     due: &[Due],
 ) -> Result<(), Fail> {
-    same(refusal, Refusal::SinkRefused)?;
-    turn.count()?;
-    let sent = decoder.inner_sink().events().len();
+    meet_in_a_sink(turn, refusal)?;
+    let accepted = decoder.inner_sink().accepted;
     let answer = decoder.process(ByteTendril::new(turn.alloc()));
     same(answer == Err(Refusal::Failed), true)?;
     let answer = decoder.error(CowStr::Borrowed("more"));
     same(answer == Err(Refusal::Failed), true)?;
-    same(decoder.inner_sink().events().len(), sent)?;
-    check_front(decoder.inner_sink().events(), due)?;
+    let sent = due.get(..accepted).ok_or("no more than is due")?;
+    check_all(decoder.inner_sink().events(), sent)?;
     same(matches!(decoder.finish(), Err(Refusal::Failed)), true)
+}
+
+/// The sink refused a call.
+pub(super) fn meet_in_a_sink(turn: &Turn, refusal: Refusal) -> Result<(), Fail> {
+    same(refusal, Refusal::SinkRefused)?;
+    turn.count()
 }

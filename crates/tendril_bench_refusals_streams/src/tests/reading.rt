@@ -1,6 +1,8 @@
 //! Reading, into texts and into decoders. Nothing that was read is lost by a refused request.
 
-use crate::tests::events::{Due, INVALID, REPLACED, check_all, check_failed};
+use crate::tests::events::{
+    Due, INVALID, REPLACED, Recorder, check_all, check_failed, check_front, meet_in_a_sink,
+};
 use std::borrow::CowStr;
 use std::fs::{self, Files};
 use std::io::{self, Error, ErrorKind, Read};
@@ -69,7 +71,7 @@ fn read_on(
     text: &mut ByteTendril,
     whole: &[u8],
 ) -> Result<Result<usize, Refusal>, Fail> {
-    let answer = Counted::new(&mut *parts).read_to_tendril(text, 9);
+    let answer = Counted::new(&mut *parts).read_to_tendril(text, 5);
     if answer != Err(Refusal::Memory) {
         return Ok(answer);
     }
@@ -79,7 +81,7 @@ fn read_on(
         .get(..whole.len().saturating_sub(left))
         .ok_or("a front")?;
     check(text, front)?;
-    Ok(Counted::new(&mut *parts).read_to_tendril(text, 9))
+    Ok(Counted::new(&mut *parts).read_to_tendril(text, 5))
 }
 
 fn read_into_a_text(turn: &Turn) -> Result<(), Fail> {
@@ -106,12 +108,12 @@ fn read_a_long_text(turn: &Turn) -> Result<(), Fail> {
     check(&clone, b"abcdefghij")
 }
 
-type Decoder = Utf8LossyDecoder<Accumulate>;
+type Decoder = Utf8LossyDecoder<Recorder>;
 
 const DUE: [Due; 4] = [Due::Text("foo"), INVALID, REPLACED, Due::Text("bar")];
 
 fn read_with_a_limit(turn: &Turn, most: u64) -> Result<(), Fail> {
-    let decoder = Utf8LossyDecoder::new(turn.alloc(), Accumulate::new(turn.alloc()));
+    let decoder = Utf8LossyDecoder::new(turn.alloc(), Recorder::new(turn.alloc()));
     let mut parts = Parts::new(b"foo\xFFbar", 9);
     let mut answer = read_decoded(turn.alloc(), decoder, &mut Counted::new(&mut parts), most);
     if let Err(stopped) = answer {
@@ -154,6 +156,9 @@ fn read_again(
     Ok(read_decoded(turn.alloc(), decoder, &mut Counted::new(parts), most))
 }
 
+// The decoder that `decode_reader` makes: its sink counts no calls.
+type OwnDecoder = Utf8LossyDecoder<Accumulate>;
+
 // A reader that the decoder has alone.
 fn decode_a_reader(turn: &Turn) -> Result<(), Fail> {
     let mut reader = Counted::new(Parts::new(b"foo\xFFbar", 9));
@@ -164,8 +169,9 @@ fn decode_a_reader(turn: &Turn) -> Result<(), Fail> {
     match answer {
         Ok(events) => check_all(events.as_slice(), &DUE),
         Err(stopped) => {
+            meet_in_a_sink(turn, stopped.refusal)?;
             let decoder = stopped.sink.ok_or("the sink comes back")?;
-            check_failed(turn, decoder, stopped.refusal, &DUE)
+            check_front(decoder.inner_sink().events(), &DUE)
         }
     }
 }
@@ -173,9 +179,9 @@ fn decode_a_reader(turn: &Turn) -> Result<(), Fail> {
 // Where there was no memory for a read's buffer, the one read that gives bytes was before it or comes behind it.
 fn decode_on(
     turn: &Turn,
-    stopped: Stopped<Decoder>,
+    stopped: Stopped<OwnDecoder>,
     reader: &mut Counted<Parts>,
-) -> Result<Result<Vec<Event>, Stopped<Decoder>>, Fail> {
+) -> Result<Result<Vec<Event>, Stopped<OwnDecoder>>, Fail> {
     if stopped.refusal != Refusal::Memory {
         return Ok(Err(stopped));
     }

@@ -1,4 +1,4 @@
-//! Inputs of a million bytes, whose time grows with their length.
+//! Inputs of a million bytes: how many faults are found in them, and that text without one is found whole.
 
 use crate::{Ending, first_part};
 use std::alloc::Global;

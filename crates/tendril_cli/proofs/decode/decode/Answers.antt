@@ -36,9 +36,9 @@ pub returns-in-Err-clause-stops : goal.returns-in-Err-clause-stops
 returns-in-Err-clause-stops g c =
     let i = c.loop.invariant in
     let r = c.in-Err.ensures.err i.0 i.3 in
-    stops_all _ _ _ _ _ i.0 r.1.0 i.2 (Consumes-trans _ _ _ i.0 r.1.0 i.1 r.1.1) r.1.2
+    stops_all _ _ _ _ _ i.0 r.1.0 _ i.2 (Consumes-trans _ _ _ i.0 r.1.0 i.1 r.1.1) r.1.2
 
 pub returns-clause-stops : goal.returns-clause-stops
 returns-clause-stops g c =
     let i = c.loop.invariant in
-    stops_all _ _ _ _ _ i.0 [] i.2 (subst (Consumes (g.R.Read.remaining c.args.input) (g.R.Read.remaining c.loop.reader.reader)) (sym (append-nil i.0)) i.1) (stops_unwritten i.0 [] _ _)
+    stops_all _ _ _ _ _ i.0 [] _ i.2 (subst (Consumes (g.R.Read.remaining c.args.input) (g.R.Read.remaining c.loop.reader.reader)) (sym (append-nil i.0)) i.1) (stops_unwritten i.0 [] _ _ _)

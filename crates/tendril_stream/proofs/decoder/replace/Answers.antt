@@ -1,4 +1,4 @@
-use Rattle.std.proofs.Common.{◌∙◌, ◌∷◌, [], length, ap, map, refl, sym}
+use Rattle.std.proofs.Common.{◌∙◌, ◌∷◌, [], inr, length, ap, map, refl, sym}
 use Rattle.tendril_text.proofs.Decoding.{IsReplacement, replacement-handed, replacement-chars}
 use Rattle.tendril_lossy.specs.Lossy.{Char, Mark, replaced}
 use Rattle.tendril_stream.specs.Sinks.{Piece, Fault, told_of}
@@ -9,7 +9,7 @@ pub returns-in-Err-send-clause-err : goal.returns-in-Err-send-clause-err
 returns-in-Err-send-clause-err g c = λ piece.
     Stops-after g.S.TendrilSink.takes g.S.TendrilSink.refuses piece c.args.sink.now c.error.new.self c.send.new.sink (Mark c.args.words.now ∷ []) (Char 0xFFFD ∷ []) (replaced c.args.words.now) c.in-Err-send.refusal
     (Feeds-one g.S.TendrilSink.takes piece c.args.sink.now (Fault c.args.words.now) c.error.new.self tt c.in_default.ensures.ok)
-    (Stops-here g.S.TendrilSink.takes g.S.TendrilSink.refuses piece c.error.new.self (Char 0xFFFD ∷ []) c.in-Err-send.refusal c.send.new.sink c.in-Err-send.ensures.err)
+    (Stops-here g.S.TendrilSink.takes g.S.TendrilSink.refuses piece c.error.new.self (Char 0xFFFD ∷ []) c.in-Err-send.refusal c.send.new.sink (inr c.in-Err-send.ensures.err))
     refl
 
 pub returns-clause-ok : goal.returns-clause-ok

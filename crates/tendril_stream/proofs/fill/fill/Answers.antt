@@ -53,5 +53,7 @@ returns-in-Ok-Err-Failed-clause-read g c =
     let is : c.in-Ok-Err-Failed.field-0 ≡ Err c.in-Ok-Err-Failed.field-0-0 = c.in-Ok-Err-Failed.field-0-is in
     let room = c.in_default.ensures.room in
     let short = c.in_default.ensures.short in
+    let left = c.if-made-most.false in
+    let reads = c.loop-filled.invariant.reads in
     filled_failed g.R.CountedRead.history g.R.CountedRead.remaining c.args.reader.now c.args.text.now.bytes (Unit {0}) c.args.most c.loop-filled.made c.loop-filled.filled c.loop-filled.text.bytes c.read_into.new.text.bytes c.loop-filled.reader c.read_into.new.reader
-    c.loop-filled.invariant.filled (e.front ∙ c.in_default.ensures.front) (read_failed g.R.CountedRead.history g.R.CountedRead.remaining c.loop-filled.reader c.read_into.new.reader c.in-Ok-Err-Failed.field-0 buffer e.history e.consumes (is ∙ ap Err c.in-Ok-Err-Failed.field-0-0-is)) (omega (arith, room, short))
+    c.loop-filled.invariant.filled (e.front ∙ c.in_default.ensures.front) (read_failed g.R.CountedRead.history g.R.CountedRead.remaining c.loop-filled.reader c.read_into.new.reader c.in-Ok-Err-Failed.field-0 buffer e.history e.consumes (is ∙ ap Err c.in-Ok-Err-Failed.field-0-0-is)) (omega (arith, left, reads)) (omega (arith, room, short))

@@ -1,6 +1,7 @@
 use Rattle.std.proofs.Common.{⊎_elim, inl, inr}
 use Rattle.std.proofs.lemmas.Result.{IfOk-weaker, IfErr-weaker}
-use Rattle.tendril_stream.proofs.Refused.{alive, stops_at_end, stops_at_piece}
+use Rattle.tendril_stream.proofs.Own.{unfailed}
+use Rattle.tendril_stream.proofs.Refused.{stops_at_end, stops_at_piece}
 use Rattle.tendril_stream.proofs.Stands.{bytes_of, ends_at, stands_from_nothing}
 use Rattle.tendril_stream.proofs.pieces.decode_pieces_into.Goals as goal
 
@@ -14,7 +15,7 @@ pub returns-clause-refusal : goal.returns-clause-refusal
 returns-clause-refusal g c = IfErr-weaker c.from_iter.result _ _ (λ r h.
     let d = c.new.result in
     let at = stands_from_nothing g.S.TendrilSink.takes g.S.Tracks.after g.met.S.Tracks.goes_on (λ d. d.inner_sink) (λ d. d.kept) (λ d. d.failed) h.sent d h.sunk c.args.sink c.new.ensures.sink c.new.ensures.kept c.requires.new h.calls in
-    let running = alive g.S.TendrilSink.takes g.S.TendrilSink.refuses (λ d. d.inner_sink) (λ d. d.kept) (λ d. d.failed) h.sent d h.sunk c.new.ensures.failed h.calls in
+    let running = unfailed (λ d. d.failed) _ h.sent d h.sunk c.new.ensures.failed h.calls in
     record {
       iterator = h.iterator;
       made = h.made;

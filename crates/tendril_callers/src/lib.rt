@@ -1,0 +1,9 @@
+//! What users write over texts and streams, proved by the contracts of `tendril` and `tendril_stream` alone. Nothing uses it.
+#![tactic(auto)]
+
+pub mod broken;
+pub mod join;
+pub mod push;
+pub mod resume;
+pub mod two;
+pub mod whole;
