@@ -12,10 +12,10 @@ use Rattle.tendril_stream.specs.Readings.{Halts, IsOfReading, StopsBetween}
 use Rattle.tendril_stream.specs.Reads.{Reads}
 use Rattle.tendril_stream.specs.Sinks.{Sent, Piece, Stops}
 
-of_reading : (most : ℕ) (these : Reads) (r : Refusal) → StopsBetween most these r → IsOfReading r
-of_reading most these r (inl k) = inl k.0
-of_reading most these r (inr (inl k)) = inr (inl k.0)
-of_reading most these r (inr (inr k)) = inr (inr k.0)
+between_is_of_reading : (most : ℕ) (these : Reads) (r : Refusal) → StopsBetween most these r → IsOfReading r
+between_is_of_reading most these r (inl k) = inl k.0
+between_is_of_reading most these r (inr (inl k)) = inr (inl k.0)
+between_is_of_reading most these r (inr (inr k)) = inr (inr k.0)
 
 module _ {S D : Type 0} (takes : S → Sent → S → Type 0) (refuses : S → Sent → Refusal → S → Type 0) (inner : D → S) (held : D → List ℕ) (failed : D → Bool) where
   -- at a piece, where the cut end of b is kept
@@ -42,7 +42,7 @@ module _ {S D : Type 0} (takes : S → Sent → S → Type 0) (refuses : S → S
       (λ d r. ((failed d ≡ true) × (r ≡ Failed)) ⊎ ((failed d ≡ false) × EndStops takes refuses ends (inner d) (held d) r))
       most d these r handed
       → IsOfReading r ⊎ StreamStops takes refuses ends after inner failed most these r handed
-  stream_stops ends after goes sink d most these r handed is none alive new (inl k) = inl (of_reading most these r k.3)
+  stream_stops ends after goes sink d most these r handed is none alive new (inl k) = inl (between_is_of_reading most these r k.3)
   stream_stops ends after goes sink d most these r handed is none alive new (inr (inl k)) =
       let at = subst (StandsAt after (inner k.0) (held k.0)) k.4.2 (stands_from_nothing takes after goes inner held failed k.4.0 d k.0 sink is none new k.4.1) in
       let running = unfailed failed _ k.4.0 d k.0 alive k.4.1 in
