@@ -1,23 +1,25 @@
 -- What a decoder over a sink that joins texts leaves to be written.
-use Rattle.std.proofs.Common.{◌≡◌, ℕ, ◌⊎◌, Bool, true, false, List, [], ◌∷◌, ◌++◌, map, flat_map, Option, None, Some, IfSome, refl, sym, ap, ap₂, subst, ◌∙◌, append_assoc, append-nil, inl, inr, IsUtf8, chars, Result, Ok, Err, OnOk, ⊎_elim, true≢false, MatchOption}
+use Rattle.std.proofs.Common.{◌≡◌, ℕ, ◌+◌, ◌<◌, ◌≤◌, ◌⊎◌, Bool, true, false, List, [], ◌∷◌, ◌++◌, length, map, flat_map, Option, None, Some, refl, sym, ap, ap₂, subst, ◌∙◌, arith, append_assoc, append-nil, inl, inr, IsUtf8, chars, Result, Ok, Err, OnOk, ⊎_elim, true≢false, MatchOption}
 use Rattle.std.proofs.KnownBytes.{Appends-nil, Appends-trans}
+use Rattle.std.proofs.lemmas.List.{length-append}
 use Rattle.std.proofs.lemmas.Option.{same_Some}
 use Rattle.std.proofs.lemmas.Str.{IsUtf8-append, IsUtf8-nil, chars-append, chars-nil}
-use Rattle.std.specs.Io.KnownBytes.{Appends, Consumes}
+use Rattle.std.specs.Io.KnownBytes.{Appends}
 use Rattle.std.specs.List.{FoldsTo}
 use Rattle.tendril_text.specs.Pushes.{Joins as Pushes}
 use Rattle.tendril_text.specs.Texts.{Text}
 use Rattle.tendril_block.specs.declared.refusal.Refusal.{Refusal}
-use Rattle.tendril_block.specs.declared.refusal.Refusal.TheVariants.{Failed, SinkRefused, TooManyReads}
+use Rattle.tendril_block.specs.declared.refusal.Refusal.TheVariants.{Count, Failed, Io, Memory, SinkRefused, TooManyReads}
 use Rattle.tendril_lossy.proofs.Streams.{due-append, due_open-append, kept-append}
 use Rattle.tendril_lossy.proofs.Lossy.{lossy-nil}
 use Rattle.tendril_lossy.specs.Lossy.{Told, Char, Mark, characters, closed_of, cut_bytes, due, due_open, kept}
+use Rattle.tendril_stream.proofs.Fed.{giving_adds_up}
 use Rattle.tendril_stream.proofs.Own.{end_clash, process_clash, unfailed}
 use Rattle.tendril_stream.specs.Decoders.{Decodes, DecodingStops as Stopping, Ends, EndStops, nothing}
-use Rattle.tendril_stream.specs.Readings.{Halts, ReadsAll}
-use Rattle.tendril_stream.specs.Reads.{Reads}
+use Rattle.tendril_stream.specs.Readings.{Halts, Makes, ReadsAll, StopsBetween}
+use Rattle.tendril_stream.specs.Reads.{AddUp, Reads, giving}
 use Rattle.tendril_stream.specs.Sinks.{Sent, Piece, Feeds, IsStop, told, told_of}
-use Rattle.tendril_cli.specs.Decodings.{DecodingStops, EndsDecoding, IsReady, StopsBehind, Writes, WritesFront, WritesOn}
+use Rattle.tendril_cli.specs.Decodings.{DecodingStops, EndsDecoding, IsReady, Writes, WritesAll, WritesFront, behind}
 use Rattle.tendril_cli.specs.Endings.{TakesFront}
 
 pub characters-append : (xs ys : List Told) → characters (xs ++ ys) ≡ characters xs ++ characters ys
@@ -76,24 +78,15 @@ module _ {S : Type 0} (has : S → List ℕ) where
   )
 
 -- what is due of the first bytes begins what is due of all
-pub due_front : (b l : List ℕ) → characters (due (b ++ l)) ≡ characters (due_open b) ++ characters (due (kept b ++ l))
-due_front b l = ap characters (due-append b l) ∙ characters-append (due_open b) (due (kept b ++ l))
-
--- nothing is written
-pub front_nothing : (known : Option (List ℕ)) (cs : List ℕ) (r : Refusal) → WritesFront cs known known r
-front_nothing known cs r = record { bytes = []; rest = cs; utf8 = IsUtf8-nil; spells = ap (λ l. l ++ cs) chars-nil; front = record { taken = []; rest = []; splits = refl; appends = Appends-nil known }; whole = inr refl }
-
-pub stops_unwritten : (b p : List ℕ) (left known : Option (List ℕ)) (r : Refusal) → StopsBehind b p left known known r
-stops_unwritten b p left known r =
-    let more = characters (due_open (kept b ++ p)) in
-    (more, front_nothing known more r, inl (sym (characters-append (due_open b) (due_open (kept b ++ p))) ∙ ap characters (sym (due_open-append b p))))
+pub due_front : (b l : List ℕ) → characters (due_open (b ++ l)) ≡ characters (due_open b) ++ characters (due_open (kept b ++ l))
+due_front b l = ap characters (due_open-append b l) ∙ characters-append (due_open b) (due_open (kept b ++ l))
 
 -- a text
 pub writes_text : (before after : Option (List ℕ)) (bytes : List ℕ) → IsUtf8 bytes → Appends before after bytes → Writes (chars bytes) before after
 writes_text before after bytes u h = record { bytes = bytes; utf8 = u; spells = refl; appends = h }
 
-pub front_of_text : (before after : Option (List ℕ)) (bytes : List ℕ) (r : Refusal) → IsUtf8 bytes → TakesFront before after bytes → r ≡ SinkRefused → WritesFront (chars bytes) before after r
-front_of_text before after bytes r u h is = record { bytes = bytes; rest = []; utf8 = u; spells = append-nil (chars bytes); front = h; whole = inl is }
+pub front_of_text : (before after : Option (List ℕ)) (bytes : List ℕ) → IsUtf8 bytes → TakesFront before after bytes → WritesFront (chars bytes) before after
+front_of_text before after bytes u h = record { bytes = bytes; rest = []; utf8 = u; spells = append-nil (chars bytes); front = h }
 
 -- one behind the other
 pub writes_both : (a b c : Option (List ℕ)) (cs ds : List ℕ) → Writes cs a b → Writes ds b c → Writes (cs ++ ds) a c
@@ -104,36 +97,54 @@ writes_both a b c cs ds x y = record {
   appends = Appends-trans a b c x.bytes y.bytes x.appends y.appends;
 }
 
-pub writes_then_front : (a b c : Option (List ℕ)) (cs ds : List ℕ) (r : Refusal) → Writes cs a b → WritesFront ds b c r → WritesFront (cs ++ ds) a c r
-writes_then_front a b c cs ds r x y = record {
+pub writes_then_front : (a b c : Option (List ℕ)) (cs ds : List ℕ) → Writes cs a b → WritesFront ds b c → WritesFront (cs ++ ds) a c
+writes_then_front a b c cs ds x y = record {
   bytes = x.bytes ++ y.bytes;
   rest = y.rest;
   utf8 = IsUtf8-append x.bytes y.bytes x.utf8 y.utf8;
   spells = ap (λ l. l ++ y.rest) (chars-append x.bytes y.bytes x.utf8) ∙ append_assoc (chars x.bytes) (chars y.bytes) y.rest ∙ ap₂ (λ l m. l ++ m) x.spells y.spells;
   front = record { taken = x.bytes ++ y.front.taken; rest = y.front.rest; splits = ap (λ l. x.bytes ++ l) y.front.splits ∙ sym (append_assoc x.bytes y.front.taken y.front.rest); appends = Appends-trans a b c x.bytes y.front.taken x.appends y.front.appends };
-  whole = y.whole;
 }
 
--- more is due behind it
-pub front_of_more : (a b : Option (List ℕ)) (cs more all : List ℕ) (r : Refusal) → WritesFront cs a b r → cs ++ more ≡ all → WritesFront all a b r
-front_of_more a b cs more all r x is = record { bytes = x.bytes; rest = x.rest ++ more; utf8 = x.utf8; spells = sym (append_assoc (chars x.bytes) x.rest more) ∙ ap (λ l. l ++ more) x.spells ∙ is; front = x.front; whole = x.whole }
-
--- a stop behind what was written
-pub stops_all : (old left : Option (List ℕ)) (before mid after : Option (List ℕ)) (b p : List ℕ) (r : Refusal) → Writes (characters (due_open b)) before mid → Consumes old left (b ++ p) → StopsBehind b p left mid after r → IfSome old (λ bytes. DecodingStops bytes before after r)
-stops_all None left before mid after b p r w c s = tt
-stops_all (Some x) None before mid after b p r w c s = absurd c
-stops_all (Some x) (Some y) before mid after b p r w c (more, front, inl is) =
-    front_of_more before after (characters (due_open b) ++ more) (characters (due (kept (b ++ p) ++ y))) (characters (due x)) r (writes_then_front before mid after (characters (due_open b)) more r w front)
-    (ap (λ l. l ++ characters (due (kept (b ++ p) ++ y))) is ∙ sym (due_front (b ++ p) y) ∙ ap (λ l. characters (due l)) (sym c))
-stops_all (Some x) (Some y) before mid after b p r w c (more, front, inr is) =
-    front_of_more before after (characters (due_open b) ++ more) [] (characters (due x)) r (writes_then_front before mid after (characters (due_open b)) more r w front)
-    (append-nil (characters (due_open b) ++ more) ∙ is.0 ∙ ap (λ l. characters (due l)) (sym (append-nil (b ++ p)) ∙ ap (λ l. (b ++ p) ++ l) (sym is.1) ∙ sym c))
+-- all that is due of the first bytes is a front of what is due of all
+pub front_of_all : (before after : Option (List ℕ)) (b l : List ℕ) → Writes (characters (due_open b)) before after → WritesFront (characters (due_open (b ++ l))) before after
+front_of_all before after b l w = record {
+  bytes = w.bytes;
+  rest = characters (due_open (kept b ++ l));
+  utf8 = w.utf8;
+  spells = ap (λ cs. cs ++ characters (due_open (kept b ++ l))) w.spells ∙ sym (due_front b l);
+  front = record { taken = w.bytes; rest = []; splits = sym (append-nil w.bytes); appends = w.appends };
+}
 
 pub pushed : (r : Result (Unit {0}) Refusal) (old new : Text) (more : List ℕ) → IsUtf8 old.bytes → Pushes (λ a b. a ++ b) more old r new → OnOk r (chars new.bytes ≡ chars old.bytes ++ characters (map Char (chars more)))
 pushed (Ok r) old new more u h = ap chars h.outcome.1 ∙ chars-append old.bytes more u ∙ ap (λ l. chars old.bytes ++ l) (sym (characters-text (chars more)))
 pushed (Err e) old new more u h = tt
 
--- a decoder, and what reading into it comes to
+-- which refusal it is
+
+abbrev no_reads_left : Refusal → Bool
+no_reads_left TooManyReads = true
+no_reads_left other = false
+
+none_left : (r : Refusal) → no_reads_left r ≡ false → TooManyReads ≡ r → ⊥
+none_left r f e = true≢false (ap no_reads_left e ∙ f)
+
+none≢some : {D : Type 0} (d : D) → Some d ≡ None → ⊥
+none≢some d e = subst (λ o. MatchOption o ⊥ (λ _. Unit {0})) e tt
+
+-- one read, of which no other is told
+one_read : (these : Reads) → AddUp these → these.reads ≤ these.failed + these.empty → these.given ≡ []
+one_read these adds few = let within = adds.within in adds.silent (omega (arith, within, few))
+
+pub one_gave : {R : Type 0} (history : R → Reads) (remaining : R → Option (List ℕ)) (a b : R) (these : Reads) → Makes history remaining a these b → (these.reads ≡ 1) × (these.failed ≡ 0) × (these.empty ≡ 0) → Makes history remaining a (giving these.given) b
+one_gave history remaining a b these h one =
+    let r = h.0 in (
+      record { given = r.given; reads = r.reads ∙ ap (λ n. (history a).reads + n) one.0; failed = r.failed ∙ ap (λ n. (history a).failed + n) one.1; empty = r.empty ∙ ap (λ n. (history a).empty + n) one.2 },
+      h.1,
+      giving_adds_up these.given,
+    )
+
+-- a decoder, and what reading once into it comes to
 module _ {D S : Type 0} (inner : D → S) (held : D → List ℕ) (failed : D → Bool) (has : S → List ℕ) (refuses : S → Sent → Refusal → S → Type 0) (finish_refused : S → Refusal → Type 0) where
   abbrev pub DecoderTakes : D → Sent → D → Type 0
   DecoderTakes d e n = (failed d ≡ false) × (failed n ≡ false) × Decodes (Joins has) (inner d) (held d) e (inner n) (held n)
@@ -145,45 +156,75 @@ module _ {D S : Type 0} (inner : D → S) (held : D → List ℕ) (failed : D �
   DecoderEnds d r = ((failed d ≡ true) × (r ≡ Failed)) ⊎ ((failed d ≡ false) × EndStops (Joins has) refuses finish_refused (inner d) (held d) r)
 
   -- no read was left: the decoder goes on
-  pub reads_more : (most : ℕ) (written b : List ℕ) (d next : D) (these : Reads) → Halts DecoderTakes DecoderRefuses DecoderEnds most d these TooManyReads (Some next) → failed d ≡ false → Stands has written (inner d) (held d) b
-      → Stands has written (inner next) (held next) (b ++ these.given) × (failed next ≡ false)
-  reads_more most written b d next these (inl h) whole s =
-      let same : h.0 ≡ next = sym (same_Some next h.0 h.2) in
-      subst (λ n. Stands has written (inner n) (held n) (b ++ these.given) × (failed n ≡ false)) same
-      (subst (λ g. Stands has written (inner h.0) (held h.0) (b ++ g)) h.1.2 (stands_after has inner held failed written h.1.0 d h.0 b s h.1.1), unfailed failed _ h.1.0 d h.0 whole h.1.1)
-  reads_more most written b d next these (inr (inl h)) whole s = absurd (process_clash _ _ _ _ _ _ h.2 TooManyReads h.6.1 (inl refl))
-  reads_more most written b d next these (inr (inr h)) whole s = absurd (end_clash _ _ _ _ _ _ TooManyReads h.2 (inl refl))
-
-  stop_ends : (piece : Text) (mid new : S) (r : Refusal) → IsStop refuses piece mid r new → EndsDecoding r
-  stop_ends piece mid new r (inl h) = inr (inl h.0.0)
-  stop_ends piece mid new r (inr h) = inr (inr (inr (inr h.0)))
-
-  -- any other refusal ends the decoding
-  pub halts_ends : (most : ℕ) (d : D) (these : Reads) (r : Refusal) (handed : Option D) → Halts DecoderTakes DecoderRefuses DecoderEnds most d these r handed → failed d ≡ false → EndsDecoding r
-  halts_ends most d these r handed (inl h) whole = ⊎_elim (λ k. inr (inr (inl k.0))) (λ k. ⊎_elim (λ i. inr (inr (inr (inl i.0)))) (λ m. inl m.0) k) h.3
-  halts_ends most d these r handed (inr (inl h)) whole = ⊎_elim
-      (λ k. absurd (true≢false (sym k.0 ∙ unfailed failed _ h.4.0 d h.0 whole h.4.1)))
-      (λ k. stop_ends h.2 k.1.mid (inner h.3) r k.1.stop)
-      h.6.1
-  halts_ends most d these r handed (inr (inr h)) whole = ⊎_elim
-      (λ k. absurd (true≢false (sym k.0 ∙ unfailed failed _ h.1.0 d h.0 whole h.1.1)))
-      (λ k. ⊎_elim (λ v. stop_ends nothing v.1.mid v.0 r v.1.stop) (λ v. inr (inr (inr (inr v.2)))) k.1)
-      h.2
+  pub reads_more : (written b : List ℕ) (d next : D) (these : Reads) (r : Refusal) (handed : Option D) → Halts DecoderTakes DecoderRefuses DecoderEnds 1 d these r handed → (r ≡ TooManyReads) × (handed ≡ Some next) → failed d ≡ false → Stands has written (inner d) (held d) b
+      → Stands has written (inner next) (held next) (b ++ these.given) × (failed next ≡ false) × ((these.reads ≡ 1) × (these.failed ≡ 0) × (these.empty ≡ 0))
+  reads_more written b d next these r handed (inl h) is whole s =
+      let same : h.0 ≡ next = sym (same_Some next h.0 (sym is.1 ∙ h.2)) in
+      let counts : (these.reads ≡ 1) × (these.failed ≡ 0) = ⊎_elim (λ k. (k.1, k.2)) (λ k. ⊎_elim (λ i. absurd (none_left Io refl (sym is.0 ∙ i.0))) (λ m. absurd (none_left Memory refl (sym is.0 ∙ m.0))) k) h.3 in
+      let on : Stands has written (inner next) (held next) (b ++ these.given) × (failed next ≡ false) = subst (λ n. Stands has written (inner n) (held n) (b ++ these.given) × (failed n ≡ false)) same
+      (subst (λ g. Stands has written (inner h.0) (held h.0) (b ++ g)) h.1.2 (stands_after has inner held failed written h.1.0 d h.0 b s h.1.1), unfailed failed _ h.1.0 d h.0 whole h.1.1) in
+      (on.0, on.1, (counts.0, counts.1, h.4))
+  reads_more written b d next these r handed (inr (inl h)) is whole s = absurd (process_clash _ _ _ _ _ _ h.2 r h.6.1 (inl is.0))
+  reads_more written b d next these r handed (inr (inr h)) is whole s = absurd (end_clash _ _ _ _ _ _ r h.2 (inl is.0))
 
   -- all is read, and the sink's end is accepted
-  pub reads_to_end : {O : Type 0} (finishes : S → O → Type 0) (most : ℕ) (written b : List ℕ) (d : D) (these : Reads) (out : O) → ReadsAll DecoderTakes (λ d o. (failed d ≡ false) × Ends (Joins has) finishes (inner d) (held d) o) most d these out → Stands has written (inner d) (held d) b
+  pub reads_to_end : {O : Type 0} (finishes : S → O → Type 0) (written b : List ℕ) (d : D) (these : Reads) (out : O) → ReadsAll DecoderTakes (λ d o. (failed d ≡ false) × Ends (Joins has) finishes (inner d) (held d) o) 1 d these out → Stands has written (inner d) (held d) b
       → (last : S) × (written ++ has last ≡ characters (due (b ++ these.given))) × finishes last out
-  reads_to_end finishes most written b d these out h s =
+  reads_to_end finishes written b d these out h s =
       let r = h.receives in
       ended has written finishes (inner h.last) (held h.last) (b ++ these.given) out
       (subst (λ g. Stands has written (inner h.last) (held h.last) (b ++ g)) r.2 (stands_after has inner held failed written r.0 d h.last b s r.1)) h.finished.1
 
--- which arm it was
-pub at_none : {D : Type 0} (next : Option D) (A : Type 0) (B : D → Type 0) → next ≡ None → MatchOption next A B → A
-at_none next A B e h = subst (λ o. MatchOption o A B) e h
+  -- any other refusal ends the decoding, and nothing more is written
+  module _ (most made : ℕ) (left before now : Option (List ℕ)) (b : List ℕ) (these : Reads) (w : Writes (characters (due_open b)) before now) (some : made < most) (adds : AddUp these) where
+    abbrev Stopped : Refusal → Type 0
+    Stopped r = DecodingStops most (behind b made these) left before now r
 
-pub at_some : {D : Type 0} (next : Option D) (d : D) (A : Type 0) (B : D → Type 0) → next ≡ Some d → MatchOption next A B → B d
-at_some next d A B e h = subst (λ o. MatchOption o A B) e h
+    all_written : these.given ≡ [] → these.empty ≡ 0 → WritesAll (behind b made these) before now
+    all_written none empty = record { writes = subst (λ g. Writes (characters (due_open g)) before now) (sym (ap (λ l. b ++ l) none ∙ append-nil b)) w; empty = empty }
+
+    between : (r : Refusal) → (r ≡ TooManyReads → ⊥) → StopsBetween 1 these r → these.empty ≡ 0 → Stopped r
+    between r other h empty = ⊎_elim
+        (λ k. absurd (other k.0))
+        (λ k. ⊎_elim
+        (λ i.
+        let failed = i.1 in
+        let one = i.2 in
+        subst Stopped (sym i.0) (all_written (one_read these adds (omega (arith, failed, one))) empty, failed, omega (arith, one, some)))
+        (λ m.
+        let failed = m.1 in
+        let none = m.2 in
+        subst Stopped (sym m.0) (all_written (one_read these adds (omega (arith, none))) empty, failed, omega (arith, none, some)))
+        k)
+        h
+
+    sink_refused : (r : Refusal) → r ≡ SinkRefused → these.failed ≡ 0 → these.reads ≤ 1 → Stopped r
+    sink_refused r is failed one = subst Stopped (sym is) (inl (front_of_all before now b these.given w), failed, omega (arith, one, some))
+
+    at_piece : (read : List ℕ) (piece : Text) (mid new : S) (r : Refusal) → IsStop refuses piece mid r new → these.given ≡ read ++ piece.bytes → these.failed ≡ 0 → these.empty ≡ 0 → these.reads ≤ 1 → Stopped r
+    at_piece read piece mid new r (inl h) is failed empty one =
+        let long = h.0.1 in
+        subst Stopped (sym h.0.0) (
+          record { read = b; piece = these.given; given = refl; long = (refl, omega (arith, long, ap length is, length-append read piece.bytes)); writes = w; empty = empty },
+          failed,
+          omega (arith, one, some),
+        )
+    at_piece read piece mid new r (inr h) is failed empty one = sink_refused r h.0 failed one
+
+    at_end : (mid new : S) (r : Refusal) → IsStop refuses nothing mid r new → these.failed ≡ 0 → these.reads ≤ 1 → Stopped r
+    at_end mid new r (inl h) failed one = let long = h.0.1 in absurd (omega (arith, long))
+    at_end mid new r (inr h) failed one = sink_refused r h.0 failed one
+
+    pub halts_stops : (d : D) (r : Refusal) (handed : Option D) → Halts DecoderTakes DecoderRefuses DecoderEnds 1 d these r handed → failed d ≡ false → (r ≡ TooManyReads → handed ≡ None) → Stopped r
+    halts_stops d r handed (inl h) whole gone = between r (λ is. none≢some h.0 (sym h.2 ∙ gone is)) h.3 h.4
+    halts_stops d r handed (inr (inl h)) whole gone = ⊎_elim
+        (λ k. absurd (true≢false (sym k.0 ∙ unfailed failed _ h.4.0 d h.0 whole h.4.1)))
+        (λ k. at_piece h.1 h.2 k.1.mid (inner h.3) r k.1.stop h.5 h.8 h.9 h.10)
+        h.6.1
+    halts_stops d r handed (inr (inr h)) whole gone = ⊎_elim
+        (λ k. absurd (true≢false (sym k.0 ∙ unfailed failed _ h.1.0 d h.0 whole h.1.1)))
+        (λ k. ⊎_elim (λ v. at_end v.1.mid v.0 r v.1.stop h.4 h.6) (λ v. sink_refused r v.2 h.4 h.6) k.1)
+        h.2
 
 -- nothing is read yet
 pub at_first : (known : Option (List ℕ)) → Writes (characters (due_open [])) known known
@@ -192,6 +233,18 @@ at_first known = record { bytes = []; utf8 = IsUtf8-nil; spells = chars-nil ∙ 
 pub ready_first : (held unwritten : List ℕ) (failed : Bool) → held ≡ [] → failed ≡ false → unwritten ≡ [] → IsReady [] held failed unwritten
 ready_first held unwritten failed h f u = record { keeps = h ∙ sym (ap cut_bytes lossy-nil); goes_on = f; empty = u }
 
--- one read more
-pub writes_more : (before mid after : Option (List ℕ)) (b : List ℕ) (told : List Told) → Writes (characters (due_open b)) before mid → WritesOn b told mid after → Writes (characters told) before after
-writes_more before mid after b told w (more, x, is) = subst (λ cs. Writes cs before after) is (writes_both before mid after (characters (due_open b)) more w x)
+-- which arm it was
+pub at_none : {D : Type 0} (next : Option D) (A : Type 0) (B : D → Type 0) → next ≡ None → MatchOption next A B → A
+at_none next A B e h = subst (λ o. MatchOption o A B) e h
+
+pub at_some : {D : Type 0} (next : Option D) (d : D) (A : Type 0) (B : D → Type 0) → next ≡ Some d → MatchOption next A B → B d
+at_some next d A B e h = subst (λ o. MatchOption o A B) e h
+
+-- the refusals of a decoding
+pub stops_ends : (most : ℕ) (these : Reads) (left before after : Option (List ℕ)) (r : Refusal) → DecodingStops most these left before after r → EndsDecoding r
+stops_ends most these left before after TooManyReads h = inr (inr (inl refl))
+stops_ends most these left before after Memory h = inl refl
+stops_ends most these left before after Io h = inr (inr (inr (inl refl)))
+stops_ends most these left before after Count h = inr (inl refl)
+stops_ends most these left before after SinkRefused h = inr (inr (inr (inr refl)))
+stops_ends most these left before after other h = absurd h

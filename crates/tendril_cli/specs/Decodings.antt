@@ -1,10 +1,16 @@
 -- What is decoded from the input to the output.
-use Rattle.std.specs.Prelude.{ℕ, ◌≡◌, ◌⊎◌, List, [], ◌++◌, chars, IsUtf8, Option, IfSome, Bool, false}
-use Rattle.std.specs.Io.KnownBytes.{Appends, IsAtEnd}
+use Rattle.std.specs.Prelude.{ℕ, ◌≡◌, ◌+◌, ◌<◌, ◌≤◌, ◌⊎◌, List, [], ◌++◌, chars, IsUtf8, Option, Bool, false}
+use Rattle.std.specs.Io.KnownBytes.{Appends, Consumes, IsAtEnd}
 use Rattle.tendril_block.specs.declared.refusal.Refusal.{Refusal}
 use Rattle.tendril_block.specs.declared.refusal.Refusal.TheVariants.{Count, Io, Memory, SinkRefused, TooManyReads}
-use Rattle.tendril_lossy.specs.Lossy.{Told, characters, due, due_open, kept}
+use Rattle.tendril_lossy.specs.Lossy.{characters, due, due_open, kept}
+use Rattle.tendril_stream.specs.Reads.{Reads}
+use Rattle.tendril_text.specs.Decoding.{LongPieceMay}
 use Rattle.tendril_cli.specs.Endings.{TakesFront, complaint}
+
+-- how many reads a program makes at most
+abbrev pub most_reads : ℕ
+most_reads = 1000000000
 
 -- a writer that tells its bytes has taken these characters, in UTF-8
 pub record Writes (characters : List ℕ) (before after : Option (List ℕ)) : Type 0 where
@@ -13,22 +19,54 @@ pub record Writes (characters : List ℕ) (before after : Option (List ℕ)) : T
   pub spells : chars bytes ≡ characters
   pub appends : Appends before after bytes
 
--- or some that these begin with, of which a refused write takes a front: what a refusal leaves
-pub record WritesFront (characters : List ℕ) (before after : Option (List ℕ)) (refusal : Refusal) : Type 0 where
+-- or some that these begin with, of which a failed write takes a front
+pub record WritesFront (characters : List ℕ) (before after : Option (List ℕ)) : Type 0 where
   pub bytes : List ℕ
   pub rest : List ℕ
   pub utf8 : IsUtf8 bytes
   pub spells : chars bytes ++ rest ≡ characters
   pub front : TakesFront before after bytes
-  pub whole : (refusal ≡ SinkRefused) ⊎ (front.rest ≡ [])
 
--- all that is due of these bytes is written
-abbrev pub Decoded : List ℕ → Option (List ℕ) → Option (List ℕ) → Type 0
-Decoded bytes before after = Writes (characters (due bytes)) before after
+-- all is read, and what is due of it is written; so many reads at most
+pub record Decoded (most : ℕ) (these : Reads) (before after : Option (List ℕ)) : Type 0 where
+  pub writes : Writes (characters (due these.given)) before after
+  pub failed : these.failed ≡ 0
+  pub empty : these.empty ≡ 1
+  pub within : these.reads ≤ most
 
--- or the beginning of it
-abbrev pub DecodingStops : List ℕ → Option (List ℕ) → Option (List ℕ) → Refusal → Type 0
-DecodingStops bytes before after refusal = WritesFront (characters (due bytes)) before after refusal
+-- the end isn't read, and what is due of what is read is written
+pub record WritesAll (these : Reads) (before after : Option (List ℕ)) : Type 0 where
+  pub writes : Writes (characters (due_open these.given)) before after
+  pub empty : these.empty ≡ 0
+
+-- or what is due of what is read before the last piece, which is long
+pub record WritesBefore (these : Reads) (before after : Option (List ℕ)) : Type 0 where
+  pub read : List ℕ
+  pub piece : List ℕ
+  pub given : these.given ≡ read ++ piece
+  pub long : LongPieceMay piece Count
+  pub writes : Writes (characters (due_open read)) before after
+  pub empty : these.empty ≡ 0
+
+-- or a front of what is due of all that is read
+abbrev pub WritesUpTo : Reads → Option (List ℕ) → Option (List ℕ) → Option (List ℕ) → Type 0
+WritesUpTo these left before after =
+    WritesFront (characters (due_open these.given)) before after
+    ⊎ (WritesFront (characters (due these.given)) before after × IsAtEnd left × (these.empty ≡ 1))
+
+-- Where each refusal ends a decoding, and what is written then. No read was left; there was no memory for one that was left;
+-- one failed; a piece could be shared no more; a write failed, or there was no memory to join the texts of a piece.
+abbrev pub DecodingStops : ℕ → Reads → Option (List ℕ) → Option (List ℕ) → Option (List ℕ) → Refusal → Type 0
+DecodingStops most these left before after TooManyReads = WritesAll these before after × (these.failed ≡ 0) × (these.reads ≡ most)
+DecodingStops most these left before after Memory = WritesAll these before after × (these.failed ≡ 0) × (these.reads < most)
+DecodingStops most these left before after Io = WritesAll these before after × (these.failed ≡ 1) × (these.reads ≤ most)
+DecodingStops most these left before after Count = WritesBefore these before after × (these.failed ≡ 0) × (these.reads ≤ most)
+DecodingStops most these left before after SinkRefused = WritesUpTo these left before after × (these.failed ≡ 0) × (these.reads ≤ most)
+DecodingStops most these left before after other = ⊥
+
+-- these reads, behind so many that gave b
+abbrev pub behind : List ℕ → ℕ → Reads → Reads
+behind b made these = record { given = b ++ these.given; reads = made + these.reads; failed = these.failed; empty = these.empty }
 
 -- a decoder that hasn't failed, keeps what b leaves open, and has sent on all that is due of b
 pub record IsReady (b held : List ℕ) (failed : Bool) (unwritten : List ℕ) : Type 0 where
@@ -36,22 +74,15 @@ pub record IsReady (b held : List ℕ) (failed : Bool) (unwritten : List ℕ) : 
   pub goes_on : failed ≡ false
   pub empty : unwritten ≡ []
 
--- what was told behind that which is due of b is written
-abbrev pub WritesOn : List ℕ → List Told → Option (List ℕ) → Option (List ℕ) → Type 0
-WritesOn b told before after = (more : List ℕ) × Writes more before after × (characters (due_open b) ++ more ≡ characters told)
-
--- or the beginning of it, where p was read behind b
-abbrev pub StopsBehind : List ℕ → List ℕ → Option (List ℕ) → Option (List ℕ) → Option (List ℕ) → Refusal → Type 0
-StopsBehind b p left before after refusal = (more : List ℕ) × WritesFront more before after refusal
-    × ((characters (due_open b) ++ more ≡ characters (due_open (b ++ p))) ⊎ ((characters (due_open b) ++ more ≡ characters (due (b ++ p))) × IsAtEnd left))
-
 -- the refusals that end a decoding
 abbrev pub EndsDecoding : Refusal → Type 0
 EndsDecoding refusal = (refusal ≡ Memory) ⊎ ((refusal ≡ Count) ⊎ ((refusal ≡ TooManyReads) ⊎ ((refusal ≡ Io) ⊎ (refusal ≡ SinkRefused))))
 
 -- a refusal ended the program: its line went to standard error, and what was written before stands
-pub record DecodingEnded (remaining before after told told' : Option (List ℕ)) : Type 0 where
+pub record DecodingEnded (most : ℕ) (input before after told told' : Option (List ℕ)) : Type 0 where
   pub refusal : Refusal
-  pub ends : EndsDecoding refusal
-  pub stops : IfSome remaining (λ bytes. DecodingStops bytes before after refusal)
+  pub these : Reads
+  pub left : Option (List ℕ)
+  pub gave : Consumes input left these.given
+  pub stops : DecodingStops most these left before after refusal
   pub tells : TakesFront told told' (complaint refusal)

@@ -1,15 +1,17 @@
 //! Decoding of the input to the output.
-ghost use Rattle.std.specs.Prelude.{◌≡◌, Some, List, ℕ, ◌++◌, IsUtf8, IfOk, IfErr, OnOk, OnErr, IfSome, MatchOption};
-ghost use Rattle.std.specs.Io.KnownBytes.{Appends, Consumes, IsAtEnd};
-ghost use Rattle.tendril_lossy.specs.Lossy.{due, due_open};
-ghost use Rattle.tendril_cli.specs.Decodings.{Decoded, DecodingStops, EndsDecoding, IsReady, StopsBehind, WritesOn};
+ghost use Rattle.std.specs.Prelude.{◌≡◌, ◌<◌, Some, None, List, ℕ, Option, ◌++◌, IsUtf8, IfOk, IfErr, OnOk, OnErr, MatchOption};
+ghost use Rattle.std.specs.Io.KnownBytes.{Appends, IsAtEnd};
+ghost use Rattle.tendril_lossy.specs.Lossy.{characters, due_open};
+ghost use Rattle.tendril_stream.specs.Readings.{Makes};
+ghost use Rattle.tendril_stream.specs.Reads.{Reads, giving};
+ghost use Rattle.tendril_cli.specs.Decodings.{Decoded, DecodingStops, IsReady, Writes, behind, most_reads};
 ghost use Rattle.tendril_cli.specs.Endings.{TakesFront};
 
 use crate::joined::Joined;
 use crate::output::{flush, write_bytes};
 use std::alloc::Global;
-use std::io::{Read, Write};
-use tendril_stream::{Counted, CountedRead, Stopped, Utf8LossyDecoder, read_from};
+use std::io::Write;
+use tendril_stream::{CountedRead, Stopped, Utf8LossyDecoder, read_from};
 use tendril_text::StrTendril;
 use tendril_text::block::Refusal;
 
@@ -18,16 +20,21 @@ const MOST_READS: u64 = 1_000_000_000;
 
 /// Decodes all that the input has, and writes the texts: those of one read before the next is made. A failed write is
 /// SinkRefused; where 1000000000 reads don't reach the end, the answer is TooManyReads.
-pub fn decode<R: Read + Drop, W: Write>(alloc: Global, input: R, out: &mut W) -> Result<(), Refusal>
-    ensures ok { OnOk result (IfSome (R.remaining input) (λ bytes. Decoded bytes (W.contents out.old) (W.contents out.new))) }
-    ensures refusal { IfErr result EndsDecoding }
-    ensures stops { IfErr result (λ r. IfSome (R.remaining input)
-        (λ bytes. DecodingStops bytes (W.contents out.old) (W.contents out.new) r)) }
+pub fn decode<R: CountedRead, W: Write>(
+    alloc: Global,
+    reader: &mut R,
+    out: &mut W,
+) -> Result<(), Refusal>
+    ensures ok { OnOk result ((these : Reads) × Makes R.history R.remaining reader.old these reader.new
+        × IsAtEnd (R.remaining reader.new) × Decoded most_reads these (W.contents out.old) (W.contents out.new)) }
+    ensures stops { IfErr result (λ r. (these : Reads) × Makes R.history R.remaining reader.old these reader.new
+        × DecodingStops most_reads these (R.remaining reader.new) (W.contents out.old) (W.contents out.new) r) }
 {
-    let mut reader = Counted::new(input);
     let mut decoder = Utf8LossyDecoder::new(alloc, Joined::new(alloc));
-    for _ in 0..MOST_READS {
-        match decode_read(alloc, decoder, &mut reader, out) {
+    let mut made = 0;
+    while made < MOST_READS {
+        made += 1;
+        match decode_read(alloc, decoder, reader, out) {
             Ok(Some(next)) => decoder = next,
             Ok(None) => return Ok(()),
             Err(refusal) => return Err(refusal),
@@ -43,14 +50,19 @@ fn decode_read<R: CountedRead, W: Write>(
     reader: &mut R,
     out: &mut W,
 ) -> Result<Option<Utf8LossyDecoder<Joined>>, Refusal>
-    ensures ok { (b : List ℕ) → IsReady b decoder.kept decoder.failed decoder.inner_sink.text.bytes → IfOk result (λ next.
-        (p : List ℕ) × Consumes (R.remaining reader.old) (R.remaining reader.new) p × MatchOption next
-        (WritesOn b (due (b ++ p)) (W.contents out.old) (W.contents out.new) × IsAtEnd (R.remaining reader.new))
-        (λ d. WritesOn b (due_open (b ++ p)) (W.contents out.old) (W.contents out.new)
-        × IsReady (b ++ p) d.kept d.failed d.inner_sink.text.bytes)) }
-    ensures err { (b : List ℕ) → IsReady b decoder.kept decoder.failed decoder.inner_sink.text.bytes → IfErr result (λ r.
-        EndsDecoding r × ((p : List ℕ) × Consumes (R.remaining reader.old) (R.remaining reader.new) p
-        × StopsBehind b p (R.remaining reader.new) (W.contents out.old) (W.contents out.new) r)) }
+    ensures ok { (before : Option (List ℕ)) → (b : List ℕ) → (made : ℕ) → made < most_reads
+        → Writes (characters (due_open b)) before (W.contents out.old)
+        → IsReady b decoder.kept decoder.failed decoder.inner_sink.text.bytes → IfOk result (λ next. MatchOption next
+        ((one : Reads) × Makes R.history R.remaining reader.old one reader.new × IsAtEnd (R.remaining reader.new)
+        × Decoded most_reads (behind b made one) before (W.contents out.new))
+        (λ d. (bytes : List ℕ) × Makes R.history R.remaining reader.old (giving bytes) reader.new
+        × Writes (characters (due_open (b ++ bytes))) before (W.contents out.new)
+        × IsReady (b ++ bytes) d.kept d.failed d.inner_sink.text.bytes)) }
+    ensures stops { (before : Option (List ℕ)) → (b : List ℕ) → (made : ℕ) → made < most_reads
+        → Writes (characters (due_open b)) before (W.contents out.old)
+        → IsReady b decoder.kept decoder.failed decoder.inner_sink.text.bytes → IfErr result (λ r.
+        (one : Reads) × Makes R.history R.remaining reader.old one reader.new
+        × DecodingStops most_reads (behind b made one) (R.remaining reader.new) before (W.contents out.new) r) }
 {
     match read_from(alloc, decoder, reader, 1) {
         Ok(text) => {
@@ -79,6 +91,7 @@ fn may_read_on(
 ) -> Result<Utf8LossyDecoder<Joined>, Refusal>
     ensures ok { IfOk result (λ d. (stopped.refusal ≡ Refusal.TooManyReads) × (stopped.sink ≡ Some d)) }
     ensures err { IfErr result (λ r. r ≡ stopped.refusal) }
+    ensures none { OnErr result (stopped.refusal ≡ Refusal.TooManyReads → stopped.sink ≡ None) }
 {
     match (stopped.refusal, stopped.sink) {
         (Refusal::TooManyReads, Some(decoder)) => Ok(decoder),

@@ -33,7 +33,7 @@ impl TendrilSink<StrTendril> for Joined {
 
     ghost takes = { λ a e b. chars b.text.bytes ≡ chars a.text.bytes ++ characters (told_of e) };
 
-    ghost refuses = { λ a e r b. Unit {0} };
+    ghost refuses = { λ a e r b. b.text.bytes ≡ a.text.bytes };
 
     ghost finishes = { λ a out. out.bytes ≡ a.text.bytes };
 

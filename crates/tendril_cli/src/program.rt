@@ -2,7 +2,8 @@
 ghost use Rattle.std.specs.Prelude.{◌≡◌, ◌≢◌, ◌≤◌, ◌↔◌, ◌⊎◌, map, IsTrue, IfSome, IfOk, IfErr, OnOk};
 ghost use Rattle.std.specs.Io.KnownBytes.{IsAtEnd, Keeps};
 ghost use Rattle.std.specs.IoError.{error_kind};
-ghost use Rattle.tendril_cli.specs.Decodings.{Decoded, DecodingEnded, EndsDecoding};
+ghost use Rattle.tendril_lossy.specs.Lossy.{characters, due};
+ghost use Rattle.tendril_cli.specs.Decodings.{DecodingEnded, EndsDecoding, Writes, most_reads};
 ghost use Rattle.tendril_cli.specs.Endings.{Ended, Ends, Stops, TakesFront, complaint, usage};
 ghost use Rattle.tendril_cli.specs.Sessions.{Ran, lines};
 ghost use Rattle.tendril_cli.specs.Words.{AskToDecode, AskToRun};
@@ -12,6 +13,7 @@ use crate::output::write_bytes;
 use crate::script::run_script;
 use std::alloc::Global;
 use std::io::{Error, ErrorKind, Read, Write};
+use tendril_stream::Counted;
 use tendril_text::block::Refusal;
 
 const DONE: u8 = 0;
@@ -41,14 +43,14 @@ pub fn program<R: Read, W: Write, E: Write>(
     ensures ran { AskToRun (map (λ word. word.now) words.now) → result ≡ 0
         → Ran (R.remaining input.old) (W.contents out.old) (W.contents out.new) }
     ensures decoded { AskToDecode (map (λ word. word.now) words.now) → result ≡ 0
-        → IfSome (R.remaining input.old) (λ bytes. Decoded bytes (W.contents out.old) (W.contents out.new)) }
+        → IfSome (R.remaining input.old) (λ bytes. Writes (characters (due bytes)) (W.contents out.old) (W.contents out.new)) }
     ensures silent { result ≡ 0 → Keeps (E.contents err.old) (E.contents err.new) }
 
     // Or a refusal is told, and some first lines of the script are answered, in whole lines unless a write failed, or the
     // first texts are written.
     ensures refused { AskToRun (map (λ word. word.now) words.now) → result ≡ 1 → Ended (R.remaining input.old)
         (W.contents out.old) (W.contents out.new) (E.contents err.old) (E.contents err.new) }
-    ensures stopped { AskToDecode (map (λ word. word.now) words.now) → result ≡ 1 → DecodingEnded (R.remaining input.old)
+    ensures stopped { AskToDecode (map (λ word. word.now) words.now) → result ≡ 1 → DecodingEnded most_reads (R.remaining input.old)
         (W.contents out.old) (W.contents out.new) (E.contents err.old) (E.contents err.new) }
 
     // Or the words ask for nothing.
@@ -66,7 +68,7 @@ pub fn program<R: Read, W: Write, E: Write>(
         };
     }
     if asks_to_decode(words) {
-        return match decode(alloc, input, out) {
+        return match decode(alloc, &mut Counted::new(input), out) {
             Ok(()) => DONE,
             Err(refusal) => refuse(refusal, err),
         };

@@ -9,16 +9,38 @@ use Rattle.tendril_block.specs.declared.refusal.Refusal.{Refusal}
 use Rattle.tendril_block.specs.declared.refusal.Refusal.TheVariants.{Io, Memory, TooManyReads}
 use Rattle.tendril_stream.proofs.Stands.{bytes_of}
 use Rattle.tendril_stream.specs.Readings.{Makes, Receives, ReadsAll, Halts}
-use Rattle.tendril_stream.specs.Reads.{Reads, no_reads, giving, interrupted, failure, end}
+use Rattle.tendril_stream.specs.Reads.{AddUp, Reads, no_reads, giving, interrupted, failure, end}
 use Rattle.tendril_stream.specs.Sinks.{Sent, Piece}
 
 -- so many reads, none of which failed or came to the end
 abbrev pub going : List ℕ → ℕ → Reads
 going bytes made = record { given = bytes; reads = made; failed = 0; empty = 0 }
 
+-- one read adds up
+
+pub giving_adds_up : (bytes : List ℕ) → AddUp (giving bytes)
+giving_adds_up bytes = record { within = omega arith; silent = λ is. absurd (omega (arith, is)) }
+
+pub interrupted_adds_up : AddUp interrupted
+interrupted_adds_up = record { within = omega arith; silent = λ is. refl }
+
+pub failure_adds_up : AddUp failure
+failure_adds_up = record { within = omega arith; silent = λ is. refl }
+
+pub end_adds_up : AddUp end
+end_adds_up = record { within = omega arith; silent = λ is. refl }
+
+-- and so do reads of which none failed or came to the end, and further ones
+adds_up_on : (bytes all : List ℕ) (made : ℕ) (these : Reads) → AddUp (going bytes made) → AddUp these → bytes ++ these.given ≡ all → AddUp (record { given = all; reads = made + these.reads; failed = these.failed; empty = these.empty })
+adds_up_on bytes all made these first second is =
+    let within = second.within in record {
+      within = omega (arith, within);
+      silent = λ same. sym is ∙ ap (λ l. l ++ these.given) (first.silent (omega (arith, within, same))) ∙ second.silent (omega (arith, within, same));
+    }
+
 module _ {R : Type 0} (history : R → Reads) (remaining : R → Option (List ℕ)) where
   pub Makes-none : (r : R) → Makes history remaining r no_reads r
-  Makes-none r = (record { given = sym (append-nil (history r).given); reads = omega arith; failed = omega arith; empty = omega arith }, Consumes-nil (remaining r))
+  Makes-none r = (record { given = sym (append-nil (history r).given); reads = omega arith; failed = omega arith; empty = omega arith }, Consumes-nil (remaining r), record { within = omega arith; silent = λ is. refl })
 
   -- further reads, and what all gave
   pub Makes-on : (a b c : R) (bytes all : List ℕ) (made : ℕ) (these : Reads) → Makes history remaining a (going bytes made) b → Makes history remaining b these c → bytes ++ these.given ≡ all
@@ -39,6 +61,7 @@ module _ {R : Type 0} (history : R → Reads) (remaining : R → Option (List �
           empty = omega (arith, empty, empty2);
         },
         subst (Consumes (remaining a) (remaining c)) is (Consumes-trans (remaining a) (remaining b) (remaining c) bytes these.given first.1 second.1),
+        adds_up_on bytes all made these first.2 second.2 is,
       )
 
   pub bytes_more : (pieces : List Text) (t : Text) → bytes_of pieces ++ t.bytes ≡ bytes_of (pieces ++ t ∷ [])

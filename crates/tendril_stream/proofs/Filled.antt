@@ -3,7 +3,7 @@ use Rattle.std.proofs.Common.{◌≡◌, ℕ, zero, suc, ◌+◌, ◌<◌, ◌�
 use Rattle.std.proofs.KnownBytes.{Consumes-kept, Consumes-nil}
 use Rattle.std.specs.Io.KnownBytes.{ReadConsumes}
 use Rattle.tendril_block.specs.declared.refusal.Refusal.TheVariants.{Io}
-use Rattle.tendril_stream.proofs.Fed.{going, Makes-none, Makes-on}
+use Rattle.tendril_stream.proofs.Fed.{end_adds_up, failure_adds_up, giving_adds_up, going, Makes-none, Makes-on}
 use Rattle.tendril_stream.specs.Readings.{Fills, Makes}
 use Rattle.tendril_stream.specs.Reads.{Reads, ReadsOn, giving, interrupted, failure, end, read_of}
 use Rattle.tendril_stream.specs.declared.counted_read.ReadFault.{ReadFault}
@@ -58,16 +58,18 @@ module _ {R : Type 0} (history : R → Reads) (remaining : R → Option (List �
 -- the read that came to this answer
 module _ {R : Type 0} (history : R → Reads) (remaining : R → Option (List ℕ)) (at next : R) (answer : Result ℕ ReadFault) (buffer : List ℕ) (read : ReadsOn (history at) (read_of answer buffer) (history next)) (consumed : ReadConsumes (remaining at) (remaining next) answer buffer) where
   pub read_ended : answer ≡ Ok 0 → Makes history remaining at end next
-  read_ended is = (subst (λ a. ReadsOn (history at) (read_of a buffer) (history next)) is read, (subst (λ a. ReadConsumes (remaining at) (remaining next) a buffer) is consumed).0)
+  read_ended is = (subst (λ a. ReadsOn (history at) (read_of a buffer) (history next)) is read, (subst (λ a. ReadConsumes (remaining at) (remaining next) a buffer) is consumed).0, end_adds_up)
 
   pub read_gave : (n : ℕ) → answer ≡ Ok n → 0 < n → Makes history remaining at (giving (take n buffer)) next
   read_gave n is some = (
     subst (λ t. ReadsOn (history at) t (history next)) (ap (λ a. read_of a buffer) is ∙ read_some n buffer some) read,
     (subst (λ a. ReadConsumes (remaining at) (remaining next) a buffer) is consumed).0,
+    giving_adds_up (take n buffer),
   )
 
   pub read_failed : answer ≡ Err Failed → Makes history remaining at failure next
   read_failed is = (
     subst (λ a. ReadsOn (history at) (read_of a buffer) (history next)) is read,
     Consumes-kept (remaining at) (remaining at) (remaining next) [] (Consumes-nil (remaining at)) (subst (λ a. ReadConsumes (remaining at) (remaining next) a buffer) is consumed),
+    failure_adds_up,
   )

@@ -5,14 +5,14 @@ use Rattle.std.specs.List.{FoldsTo}
 use Rattle.tendril_text.specs.Texts.{Text}
 use Rattle.tendril_block.specs.declared.refusal.Refusal.{Refusal}
 use Rattle.tendril_block.specs.declared.refusal.Refusal.TheVariants.{Io, Memory, TooLong, TooManyReads}
-use Rattle.tendril_stream.specs.Reads.{Reads, ReadsOn, giving, interrupted, end}
+use Rattle.tendril_stream.specs.Reads.{AddUp, Reads, ReadsOn, giving, interrupted, end}
 use Rattle.tendril_stream.specs.Sinks.{Sent, Piece}
 use Rattle.tendril_stream.specs.declared.reading.Part.{Part}
 use Rattle.tendril_stream.specs.declared.reading.Part.TheVariants.{Bytes, Interrupted, End}
 
 -- a reader made these reads, and where it tells what it will give, it has given that
 abbrev pub Makes : {R : Type 0} → (R → Reads) → (R → Option (List ℕ)) → R → Reads → R → Type 0
-Makes history remaining old these new = ReadsOn (history old) these (history new) × Consumes (remaining old) (remaining new) these.given
+Makes history remaining old these new = ReadsOn (history old) these (history new) × Consumes (remaining old) (remaining new) these.given × AddUp these
 
 -- the read that came to this
 abbrev pub reads_of : {A B : _} → Part A B → Reads

@@ -1,5 +1,5 @@
 -- What reads give, and how many there are.
-use Rattle.std.specs.Prelude.{◌≡◌, ℕ, zero, suc, ◌+◌, List, [], ◌++◌, take, Result, Ok, Err}
+use Rattle.std.specs.Prelude.{◌≡◌, ℕ, zero, suc, ◌+◌, ◌≤◌, List, [], ◌++◌, take, Result, Ok, Err}
 use Rattle.tendril_stream.specs.declared.counted_read.ReadFault.{ReadFault}
 use Rattle.tendril_stream.specs.declared.counted_read.ReadFault.TheVariants.{Interrupted, Failed}
 
@@ -20,6 +20,11 @@ pub record ReadsOn (old these new : Reads) : Type 0 where
   pub reads : new.reads ≡ old.reads + these.reads
   pub failed : new.failed ≡ old.failed + these.failed
   pub empty : new.empty ≡ old.empty + these.empty
+
+-- no more of the reads failed or came to the end than there were, and where each of them did, none gave a byte
+pub record AddUp (these : Reads) : Type 0 where
+  pub within : these.failed + these.empty ≤ these.reads
+  pub silent : these.reads ≡ these.failed + these.empty → these.given ≡ []
 
 -- one read that gave no byte: it was interrupted, failed, or came to the end
 abbrev pub interrupted : Reads

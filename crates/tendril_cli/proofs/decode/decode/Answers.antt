@@ -1,44 +1,55 @@
-use Rattle.std.proofs.Common.{◌∙◌, ◌++◌, [], ap, append-nil, subst, sym}
-use Rattle.std.proofs.KnownBytes.{Consumes-nil, Consumes-trans, Consumes-whole}
-use Rattle.std.specs.Io.KnownBytes.{Consumes}
-use Rattle.tendril_cli.proofs.DecodingLemmas.{at_first, at_none, at_some, ready_first, stops_all, stops_unwritten, writes_more}
-use Rattle.tendril_cli.specs.Decodings.{Decoded}
-use Rattle.tendril_lossy.specs.Lossy.{due, due_open}
+use Rattle.std.proofs.Common.{◌∙◌, ◌++◌, [], ap, arith, refl}
+use Rattle.tendril_cli.proofs.DecodingLemmas.{at_first, at_none, at_some, ready_first}
+use Rattle.tendril_cli.specs.Decodings.{behind}
+use Rattle.tendril_stream.proofs.Fed.{going, Makes-none, Makes-on}
+use Rattle.tendril_stream.specs.Reads.{giving}
 use Rattle.tendril_cli.proofs.decode.decode.Goals as goal
 
-pub loop-init : goal.loop-init
-loop-init g c = (
+pub loop-made-init : goal.loop-made-init
+loop-made-init g c = (
   [],
-  subst (λ r. Consumes (g.R.Read.remaining c.args.input) (g.R.Read.remaining r) []) (sym c.new-reader.ensures.reader) (Consumes-nil (g.R.Read.remaining c.args.input)),
+  omega arith,
+  Makes-none g.R.CountedRead.history g.R.CountedRead.remaining c.args.reader.now,
   at_first (g.W.Write.contents c.args.out.now),
   ready_first _ _ _ c.new-decoder.ensures.kept c.new-decoder.ensures.failed (ap (λ s. s.text.bytes) c.new-decoder.ensures.sink ∙ c.new.ensures),
 )
 
-pub loop-preserved : goal.loop-preserved
-loop-preserved g c =
-    let i = c.loop.invariant in
-    let r = c.in-Ok-Some.ensures.ok i.0 i.3 in
-    let some = at_some _ c.in-Ok-Some.next _ _ c.in-Ok-Some.field-0-is r.2 in (
-      i.0 ++ r.0,
-      Consumes-trans _ _ _ i.0 r.0 i.1 r.1,
-      writes_more _ _ _ i.0 (due_open (i.0 ++ r.0)) i.2 some.0,
-      some.1,
+pub loop-made-preserved : goal.loop-made-preserved
+loop-made-preserved g c =
+    let i = c.loop-made.invariant in
+    let test = c.loop-made-test.true in
+    let some = at_some _ c.in-Ok-Some.next _ _ c.in-Ok-Some.field-0-is (c.in-Ok-Some.ensures.ok (g.W.Write.contents c.args.out.now) i.0 c.loop-made.made test i.3 i.4) in (
+      i.0 ++ some.0,
+      omega (arith, test),
+      Makes-on g.R.CountedRead.history g.R.CountedRead.remaining c.args.reader.now c.loop-made.reader c.decode_read.new.reader i.0 (i.0 ++ some.0) c.loop-made.made (giving some.0) i.2 some.1 refl,
+      some.2,
+      some.3,
     )
 
 pub returns-in-Ok-None-clause-ok : goal.returns-in-Ok-None-clause-ok
 returns-in-Ok-None-clause-ok g c =
-    let i = c.loop.invariant in
-    let r = c.in-Ok-None.ensures.ok i.0 i.3 in
-    let none = at_none _ _ _ c.in-Ok-None.field-0-is r.2 in
-    Consumes-whole _ _ (i.0 ++ r.0) (λ bytes. Decoded bytes (g.W.Write.contents c.args.out.now) (g.W.Write.contents c.decode_read.new.out)) (Consumes-trans _ _ _ i.0 r.0 i.1 r.1) none.1 (writes_more _ _ _ i.0 (due (i.0 ++ r.0)) i.2 none.0)
+    let i = c.loop-made.invariant in
+    let test = c.loop-made-test.true in
+    let none = at_none _ _ _ c.in-Ok-None.field-0-is (c.in-Ok-None.ensures.ok (g.W.Write.contents c.args.out.now) i.0 c.loop-made.made test i.3 i.4) in (
+      behind i.0 c.loop-made.made none.0,
+      Makes-on g.R.CountedRead.history g.R.CountedRead.remaining c.args.reader.now c.loop-made.reader c.decode_read.new.reader i.0 (i.0 ++ none.0.given) c.loop-made.made none.0 i.2 none.1 refl,
+      none.2,
+      none.3,
+    )
 
 pub returns-in-Err-clause-stops : goal.returns-in-Err-clause-stops
 returns-in-Err-clause-stops g c =
-    let i = c.loop.invariant in
-    let r = c.in-Err.ensures.err i.0 i.3 in
-    stops_all _ _ _ _ _ i.0 r.1.0 _ i.2 (Consumes-trans _ _ _ i.0 r.1.0 i.1 r.1.1) r.1.2
+    let i = c.loop-made.invariant in
+    let test = c.loop-made-test.true in
+    let e = c.in-Err.ensures.stops (g.W.Write.contents c.args.out.now) i.0 c.loop-made.made test i.3 i.4 in (
+      behind i.0 c.loop-made.made e.0,
+      Makes-on g.R.CountedRead.history g.R.CountedRead.remaining c.args.reader.now c.loop-made.reader c.decode_read.new.reader i.0 (i.0 ++ e.0.given) c.loop-made.made e.0 i.2 e.1 refl,
+      e.2,
+    )
 
 pub returns-clause-stops : goal.returns-clause-stops
 returns-clause-stops g c =
-    let i = c.loop.invariant in
-    stops_all _ _ _ _ _ i.0 [] _ i.2 (subst (Consumes (g.R.Read.remaining c.args.input) (g.R.Read.remaining c.loop.reader.reader)) (sym (append-nil i.0)) i.1) (stops_unwritten i.0 [] _ _ _)
+    let i = c.loop-made.invariant in
+    let none_left = c.loop-made-test.false in
+    let within = i.1 in
+    (going i.0 c.loop-made.made, i.2, (record { writes = i.3; empty = refl }, refl, omega (arith, none_left, within)))

@@ -1,10 +1,15 @@
-use Rattle.std.proofs.Common.{List, ℕ}
-use Rattle.std.specs.Io.KnownBytes.{Consumes}
-use Rattle.tendril_cli.specs.Decodings.{IsReady, Writes}
+use Rattle.std.proofs.Common.{List, ℕ, ◌-◌, ◌≤◌}
+use Rattle.tendril_stream.proofs.Fed.{going}
+use Rattle.tendril_stream.specs.Readings.{Makes}
+use Rattle.tendril_cli.specs.Decodings.{IsReady, Writes, most_reads}
 use Rattle.tendril_lossy.specs.Lossy.{characters, due_open}
 use Rattle.tendril_cli.proofs.decode.decode.Given as goal
 
-abbrev pub invariant-loop : goal.invariant-loop
-invariant-loop g l = (b : List ℕ) × Consumes (g.R.Read.remaining l.fn.input) (g.R.Read.remaining l.reader.reader) b
+abbrev pub invariant-loop-made : goal.invariant-loop-made
+invariant-loop-made g l = (b : List ℕ) × (l.made ≤ most_reads)
+    × Makes g.R.CountedRead.history g.R.CountedRead.remaining l.fn.reader (going b l.made) l.reader
     × Writes (characters (due_open b)) (g.W.Write.contents l.fn.out) (g.W.Write.contents l.out)
     × IsReady b l.decoder.kept l.decoder.failed l.decoder.inner_sink.text.bytes
+
+abbrev pub decreases-loop-made : goal.decreases-loop-made
+decreases-loop-made g l = most_reads - l.made
