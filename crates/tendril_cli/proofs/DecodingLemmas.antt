@@ -1,11 +1,12 @@
 -- What a decoder over a sink that joins texts leaves to be written.
-use Rattle.std.proofs.Common.{◌≡◌, ℕ, ◌+◌, ◌<◌, ◌≤◌, ◌⊎◌, Bool, true, false, List, [], ◌∷◌, ◌++◌, length, map, flat_map, Option, None, Some, refl, sym, ap, ap₂, subst, ◌∙◌, arith, append_assoc, append-nil, inl, inr, IsUtf8, chars, Result, Ok, Err, OnOk, ⊎_elim, true≢false, MatchOption}
+use Rattle.std.proofs.Common.{◌≡◌, ℕ, zero, suc, ◌+◌, ◌<◌, ◌≤◌, ◌⊎◌, Bool, true, false, List, [], ◌∷◌, ◌++◌, length, map, flat_map, Option, None, Some, refl, sym, ap, ap₂, subst, ◌∙◌, arith, append_assoc, append-nil, inl, inr, IsUtf8, chars, Result, Ok, Err, OnOk, ⊎_elim, true≢false, MatchOption}
 use Rattle.std.proofs.KnownBytes.{Appends-nil, Appends-trans}
 use Rattle.std.proofs.lemmas.List.{length-append}
 use Rattle.std.proofs.lemmas.Option.{same_Some}
 use Rattle.std.proofs.lemmas.Str.{IsUtf8-append, IsUtf8-nil, chars-append, chars-nil}
 use Rattle.std.specs.Io.KnownBytes.{Appends}
 use Rattle.std.specs.List.{FoldsTo}
+use Rattle.tendril_text.specs.Decoding.{LongPieceMay}
 use Rattle.tendril_text.specs.Pushes.{Joins as Pushes}
 use Rattle.tendril_text.specs.Texts.{Text}
 use Rattle.tendril_block.specs.declared.refusal.Refusal.{Refusal}
@@ -13,13 +14,13 @@ use Rattle.tendril_block.specs.declared.refusal.Refusal.TheVariants.{Count, Fail
 use Rattle.tendril_lossy.proofs.Streams.{due-append, due_open-append, kept-append}
 use Rattle.tendril_lossy.proofs.Lossy.{lossy-nil}
 use Rattle.tendril_lossy.specs.Lossy.{Told, Char, Mark, characters, closed_of, cut_bytes, due, due_open, kept}
-use Rattle.tendril_stream.proofs.Fed.{giving_adds_up}
+use Rattle.tendril_stream.proofs.Fed.{giving_adds_up, going}
 use Rattle.tendril_stream.proofs.Own.{end_clash, process_clash, unfailed}
 use Rattle.tendril_stream.specs.Decoders.{Decodes, DecodingStops as Stopping, Ends, EndStops, nothing}
 use Rattle.tendril_stream.specs.Readings.{Halts, Makes, ReadsAll, StopsBetween}
 use Rattle.tendril_stream.specs.Reads.{AddUp, Reads, giving}
 use Rattle.tendril_stream.specs.Sinks.{Sent, Piece, Feeds, IsStop, told, told_of}
-use Rattle.tendril_cli.specs.Decodings.{DecodingStops, EndsDecoding, IsReady, Writes, WritesAll, WritesFront, behind}
+use Rattle.tendril_cli.specs.Decodings.{DecodingStops, EndsDecoding, IsReady, LosesLastPiece, LosesPiece, Writes, WritesAll, WritesFront, behind}
 use Rattle.tendril_cli.specs.Endings.{TakesFront}
 
 pub characters-append : (xs ys : List Told) → characters (xs ++ ys) ≡ characters xs ++ characters ys
@@ -132,7 +133,7 @@ none_left r f e = true≢false (ap no_reads_left e ∙ f)
 none≢some : {D : Type 0} (d : D) → Some d ≡ None → ⊥
 none≢some d e = subst (λ o. MatchOption o ⊥ (λ _. Unit {0})) e tt
 
--- one read, of which no other is told
+-- reads of which each failed or came to the end gave nothing
 one_read : (these : Reads) → AddUp these → these.reads ≤ these.failed + these.empty → these.given ≡ []
 one_read these adds few = let within = adds.within in adds.silent (omega (arith, within, few))
 
@@ -225,6 +226,52 @@ module _ {D S : Type 0} (inner : D → S) (held : D → List ℕ) (failed : D �
         (λ k. absurd (true≢false (sym k.0 ∙ unfailed failed _ h.1.0 d h.0 whole h.1.1)))
         (λ k. ⊎_elim (λ v. at_end v.1.mid v.0 r v.1.stop h.4 h.6) (λ v. sink_refused r v.2 h.4 h.6) k.1)
         h.2
+
+-- a piece that is lost came by one read
+
+at_most_one : (n : ℕ) → n ≤ 1 → (n ≡ 0) ⊎ (n ≡ 1)
+at_most_one zero h = inl refl
+at_most_one (suc zero) h = inr refl
+at_most_one (suc (suc n)) h = absurd (omega (arith, h))
+
+module _ {R : Type 0} (history : R → Reads) (remaining : R → Option (List ℕ)) (a b : R) (before after : Option (List ℕ)) where
+  abbrev Loses : Refusal → Type 0
+  Loses r = LosesPiece history remaining a b before after r
+
+  lost : (these : Reads) (r : Refusal) → Makes history remaining a these b → after ≡ before → these.failed ≡ 0 → these.empty ≡ 0 → these.reads ≤ 1 → LongPieceMay these.given r → Loses r
+  lost these r makes same failed empty one long =
+      let some = long.1 in
+      let reads : these.reads ≡ 1 = ⊎_elim (λ none. absurd (omega (arith, some, ap length (one_read these makes.2 (omega (arith, none)))))) (λ is. is) (at_most_one these.reads one) in
+      subst Loses (sym long.0) (these.given, one_gave history remaining a b these makes (reads, failed, empty), (refl, some), same)
+
+  module _ {D S : Type 0} (inner : D → S) (held : D → List ℕ) (failed : D → Bool) (has : S → List ℕ) (refuses : S → Sent → Refusal → S → Type 0) (finish_refused : S → Refusal → Type 0) where
+    stop_loses : (read : List ℕ) (piece : Text) (these : Reads) (mid new : S) (r : Refusal) → Makes history remaining a these b → after ≡ before → these.given ≡ read ++ piece.bytes → these.failed ≡ 0 → these.empty ≡ 0 → these.reads ≤ 1 → IsStop refuses piece mid r new → Loses r
+    stop_loses read piece these mid new r makes same is failed empty one (inl h) =
+        let long = h.0.1 in
+        lost these r makes same failed empty one (h.0.0, omega (arith, long, ap length is, length-append read piece.bytes))
+    stop_loses read piece these mid new r makes same is failed empty one (inr h) = subst Loses (sym h.0) tt
+
+    end_loses : (mid new : S) (r : Refusal) → IsStop refuses nothing mid r new → Loses r
+    end_loses mid new r (inl h) = let long = h.0.1 in absurd (omega (arith, long))
+    end_loses mid new r (inr h) = subst Loses (sym h.0) tt
+
+    pub halts_loses : (d : D) (these : Reads) (r : Refusal) (handed : Option D)
+        → Halts (DecoderTakes inner held failed has refuses finish_refused) (DecoderRefuses inner held failed has refuses finish_refused) (DecoderEnds inner held failed has refuses finish_refused) 1 d these r handed
+        → failed d ≡ false → Makes history remaining a these b → after ≡ before → Loses r
+    halts_loses d these r handed (inl h) whole makes same = ⊎_elim (λ k. subst Loses (sym k.0) tt) (λ k. ⊎_elim (λ i. subst Loses (sym i.0) tt) (λ m. subst Loses (sym m.0) tt) k) h.3
+    halts_loses d these r handed (inr (inl h)) whole makes same = ⊎_elim
+        (λ k. absurd (true≢false (sym k.0 ∙ unfailed failed _ h.4.0 d h.0 whole h.4.1)))
+        (λ k. stop_loses h.1 h.2 these k.1.mid (inner h.3) r makes same h.5 h.8 h.9 h.10 k.1.stop)
+        h.6.1
+    halts_loses d these r handed (inr (inr h)) whole makes same = ⊎_elim
+        (λ k. absurd (true≢false (sym k.0 ∙ unfailed failed _ h.1.0 d h.0 whole h.1.1)))
+        (λ k. ⊎_elim (λ v. end_loses v.1.mid v.0 r v.1.stop) (λ v. subst Loses (sym v.2) tt) k.1)
+        h.2
+
+  -- all that is due of what came before it is written
+  pub loses_last : (first : R) (start : Option (List ℕ)) (read : List ℕ) (made : ℕ) (r : Refusal) → Makes history remaining first (going read made) a → Writes (characters (due_open read)) start before → Loses r → LosesLastPiece history remaining first b start after r
+  loses_last first start read made Count makes w h = (a, read, made, h.0, makes, h.1, h.2, subst (Writes (characters (due_open read)) start) (sym h.3) w)
+  loses_last first start read made other makes w h = tt
 
 -- nothing is read yet
 pub at_first : (known : Option (List ℕ)) → Writes (characters (due_open [])) known known

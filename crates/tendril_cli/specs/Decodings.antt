@@ -4,7 +4,8 @@ use Rattle.std.specs.Io.KnownBytes.{Appends, Consumes, IsAtEnd}
 use Rattle.tendril_block.specs.declared.refusal.Refusal.{Refusal}
 use Rattle.tendril_block.specs.declared.refusal.Refusal.TheVariants.{Count, Io, Memory, SinkRefused, TooManyReads}
 use Rattle.tendril_lossy.specs.Lossy.{characters, due, due_open, kept}
-use Rattle.tendril_stream.specs.Reads.{Reads}
+use Rattle.tendril_stream.specs.Readings.{Makes}
+use Rattle.tendril_stream.specs.Reads.{Reads, giving}
 use Rattle.tendril_text.specs.Decoding.{LongPieceMay}
 use Rattle.tendril_cli.specs.Endings.{TakesFront, complaint}
 
@@ -39,7 +40,7 @@ pub record WritesAll (these : Reads) (before after : Option (List ℕ)) : Type 0
   pub writes : Writes (characters (due_open these.given)) before after
   pub empty : these.empty ≡ 0
 
--- or what is due of what is read before the last piece, which is long
+-- or what is due of what is read before some last bytes, more than 17
 pub record WritesBefore (these : Reads) (before after : Option (List ℕ)) : Type 0 where
   pub read : List ℕ
   pub piece : List ℕ
@@ -55,7 +56,7 @@ WritesUpTo these left before after =
     ⊎ (WritesFront (characters (due these.given)) before after × IsAtEnd left × (these.empty ≡ 1))
 
 -- Where each refusal ends a decoding, and what is written then. No read was left; there was no memory for one that was left;
--- one failed; a piece could be shared no more; a write failed, or there was no memory to join the texts of a piece.
+-- one failed; a piece could be shared no more; or the rest, of which no clause can say what was in the way.
 abbrev pub DecodingStops : ℕ → Reads → Option (List ℕ) → Option (List ℕ) → Option (List ℕ) → Refusal → Type 0
 DecodingStops most these left before after TooManyReads = WritesAll these before after × (these.failed ≡ 0) × (these.reads ≡ most)
 DecodingStops most these left before after Memory = WritesAll these before after × (these.failed ≡ 0) × (these.reads < most)
@@ -68,7 +69,17 @@ DecodingStops most these left before after other = ⊥
 abbrev pub behind : List ℕ → ℕ → Reads → Reads
 behind b made these = record { given = b ++ these.given; reads = made + these.reads; failed = these.failed; empty = these.empty }
 
--- a decoder that hasn't failed, keeps what b leaves open, and has sent on all that is due of b
+-- Of a piece that could be shared no more nothing is written: one read gave it, and it is long.
+abbrev pub LosesPiece : {R : Type 0} → (R → Reads) → (R → Option (List ℕ)) → R → R → Option (List ℕ) → Option (List ℕ) → Refusal → Type 0
+LosesPiece history remaining old new before after Count = (piece : List ℕ) × Makes history remaining old (giving piece) new × LongPieceMay piece Count × (after ≡ before)
+LosesPiece history remaining old new before after other = Unit {0}
+
+-- And all that is due of what came before that read is written.
+abbrev pub LosesLastPiece : {R : Type 0} → (R → Reads) → (R → Option (List ℕ)) → R → R → Option (List ℕ) → Option (List ℕ) → Refusal → Type 0
+LosesLastPiece {R} history remaining old new before after Count = (mid : R) × (read : List ℕ) × (made : ℕ) × (piece : List ℕ) × Makes history remaining old (record { given = read; reads = made; failed = 0; empty = 0 }) mid × Makes history remaining mid (giving piece) new × LongPieceMay piece Count × Writes (characters (due_open read)) before after
+LosesLastPiece history remaining old new before after other = Unit {0}
+
+-- a decoder that hasn't failed and keeps what b leaves open, over a sink that has nothing to be written
 pub record IsReady (b held : List ℕ) (failed : Bool) (unwritten : List ℕ) : Type 0 where
   pub keeps : held ≡ kept b
   pub goes_on : failed ≡ false
@@ -78,7 +89,8 @@ pub record IsReady (b held : List ℕ) (failed : Bool) (unwritten : List ℕ) : 
 abbrev pub EndsDecoding : Refusal → Type 0
 EndsDecoding refusal = (refusal ≡ Memory) ⊎ ((refusal ≡ Count) ⊎ ((refusal ≡ TooManyReads) ⊎ ((refusal ≡ Io) ⊎ (refusal ≡ SinkRefused))))
 
--- a refusal ended the program: its line went to standard error, and what was written before stands
+-- A refusal ended the program: standard error has taken its line or a front of that, and what was written before stands. Some
+-- reads gave what the reader gave; how many those were, the reader of a program can't tell.
 pub record DecodingEnded (most : ℕ) (input before after told told' : Option (List ℕ)) : Type 0 where
   pub refusal : Refusal
   pub these : Reads

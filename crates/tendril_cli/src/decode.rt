@@ -1,10 +1,10 @@
 //! Decoding of the input to the output.
-ghost use Rattle.std.specs.Prelude.{◌≡◌, ◌<◌, Some, None, List, ℕ, Option, ◌++◌, IsUtf8, IfOk, IfErr, OnOk, OnErr, MatchOption};
+ghost use Rattle.std.specs.Prelude.{◌≡◌, ◌<◌, Some, None, false, List, ℕ, Option, ◌++◌, IsUtf8, IfOk, IfErr, OnOk, OnErr, MatchOption};
 ghost use Rattle.std.specs.Io.KnownBytes.{Appends, IsAtEnd};
 ghost use Rattle.tendril_lossy.specs.Lossy.{characters, due_open};
 ghost use Rattle.tendril_stream.specs.Readings.{Makes};
 ghost use Rattle.tendril_stream.specs.Reads.{Reads, giving};
-ghost use Rattle.tendril_cli.specs.Decodings.{Decoded, DecodingStops, IsReady, Writes, behind, most_reads};
+ghost use Rattle.tendril_cli.specs.Decodings.{Decoded, DecodingStops, IsReady, LosesLastPiece, LosesPiece, Writes, behind, most_reads};
 ghost use Rattle.tendril_cli.specs.Endings.{TakesFront};
 
 use crate::joined::Joined;
@@ -29,6 +29,8 @@ pub fn decode<R: CountedRead, W: Write>(
         × IsAtEnd (R.remaining reader.new) × Decoded most_reads these (W.contents out.old) (W.contents out.new)) }
     ensures stops { IfErr result (λ r. (these : Reads) × Makes R.history R.remaining reader.old these reader.new
         × DecodingStops most_reads these (R.remaining reader.new) (W.contents out.old) (W.contents out.new) r) }
+    ensures last { IfErr result (λ r. LosesLastPiece R.history R.remaining reader.old reader.new
+        (W.contents out.old) (W.contents out.new) r) }
 {
     let mut decoder = Utf8LossyDecoder::new(alloc, Joined::new(alloc));
     let mut made = 0;
@@ -63,6 +65,8 @@ fn decode_read<R: CountedRead, W: Write>(
         → IsReady b decoder.kept decoder.failed decoder.inner_sink.text.bytes → IfErr result (λ r.
         (one : Reads) × Makes R.history R.remaining reader.old one reader.new
         × DecodingStops most_reads (behind b made one) (R.remaining reader.new) before (W.contents out.new) r) }
+    ensures last { decoder.failed ≡ false → IfErr result (λ r. LosesPiece R.history R.remaining reader.old reader.new
+        (W.contents out.old) (W.contents out.new) r) }
 {
     match read_from(alloc, decoder, reader, 1) {
         Ok(text) => {

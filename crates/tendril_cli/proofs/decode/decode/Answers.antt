@@ -1,5 +1,5 @@
 use Rattle.std.proofs.Common.{◌∙◌, ◌++◌, [], ap, arith, refl}
-use Rattle.tendril_cli.proofs.DecodingLemmas.{at_first, at_none, at_some, ready_first}
+use Rattle.tendril_cli.proofs.DecodingLemmas.{at_first, at_none, at_some, loses_last, ready_first}
 use Rattle.tendril_cli.specs.Decodings.{behind}
 use Rattle.tendril_stream.proofs.Fed.{going, Makes-none, Makes-on}
 use Rattle.tendril_stream.specs.Reads.{giving}
@@ -53,3 +53,9 @@ returns-clause-stops g c =
     let none_left = c.loop-made-test.false in
     let within = i.1 in
     (going i.0 c.loop-made.made, i.2, (record { writes = i.3; empty = refl }, refl, omega (arith, none_left, within)))
+
+pub returns-in-Err-clause-last : goal.returns-in-Err-clause-last
+returns-in-Err-clause-last g c =
+    let i = c.loop-made.invariant in
+    loses_last g.R.CountedRead.history g.R.CountedRead.remaining c.loop-made.reader c.decode_read.new.reader (g.W.Write.contents c.loop-made.out) (g.W.Write.contents c.decode_read.new.out)
+    c.args.reader.now (g.W.Write.contents c.args.out.now) i.0 c.loop-made.made c.in-Err.refusal i.2 i.3 (c.in-Err.ensures.last i.4.goes_on)

@@ -1,6 +1,6 @@
 use Rattle.std.proofs.Common.{◌≡◌, ◌∙◌, ◌++◌, ap, arith, chars, inl, inr, refl, subst, sym}
-use Rattle.tendril_cli.proofs.DecodingLemmas.{front_of_text, halts_stops, one_gave, reads_more, reads_to_end, ready_stands, writes_both, writes_text, writes_then_front}
-use Rattle.tendril_cli.specs.Decodings.{DecodingStops, Writes, WritesFront, behind}
+use Rattle.tendril_cli.proofs.DecodingLemmas.{front_of_text, halts_loses, halts_stops, one_gave, reads_more, reads_to_end, ready_stands, writes_both, writes_text, writes_then_front}
+use Rattle.tendril_cli.specs.Decodings.{DecodingStops, LosesPiece, Writes, WritesFront, behind}
 use Rattle.tendril_lossy.specs.Lossy.{characters, due, due_open}
 use Rattle.tendril_cli.proofs.decode.decode_read.Goals as goal
 
@@ -64,3 +64,16 @@ returns-in_default-write_text-clause-ok g c = λ before b made some w ready.
     let all = subst (λ cs. Writes cs before (g.W.Write.contents c.write_text-in-Err.new.out)) m.0.tells
     (writes_both _ _ _ (characters (due_open b)) (chars bytes) w (writes_text _ _ bytes c.write_text-in-Err.ensures.utf8 c.in_default-write_text.ensures.ok)) in
     (h.0.given, one_gave g.R.CountedRead.history g.R.CountedRead.remaining c.args.reader.now c.read_from.new.reader h.0 h.1 m.2, all, record { keeps = m.0.keeps; goes_on = m.1; empty = c.clear.ensures.bytes })
+
+pub returns-in-Err-may_read_on-clause-last : goal.returns-in-Err-may_read_on-clause-last
+returns-in-Err-may_read_on-clause-last g c = λ whole.
+    let h = c.in-Err.ensures.stopped in
+    let contents = g.W.Write.contents c.args.out.now in
+    subst (LosesPiece g.R.CountedRead.history g.R.CountedRead.remaining c.args.reader.now c.read_from.new.reader contents contents) (sym c.in-Err-may_read_on.ensures.err)
+    (halts_loses g.R.CountedRead.history g.R.CountedRead.remaining c.args.reader.now c.read_from.new.reader contents contents (λ d. d.inner_sink) (λ d. d.kept) (λ d. d.failed) (λ s. chars s.text.bytes) (λ a e r b. b.text.bytes ≡ a.text.bytes) (λ a r. ⊥) c.args.decoder h.0 c.in-Err.stopped.refusal c.in-Err.stopped.sink h.2 whole h.1 refl)
+
+pub returns-in-Err-write_text-clause-last : goal.returns-in-Err-write_text-clause-last
+returns-in-Err-write_text-clause-last g c = λ whole. subst (LosesPiece g.R.CountedRead.history g.R.CountedRead.remaining c.args.reader.now c.read_from.new.reader (g.W.Write.contents c.args.out.now) (g.W.Write.contents c.write_text.new.out)) (sym c.in-Err-write_text.ensures.refusal) tt
+
+pub returns-in-Err-write_text-2-clause-last : goal.returns-in-Err-write_text-2-clause-last
+returns-in-Err-write_text-2-clause-last g c = λ whole. subst (LosesPiece g.R.CountedRead.history g.R.CountedRead.remaining c.args.reader.now c.read_from.new.reader (g.W.Write.contents c.args.out.now) (g.W.Write.contents c.write_text-in-Err.new.out)) (sym c.in-Err-write_text-2.ensures.refusal) tt
