@@ -20,7 +20,7 @@ use Rattle.tendril_stream.specs.Decoders.{Decodes, DecodingStops as Stopping, En
 use Rattle.tendril_stream.specs.Readings.{Halts, Makes, ReadsAll, StopsBetween}
 use Rattle.tendril_stream.specs.Reads.{AddUp, Reads, giving}
 use Rattle.tendril_stream.specs.Sinks.{Sent, Piece, Feeds, IsStop, told, told_of}
-use Rattle.tendril_cli.specs.Decodings.{DecodingStops, EndsDecoding, IsReady, LosesLastPiece, LosesPiece, Writes, WritesAll, WritesFront, behind}
+use Rattle.tendril_cli.specs.Decodings.{DecodingStops, IsReady, LosesLastPiece, LosesPiece, Writes, WritesAll, WritesFront, behind}
 use Rattle.tendril_cli.specs.Endings.{TakesFront}
 
 pub characters-append : (xs ys : List Told) → characters (xs ++ ys) ≡ characters xs ++ characters ys
@@ -286,12 +286,3 @@ at_none next A B e h = subst (λ o. MatchOption o A B) e h
 
 pub at_some : {D : Type 0} (next : Option D) (d : D) (A : Type 0) (B : D → Type 0) → next ≡ Some d → MatchOption next A B → B d
 at_some next d A B e h = subst (λ o. MatchOption o A B) e h
-
--- the refusals of a decoding
-pub stops_ends : (most : ℕ) (these : Reads) (left before after : Option (List ℕ)) (r : Refusal) → DecodingStops most these left before after r → EndsDecoding r
-stops_ends most these left before after TooManyReads h = inr (inr (inl refl))
-stops_ends most these left before after Memory h = inl refl
-stops_ends most these left before after Io h = inr (inr (inr (inl refl)))
-stops_ends most these left before after Count h = inr (inl refl)
-stops_ends most these left before after SinkRefused h = inr (inr (inr (inr refl)))
-stops_ends most these left before after other h = absurd h

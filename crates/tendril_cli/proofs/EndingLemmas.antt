@@ -68,12 +68,6 @@ stops_at_once refusal lines known (inl e) = subst (Stops lines known known) (sym
 stops_at_once refusal lines known (inr e) =
     subst (Stops lines known known) (sym e) (0, record { bytes = []; new = []; session = (refl, refl); front = whole_front known known [] (appends_none known) })
 
--- only these refusals stop a run
-pub stops_ends : (refusal : Refusal) (lines : List (List ℕ)) (before after : Option (List ℕ)) → Stops lines before after refusal → Ends refusal
-stops_ends Memory lines before after h = inl refl
-stops_ends Io lines before after h = inr refl
-stops_ends other lines before after h = absurd h
-
 -- what a run leaves where the write behind it fails; `printed` and `none` are the lines and what was held back at first
 pub ends_io : {T : Type 0} (ran : Result T Refusal) (printed lines : List (List ℕ)) (none : List ℕ) (before mid after : Option (List ℕ)) (held : List ℕ) (refusal : Refusal) → refusal ≡ Io → printed ≡ lines → none ≡ [] → OnOk ran (PrintsAll printed before mid none held) → IfErr ran (PrintsSome printed before mid none held) → TakesFront mid after held → Stops lines before after refusal
 ends_io ran printed lines none before mid after held refusal e same empty h k f =
