@@ -4,5 +4,3 @@
 pub mod callers;
 pub mod doubled;
 pub mod pairs;
-#[cfg(test)]
-mod tests;

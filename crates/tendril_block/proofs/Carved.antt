@@ -32,7 +32,7 @@ use Rattle.tendril_count.proofs.Made.{made, resumed, first_holder}
 use Rattle.tendril_block.specs.declared.node.Node.{Node}
 use Rattle.tendril_block.specs.contracts.node.Node as node
 use Rattle.tendril_count.specs.Rule.{IsTurn}
-use Rattle.tendril_block.specs.Held.{limit, whose, kept, BodyRow, BodyIn, members, body_at, content, shown, Id, reader, writer, held_at}
+use Rattle.tendril_block.specs.Held.{limit, whose, rule_kept, BodyRow, BodyIn, members, body_at, content, shown, Id, reader, writer, held_at}
 
 -- a thread takes the steps of its own rule
 pub own_turn : (y : Bool) (t : ℕ) → IsTurn (whose y t) t
@@ -73,11 +73,11 @@ module _ {M : Type 1} {𝓤 : Ura M} (𝓛 : Logic 𝓤) where
       nothing ! $ move ! (1 ∷ 2 ∷ 0 ∷ []) $ fjoin3 ! $ move ! (0 ∷ 1 ∷ []) $
       use2 𝓛 {i = ‵ (parts_at full_share members 0 (d.count, (d.body, tt)) b o)} {j = ‵ (apart b o)} (‵ (part_at node.the_row full_share d b o)) (left_Struct 𝓛 full_share (node.the_type).name members (d.count, (d.body, tt)) b o) $ done !
 
-  keeps : (y : Bool) (b w : ℕ) (Q : Fml) → ent 𝓤 ⟦ Q ⟧ (H.⇛ ⟦ kept y b w Q ⟧)
+  keeps : (y : Bool) (b w : ℕ) (Q : Fml) → ent 𝓤 ⟦ Q ⟧ (H.⇛ ⟦ rule_kept y b w Q ⟧)
   keeps true b w = 𝓛.invs.inv_new
   keeps false b w = na_inv_new 𝓛 (b, w)
 
-  pub kept_twice : (y : Bool) (b w : ℕ) (Q : Fml) → ent 𝓤 ⟦ kept y b w Q ⟧ (sep 𝓤 ⟦ kept y b w Q ⟧ ⟦ kept y b w Q ⟧)
+  pub kept_twice : (y : Bool) (b w : ℕ) (Q : Fml) → ent 𝓤 ⟦ rule_kept y b w Q ⟧ (sep 𝓤 ⟦ rule_kept y b w Q ⟧ ⟦ rule_kept y b w Q ⟧)
   kept_twice true b w = 𝓛.invs.inv_dup
   kept_twice false b w = na_inv_dup 𝓛 (b, w)
 
@@ -91,7 +91,7 @@ module _ {M : Type 1} {𝓤 : Ura M} (𝓛 : Logic 𝓤) where
 
   module _ (y : Bool) (l : ℕ) (h : Global) (x : BodyIn) (b o : ℕ) where
     abbrev R : Fml → Fml
-    R = kept y b (o + 0)
+    R = rule_kept y b (o + 0)
 
     abbrev new : (Q : Fml) → ent 𝓤 ⟦ Q ⟧ (H.⇛ ⟦ R Q ⟧)
     new = keeps y b (o + 0)

@@ -43,7 +43,7 @@ use Rattle.core.specs.contracts.marker.PhantomData as marker
 use Rattle.tendril_block.specs.declared.node.kind.Kind.{Ghosts}
 use Rattle.tendril_block.specs.contracts.node.handle.Handle as block
 use Rattle.tendril_block.specs.Written.{with_body}
-use Rattle.tendril_block.specs.Held.{Crosses, limit, whose, BodyRow, BodyIn, body_at, content, Id, all_but_body, owed, freed, stands, reader, writer, held_at, block_owns, Step as Stepped, leaves_with, sees}
+use Rattle.tendril_block.specs.Held.{Crosses, limit, whose, BodyRow, BodyIn, body_at, content, Id, all_but_body, owed, freed, stands, reader, writer, held_at, block_owns, Stepper as Stepped, leaves_with, sees}
 
 abbrev pub Z : RattleType
 Z = heap.the_row

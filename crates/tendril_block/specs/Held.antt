@@ -62,9 +62,9 @@ abbrev pub stands : Bool → ℕ → Id → Block → Fml
 stands y l i s = fsep (roster role_coded.code i.1 0 (roles s.holders)) (fact (IsReached (whose y i.3) (limit l) s × (s.word ≡ 1) × (holder_at s.holders i.2 ≡ Writes i.3)))
 
 -- how the rule of the word at b, w is kept: for all threads, or for one
-abbrev pub kept : Bool → ℕ → ℕ → Fml → Fml
-kept true b w P = finv P
-kept false b w P = na_inv (b, w) P
+abbrev pub rule_kept : Bool → ℕ → ℕ → Fml → Fml
+rule_kept true b w P = finv P
+rule_kept false b w P = na_inv (b, w) P
 
 module _ (h : Global) (x : BodyIn) (b o : ℕ) where
   -- all of the node but its word, and the right to free it
@@ -81,7 +81,7 @@ module _ (y : Bool) (l : ℕ) (h : Global) (x : BodyIn) (b o : ℕ) where
 
   -- a holder that reads
   abbrev pub reader : Id → Fml
-  reader i = fsep (part 63 i.0) (fsep (kept y b (o + 0) (rule i)) (fsep (mark role_coded.code i.1 i.2 Reader) (shown h x b o (i.0 ∷ []))))
+  reader i = fsep (part 63 i.0) (fsep (rule_kept y b (o + 0) (rule i)) (fsep (mark role_coded.code i.1 i.2 Reader) (shown h x b o (i.0 ∷ []))))
 
   -- a holder that was found alone: it has the word, the content and the machine
   abbrev pub writer : Id → Fml
@@ -96,7 +96,7 @@ module _ (y : Bool) (l : ℕ) (h : Global) (x : BodyIn) (b o : ℕ) where
 
   -- what a `&` to a holder has: shares of its lifetime's token and of its mark, the rule and what is shared
   abbrev pub lends : Id → Lft → Fml
-  lends i = beside (one (λ q. flft (i.0 ∷ []) q)) (beside (one (λ q. seen role_coded.code i.1 i.2 q Reader)) (beside (λ _. kept y b (o + 0) (rule i)) (held (i.0 ∷ []) (shown h x b o))))
+  lends i = beside (one (λ q. flft (i.0 ∷ []) q)) (beside (one (λ q. seen role_coded.code i.1 i.2 q Reader)) (beside (λ _. rule_kept y b (o + 0) (rule i)) (held (i.0 ∷ []) (shown h x b o))))
 
 abbrev pub ptr_in_block : Ptr → Fml
 ptr_in_block p = fex (InBlock p) (λ _. ftrue)
@@ -130,15 +130,15 @@ last_owns l (block_ptr b o) h x = last_at l h x b o
 last_owns l null_ptr h x = ffalse
 
 -- who steps on a node's word: its handle and list, where the node begins in its block, and the holder
-abbrev pub Step : Type 0
-Step = ℕ × Global × BodyIn × ℕ × Id
+abbrev pub Stepper : Type 0
+Stepper = ℕ × Global × BodyIn × ℕ × Id
 
-module _ (y : Bool) (g : Step) (b w : ℕ) where
+module _ (y : Bool) (g : Stepper) (b w : ℕ) where
   abbrev pub node_rule : Fml
   node_rule = Inv role_coded.code (whose y g.4.3) (limit g.0) (content g.1 g.2 b g.3) b w g.4.0 g.4.1
 
   abbrev pub steps : Fml
-  steps = fsep (kept y b w node_rule) (fsep (mark role_coded.code g.4.1 g.4.2 Reader) (part 63 g.4.0))
+  steps = fsep (rule_kept y b w node_rule) (fsep (mark role_coded.code g.4.1 g.4.2 Reader) (part 63 g.4.0))
 
   abbrev pub leaves_with : ℕ → Fml
   leaves_with n = fex Bool (subtract_gives role_coded.code (whose y g.4.3) (limit g.0) (content g.1 g.2 b g.3) b w g.4.0 g.4.1 g.4.3 n)
@@ -146,28 +146,28 @@ module _ (y : Bool) (g : Step) (b w : ℕ) where
   abbrev pub sees : ℕ → Fml
   sees n = fex Bool (alone_gives role_coded.code (whose y g.4.3) (limit g.0) (content g.1 g.2 b g.3) b w g.4.0 g.4.1 g.4.2 g.4.3 n)
 
-abbrev pub seen_by : Bool → Step → Ptr → ℕ → Fml
+abbrev pub seen_by : Bool → Stepper → Ptr → ℕ → Fml
 seen_by y g (block_ptr b w) n = sees y g b w n
 seen_by y g null_ptr n = ffalse
 
-abbrev pub holds : Bool → Step → Ptr → Fml
+abbrev pub holds : Bool → Stepper → Ptr → Fml
 holds y g (block_ptr b w) = steps y g b w
 holds y g null_ptr = ffalse
 
-abbrev pub left : Bool → Step → Ptr → ℕ → Fml
+abbrev pub left : Bool → Stepper → Ptr → ℕ → Fml
 left y g (block_ptr b w) n = leaves_with y g b w n
 left y g null_ptr n = ffalse
 
 -- a step through a `&`, by shares of the lifetime's token and of the mark
 abbrev pub Joining : Type 0
-Joining = Step × Share × Share
+Joining = Stepper × Share × Share
 
 module _ (y : Bool) (g : Joining) (b w : ℕ) where
   abbrev pub part_of_mark : Fml
   part_of_mark = seen role_coded.code g.0.4.1 g.0.4.2 g.2 Reader
 
   abbrev pub by_parts : Fml
-  by_parts = fsep (kept y b w (node_rule y g.0 b w)) (fsep part_of_mark (flft (g.0.4.0 ∷ []) g.1))
+  by_parts = fsep (rule_kept y b w (node_rule y g.0 b w)) (fsep part_of_mark (flft (g.0.4.0 ∷ []) g.1))
 
   abbrev pub joins_with : ℕ → ℕ → Fml
   joins_with old n = fsep part_of_mark (fsep (flft (g.0.4.0 ∷ []) g.1) (fex Bool (join_gives role_coded.code (whose y g.0.4.3) (limit g.0.0) (content g.0.1 g.0.2 b g.0.3) b w g.0.4.0 g.0.4.1 old n)))
@@ -181,13 +181,13 @@ joined_to y g old (block_ptr b w) n = joins_with y g b w old n
 joined_to y g old null_ptr n = ffalse
 
 -- a load that is no step
-module _ (y : Bool) (g : Step × Share) (b w : ℕ) where
+module _ (y : Bool) (g : Stepper × Share) (b w : ℕ) where
   abbrev pub by_token : Fml
-  by_token = fsep (kept y b w (node_rule y g.0 b w)) (flft (g.0.4.0 ∷ []) g.1)
+  by_token = fsep (rule_kept y b w (node_rule y g.0 b w)) (flft (g.0.4.0 ∷ []) g.1)
 
-abbrev pub peeks : Bool → Step × Share → Ptr → Fml
+abbrev pub peeks : Bool → Stepper × Share → Ptr → Fml
 peeks y g (block_ptr b w) = by_token y g b w
 peeks y g null_ptr = ffalse
 
-abbrev pub token_of : Step × Share → Fml
+abbrev pub token_of : Stepper × Share → Fml
 token_of g = flft (g.0.4.0 ∷ []) g.1

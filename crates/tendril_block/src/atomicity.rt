@@ -19,7 +19,7 @@ pub const MAX_HOLDERS: u64 = 4294967295;
 
 /// How the holders of a block are counted.
 ///
-/// Every call but `make`, `copy`, `make_mut` and `from_sole` takes constant time.
+/// Every call but `make`, `copy` and `make_mut` takes constant time.
 pub trait Atomicity {
     /// One holder of a block, as large as a pointer.
     type Block: Drop;
@@ -80,7 +80,7 @@ pub trait Atomicity {
         ensures bytes { IfOk result (λ s. s ≡ bytes_of block) }
         ensures back { IfErr result (λ b. b ≡ block) };
 
-    /// A block of these bytes, with one holder.
+    /// A block of these bytes, with one holder. The kinds here ask for no memory, and so refuse nothing.
     fn from_sole(sole: Sole) -> Result<Self::Block, (Refusal, Sole)>
         ensures bytes { IfOk result (λ b. bytes_of b ≡ sole) }
         ensures copied { IfOk result (λ b. copied b ≡ length sole) }

@@ -52,15 +52,14 @@ impl Body {
         })
     }
 
-    /// The same, whose bytes count as copied once.
-    pub(crate) fn recounted(self) -> Self
-        ensures bytes { result.bytes ≡ self.bytes }
-        ensures took { result.took ≡ length self.bytes }
+    /// The bytes count as copied once.
+    pub(crate) fn recount(&mut self)
+        ensures bytes { self.new.bytes ≡ self.old.bytes }
+        ensures took { self.new.took ≡ length self.old.bytes }
     {
-        let Body { stored, took: _ } = self;
         let none = Copied::zero();
-        let took = none.plus(&none, &none, stored.as_slice().len());
-        Body { stored, took }
+        let len = self.stored.as_slice().len();
+        self.took = none.plus(&none, &none, len);
     }
 
     /// These bytes take the place of all.

@@ -39,10 +39,15 @@ pub trait Counted: Drop {
             (λ n. inner n ≡ inner self.old)) }
         ensures bytes { IfSome result (λ b. b.now ≡ inner self.old) };
 
-    /// The body alone, or the pointer back where there are others.
-    fn into_body(self) -> Result<Body, Self>
-        ensures body { IfOk result (λ b. b ≡ inner self) }
+    /// The bytes alone, or the pointer back where there are others.
+    fn into_sole(self) -> Result<Sole, Self>
+        ensures bytes { IfOk result (λ s. s ≡ (inner self).bytes) }
         ensures back { IfErr result (λ p. p ≡ self) };
+
+    /// The only pointer to these bytes, which count as copied once.
+    fn from_sole(sole: Sole) -> Self
+        ensures bytes { (inner result).bytes ≡ sole }
+        ensures took { (inner result).took ≡ length sole };
 }
 
 /// Blocks whose holders are counted by such pointers.
@@ -120,8 +125,8 @@ impl<C: Counted> Atomicity for CountedBy<C> {
             since,
             before,
         } = block;
-        match pointer.into_body() {
-            Ok(body) => Ok(Sole::new(body)),
+        match pointer.into_sole() {
+            Ok(sole) => Ok(sole),
             Err(pointer) => Err(Holder {
                 pointer,
                 since,
@@ -131,11 +136,7 @@ impl<C: Counted> Atomicity for CountedBy<C> {
     }
 
     fn from_sole(sole: Sole) -> Result<Holder<C>, (Refusal, Sole)> {
-        let body = sole.into_body();
-        match C::make(body.allocator(), body.recounted()) {
-            Ok(pointer) => Ok(Holder::new(pointer)),
-            Err(body) => Err((Refusal::Memory, Sole::new(body))),
-        }
+        Ok(Holder::new(C::from_sole(sole)))
     }
 }
 

@@ -4,27 +4,24 @@
 //! Only a holder that is alone may change the bytes, so what one holder does is never seen by another.
 #![tactic(auto)]
 
+mod atomic;
 mod atomicity;
 mod body;
 mod copied;
 mod few;
 mod holder;
-mod local;
 mod node;
+mod non_atomic;
 mod refusal;
-mod shared;
 mod sole;
 mod stored;
 
+pub use atomic::{Atomic, AtomicUpTo, SharedBlock, SharedPointer};
 pub use atomicity::{Atomicity, MAX_HOLDERS, MAX_LEN, MIN_CAP};
 pub use body::Body;
 pub use few::FEW;
 pub use holder::{Counted, CountedBy, Holder};
-pub use local::{LocalBlock, LocalPointer, NonAtomic};
+pub use non_atomic::{LocalBlock, LocalPointer, NonAtomic};
 pub use refusal::Refusal;
-pub use shared::{Atomic, AtomicUpTo, SharedBlock, SharedPointer};
 pub use sole::Sole;
 pub use tendril_count::interleavings;
-
-#[cfg(test)]
-mod tests;

@@ -1,15 +1,16 @@
 //! Bytes that have left their block.
-ghost use Rattle.std.specs.Prelude.{◌≡◌, IfOk, IfErr};
+ghost use Rattle.std.specs.Prelude.{◌≡◌, IfOk, IfErr, length};
 
 use crate::body::Body;
+use crate::node::Node;
 use crate::refusal::Refusal;
 use std::alloc::Global;
 use std::marker::Model;
 
-/// The bytes of a block that had one holder, which may become a block of another atomicity.
+/// The bytes of a block that had one holder, in its node, which may become a block of another atomicity.
 #[derive(Drop)]
 pub struct Sole {
-    body: Body,
+    node: Box<Node>,
 }
 
 impl Model for Sole {
@@ -17,36 +18,42 @@ impl Model for Sole {
 
     ghost Value = { List ℕ };
 
-    ghost view = { λ s. s.body.bytes };
+    ghost view = { λ s. s.node.value.body.bytes };
 }
 
 impl Sole {
-    pub(crate) fn new(body: Body) -> Self
-        ensures { result ≡ body.bytes }
+    pub(crate) fn new(node: Box<Node>) -> Self
+        ensures { result ≡ node.value.body.bytes }
     {
-        Sole { body }
+        Sole { node }
     }
 
-    /// A copy of bytes. Few take no memory, more take one request.
+    /// A copy of bytes. Few take one request for memory, more take two.
     pub fn copy(alloc: Global, bytes: &[u8]) -> Result<Self, Refusal>
         ensures bytes { IfOk result (λ s. s ≡ bytes.now) }
         ensures refusal { IfErr result (λ r. r ≡ Refusal.Memory) }
     {
         let body = Body::copy(alloc, bytes, 0)?;
-        Ok(Sole { body })
+        match Box::new(alloc, Node { count: 1, body }) {
+            Ok(node) => Ok(Sole { node }),
+            Err(_) => Err(Refusal::Memory),
+        }
     }
 
     /// The bytes.
     pub fn as_slice(&self) -> &[u8]
         ensures { result.now ≡ self.now }
     {
-        self.body.as_slice()
+        self.node.body.as_slice()
     }
 
-    pub(crate) fn into_body(self) -> Body
-        ensures { result.bytes ≡ self }
+    // The node, whose bytes count as copied once.
+    pub(crate) fn into_node(self) -> Box<Node>
+        ensures bytes { result.value.body.bytes ≡ self }
+        ensures took { result.value.body.took ≡ length self }
     {
-        let Sole { body } = self;
-        body
+        let Sole { mut node } = self;
+        node.body.recount();
+        node
     }
 }

@@ -1,4 +1,4 @@
-//! What users write over texts and streams, proved by the contracts of `tendril` and `tendril_stream` alone. Nothing uses it.
+//! What users write over texts and streams, proved by the contracts of `tendril` and `tendril_stream` alone.
 #![tactic(auto)]
 
 pub mod broken;
@@ -7,3 +7,5 @@ pub mod push;
 pub mod resume;
 pub mod two;
 pub mod whole;
+pub mod worker;
+pub mod writing;

@@ -1,11 +1,12 @@
 -- What a decoder over a sink that joins texts leaves to be written.
-use Rattle.std.proofs.Common.{◌≡◌, ℕ, zero, suc, ◌+◌, ◌<◌, ◌≤◌, ◌⊎◌, Bool, true, false, List, [], ◌∷◌, ◌++◌, length, map, flat_map, Option, None, Some, refl, sym, ap, ap₂, subst, ◌∙◌, arith, append_assoc, append-nil, inl, inr, IsUtf8, chars, Result, Ok, Err, OnOk, ⊎_elim, true≢false, MatchOption}
+use Rattle.std.proofs.Common.{◌≡◌, ℕ, zero, suc, ◌+◌, ◌<◌, ◌≤◌, ◌⊎◌, Bool, true, false, List, [], ◌∷◌, ◌++◌, length, drop, map, flat_map, Option, None, Some, refl, sym, ap, ap₂, subst, ◌∙◌, arith, append_assoc, append-nil, inl, inr, IsUtf8, chars, Result, Ok, Err, OnOk, ⊎_elim, true≢false, MatchOption}
 use Rattle.std.proofs.KnownBytes.{Appends-nil, Appends-trans}
-use Rattle.std.proofs.lemmas.List.{length-append}
+use Rattle.std.proofs.lemmas.List.{drop_at}
 use Rattle.std.proofs.lemmas.Option.{same_Some}
 use Rattle.std.proofs.lemmas.Str.{IsUtf8-append, IsUtf8-nil, chars-append, chars-nil}
 use Rattle.std.specs.Io.KnownBytes.{Appends}
 use Rattle.std.specs.List.{FoldsTo}
+use Rattle.tendril_text.proofs.Decoding.{long-behind, long-some}
 use Rattle.tendril_text.specs.Decoding.{LongPieceMay}
 use Rattle.tendril_text.specs.Pushes.{Joins as Pushes}
 use Rattle.tendril_text.specs.Texts.{Text}
@@ -16,12 +17,16 @@ use Rattle.tendril_lossy.proofs.Lossy.{lossy-nil}
 use Rattle.tendril_lossy.specs.Lossy.{Told, Char, Mark, characters, closed_of, cut_bytes, due, due_open, kept}
 use Rattle.tendril_stream.proofs.Fed.{giving_adds_up, going}
 use Rattle.tendril_stream.proofs.Own.{end_clash, process_clash, unfailed}
-use Rattle.tendril_stream.specs.Decoders.{Decodes, DecodingStops as Stopping, Ends, EndStops, nothing}
-use Rattle.tendril_stream.specs.Readings.{Halts, Makes, ReadsAll, StopsBetween}
+use Rattle.tendril_stream.specs.Decoders.{Decodes, DecodingStops as Stopping, Ends, EndStops, no_piece}
+use Rattle.tendril_stream.specs.Readings.{Halts, MakesReads, ReadsAll, StopsBetween}
 use Rattle.tendril_stream.specs.Reads.{AddUp, Reads, giving}
 use Rattle.tendril_stream.specs.Sinks.{Sent, Piece, Feeds, IsStop, told, told_of}
-use Rattle.tendril_cli.specs.Decodings.{DecodingStops, IsReady, LosesLastPiece, LosesPiece, Writes, WritesAll, WritesFront, behind}
-use Rattle.tendril_cli.specs.Endings.{TakesFront}
+use Rattle.tendril_cli.specs.Decodings.{DecodeStops, IsReady, LosesLastPiece, LosesPiece, WritesText, WritesAll, WritesFrontOfText, behind}
+use Rattle.tendril_cli.specs.Endings.{AppendsFront}
+
+-- what could be shared no more in a piece at the end of all that was read
+long_in_all : (all read piece : List ℕ) (r : Refusal) → all ≡ read ++ piece → LongPieceMay piece r → LongPieceMay all r
+long_in_all all read piece r is may = long-behind all piece (length read) r (sym (ap (drop (length read)) is ∙ drop_at read piece (length read) refl)) may
 
 pub characters-append : (xs ys : List Told) → characters (xs ++ ys) ≡ characters xs ++ characters ys
 characters-append [] ys = refl
@@ -73,7 +78,7 @@ module _ {S : Type 0} (has : S → List ℕ) where
   pub ended : {O : Type 0} (written : List ℕ) (finishes : S → O → Type 0) (sink : S) (k b : List ℕ) (out : O) → Stands written sink k b → Ends Joins finishes sink k out → (last : S) × (written ++ has last ≡ characters (due b)) × finishes last out
   ended written finishes sink k b out s h = (
     h.0,
-    ap (λ l. written ++ l) (fed nothing sink h.0 (due k) h.1) ∙ sym (append_assoc written (has sink) (characters (due k))) ∙ ap₂ (λ x y. x ++ characters (due y)) s.tells s.keeps ∙ sym (characters-append (due_open b) (due (kept b)))
+    ap (λ l. written ++ l) (fed no_piece sink h.0 (due k) h.1) ∙ sym (append_assoc written (has sink) (characters (due k))) ∙ ap₂ (λ x y. x ++ characters (due y)) s.tells s.keeps ∙ sym (characters-append (due_open b) (due (kept b)))
         ∙ ap characters (sym (ap due (sym (append-nil b)) ∙ due-append b [] ∙ ap (λ l. due_open b ++ due l) (append-nil (kept b)))),
     h.2,
   )
@@ -83,14 +88,14 @@ pub due_front : (b l : List ℕ) → characters (due_open (b ++ l)) ≡ characte
 due_front b l = ap characters (due_open-append b l) ∙ characters-append (due_open b) (due_open (kept b ++ l))
 
 -- a text
-pub writes_text : (before after : Option (List ℕ)) (bytes : List ℕ) → IsUtf8 bytes → Appends before after bytes → Writes (chars bytes) before after
+pub writes_text : (before after : Option (List ℕ)) (bytes : List ℕ) → IsUtf8 bytes → Appends before after bytes → WritesText (chars bytes) before after
 writes_text before after bytes u h = record { bytes = bytes; utf8 = u; spells = refl; appends = h }
 
-pub front_of_text : (before after : Option (List ℕ)) (bytes : List ℕ) → IsUtf8 bytes → TakesFront before after bytes → WritesFront (chars bytes) before after
+pub front_of_text : (before after : Option (List ℕ)) (bytes : List ℕ) → IsUtf8 bytes → AppendsFront before after bytes → WritesFrontOfText (chars bytes) before after
 front_of_text before after bytes u h = record { bytes = bytes; rest = []; utf8 = u; spells = append-nil (chars bytes); front = h }
 
 -- one behind the other
-pub writes_both : (a b c : Option (List ℕ)) (cs ds : List ℕ) → Writes cs a b → Writes ds b c → Writes (cs ++ ds) a c
+pub writes_both : (a b c : Option (List ℕ)) (cs ds : List ℕ) → WritesText cs a b → WritesText ds b c → WritesText (cs ++ ds) a c
 writes_both a b c cs ds x y = record {
   bytes = x.bytes ++ y.bytes;
   utf8 = IsUtf8-append x.bytes y.bytes x.utf8 y.utf8;
@@ -98,7 +103,7 @@ writes_both a b c cs ds x y = record {
   appends = Appends-trans a b c x.bytes y.bytes x.appends y.appends;
 }
 
-pub writes_then_front : (a b c : Option (List ℕ)) (cs ds : List ℕ) → Writes cs a b → WritesFront ds b c → WritesFront (cs ++ ds) a c
+pub writes_then_front : (a b c : Option (List ℕ)) (cs ds : List ℕ) → WritesText cs a b → WritesFrontOfText ds b c → WritesFrontOfText (cs ++ ds) a c
 writes_then_front a b c cs ds x y = record {
   bytes = x.bytes ++ y.bytes;
   rest = y.rest;
@@ -108,7 +113,7 @@ writes_then_front a b c cs ds x y = record {
 }
 
 -- all that is due of the first bytes is a front of what is due of all
-pub front_of_all : (before after : Option (List ℕ)) (b l : List ℕ) → Writes (characters (due_open b)) before after → WritesFront (characters (due_open (b ++ l))) before after
+pub front_of_all : (before after : Option (List ℕ)) (b l : List ℕ) → WritesText (characters (due_open b)) before after → WritesFrontOfText (characters (due_open (b ++ l))) before after
 front_of_all before after b l w = record {
   bytes = w.bytes;
   rest = characters (due_open (kept b ++ l));
@@ -137,7 +142,7 @@ none≢some d e = subst (λ o. MatchOption o ⊥ (λ _. Unit {0})) e tt
 one_read : (these : Reads) → AddUp these → these.reads ≤ these.failed + these.empty → these.given ≡ []
 one_read these adds few = let within = adds.within in adds.silent (omega (arith, within, few))
 
-pub one_gave : {R : Type 0} (history : R → Reads) (remaining : R → Option (List ℕ)) (a b : R) (these : Reads) → Makes history remaining a these b → (these.reads ≡ 1) × (these.failed ≡ 0) × (these.empty ≡ 0) → Makes history remaining a (giving these.given) b
+pub one_gave : {R : Type 0} (history : R → Reads) (remaining : R → Option (List ℕ)) (a b : R) (these : Reads) → MakesReads history remaining a these b → (these.reads ≡ 1) × (these.failed ≡ 0) × (these.empty ≡ 0) → MakesReads history remaining a (giving these.given) b
 one_gave history remaining a b these h one =
     let r = h.0 in (
       record { given = r.given; reads = r.reads ∙ ap (λ n. (history a).reads + n) one.0; failed = r.failed ∙ ap (λ n. (history a).failed + n) one.1; empty = r.empty ∙ ap (λ n. (history a).empty + n) one.2 },
@@ -177,12 +182,12 @@ module _ {D S : Type 0} (inner : D → S) (held : D → List ℕ) (failed : D �
       (subst (λ g. Stands has written (inner h.last) (held h.last) (b ++ g)) r.2 (stands_after has inner held failed written r.0 d h.last b s r.1)) h.finished.1
 
   -- any other refusal ends the decoding, and nothing more is written
-  module _ (most made : ℕ) (left before now : Option (List ℕ)) (b : List ℕ) (these : Reads) (w : Writes (characters (due_open b)) before now) (some : made < most) (adds : AddUp these) where
+  module _ (most made : ℕ) (left before now : Option (List ℕ)) (b : List ℕ) (these : Reads) (w : WritesText (characters (due_open b)) before now) (some : made < most) (adds : AddUp these) where
     abbrev Stopped : Refusal → Type 0
-    Stopped r = DecodingStops most (behind b made these) left before now r
+    Stopped r = DecodeStops most (behind b made these) left before now r
 
     all_written : these.given ≡ [] → these.empty ≡ 0 → WritesAll (behind b made these) before now
-    all_written none empty = record { writes = subst (λ g. Writes (characters (due_open g)) before now) (sym (ap (λ l. b ++ l) none ∙ append-nil b)) w; empty = empty }
+    all_written none empty = record { writes = subst (λ g. WritesText (characters (due_open g)) before now) (sym (ap (λ l. b ++ l) none ∙ append-nil b)) w; empty = empty }
 
     between : (r : Refusal) → (r ≡ TooManyReads → ⊥) → StopsBetween 1 these r → these.empty ≡ 0 → Stopped r
     between r other h empty = ⊎_elim
@@ -204,16 +209,16 @@ module _ {D S : Type 0} (inner : D → S) (held : D → List ℕ) (failed : D �
 
     at_piece : (read : List ℕ) (piece : Text) (mid new : S) (r : Refusal) → IsStop refuses piece mid r new → these.given ≡ read ++ piece.bytes → these.failed ≡ 0 → these.empty ≡ 0 → these.reads ≤ 1 → Stopped r
     at_piece read piece mid new r (inl h) is failed empty one =
-        let long = h.0.1 in
+        let long = long_in_all these.given read piece.bytes r is h.0 in
         subst Stopped (sym h.0.0) (
-          record { read = b; piece = these.given; given = refl; long = (refl, omega (arith, long, ap length is, length-append read piece.bytes)); writes = w; empty = empty },
+          record { read = b; piece = these.given; given = refl; long = (refl, long.1); writes = w; empty = empty },
           failed,
           omega (arith, one, some),
         )
     at_piece read piece mid new r (inr h) is failed empty one = sink_refused r h.0 failed one
 
-    at_end : (mid new : S) (r : Refusal) → IsStop refuses nothing mid r new → these.failed ≡ 0 → these.reads ≤ 1 → Stopped r
-    at_end mid new r (inl h) failed one = let long = h.0.1 in absurd (omega (arith, long))
+    at_end : (mid new : S) (r : Refusal) → IsStop refuses no_piece mid r new → these.failed ≡ 0 → these.reads ≤ 1 → Stopped r
+    at_end mid new r (inl h) failed one = absurd (omega (arith, long-some [] r h.0))
     at_end mid new r (inr h) failed one = sink_refused r h.0 failed one
 
     pub halts_stops : (d : D) (r : Refusal) (handed : Option D) → Halts DecoderTakes DecoderRefuses DecoderEnds 1 d these r handed → failed d ≡ false → (r ≡ TooManyReads → handed ≡ None) → Stopped r
@@ -238,26 +243,25 @@ module _ {R : Type 0} (history : R → Reads) (remaining : R → Option (List �
   abbrev Loses : Refusal → Type 0
   Loses r = LosesPiece history remaining a b before after r
 
-  lost : (these : Reads) (r : Refusal) → Makes history remaining a these b → after ≡ before → these.failed ≡ 0 → these.empty ≡ 0 → these.reads ≤ 1 → LongPieceMay these.given r → Loses r
+  lost : (these : Reads) (r : Refusal) → MakesReads history remaining a these b → after ≡ before → these.failed ≡ 0 → these.empty ≡ 0 → these.reads ≤ 1 → LongPieceMay these.given r → Loses r
   lost these r makes same failed empty one long =
-      let some = long.1 in
+      let some = long-some these.given r long in
       let reads : these.reads ≡ 1 = ⊎_elim (λ none. absurd (omega (arith, some, ap length (one_read these makes.2 (omega (arith, none)))))) (λ is. is) (at_most_one these.reads one) in
-      subst Loses (sym long.0) (these.given, one_gave history remaining a b these makes (reads, failed, empty), (refl, some), same)
+      subst Loses (sym long.0) (these.given, one_gave history remaining a b these makes (reads, failed, empty), (refl, long.1), same)
 
   module _ {D S : Type 0} (inner : D → S) (held : D → List ℕ) (failed : D → Bool) (has : S → List ℕ) (refuses : S → Sent → Refusal → S → Type 0) (finish_refused : S → Refusal → Type 0) where
-    stop_loses : (read : List ℕ) (piece : Text) (these : Reads) (mid new : S) (r : Refusal) → Makes history remaining a these b → after ≡ before → these.given ≡ read ++ piece.bytes → these.failed ≡ 0 → these.empty ≡ 0 → these.reads ≤ 1 → IsStop refuses piece mid r new → Loses r
+    stop_loses : (read : List ℕ) (piece : Text) (these : Reads) (mid new : S) (r : Refusal) → MakesReads history remaining a these b → after ≡ before → these.given ≡ read ++ piece.bytes → these.failed ≡ 0 → these.empty ≡ 0 → these.reads ≤ 1 → IsStop refuses piece mid r new → Loses r
     stop_loses read piece these mid new r makes same is failed empty one (inl h) =
-        let long = h.0.1 in
-        lost these r makes same failed empty one (h.0.0, omega (arith, long, ap length is, length-append read piece.bytes))
+        lost these r makes same failed empty one (long_in_all these.given read piece.bytes r is h.0)
     stop_loses read piece these mid new r makes same is failed empty one (inr h) = subst Loses (sym h.0) tt
 
-    end_loses : (mid new : S) (r : Refusal) → IsStop refuses nothing mid r new → Loses r
-    end_loses mid new r (inl h) = let long = h.0.1 in absurd (omega (arith, long))
+    end_loses : (mid new : S) (r : Refusal) → IsStop refuses no_piece mid r new → Loses r
+    end_loses mid new r (inl h) = absurd (omega (arith, long-some [] r h.0))
     end_loses mid new r (inr h) = subst Loses (sym h.0) tt
 
     pub halts_loses : (d : D) (these : Reads) (r : Refusal) (handed : Option D)
         → Halts (DecoderTakes inner held failed has refuses finish_refused) (DecoderRefuses inner held failed has refuses finish_refused) (DecoderEnds inner held failed has refuses finish_refused) 1 d these r handed
-        → failed d ≡ false → Makes history remaining a these b → after ≡ before → Loses r
+        → failed d ≡ false → MakesReads history remaining a these b → after ≡ before → Loses r
     halts_loses d these r handed (inl h) whole makes same = ⊎_elim (λ k. subst Loses (sym k.0) tt) (λ k. ⊎_elim (λ i. subst Loses (sym i.0) tt) (λ m. subst Loses (sym m.0) tt) k) h.3
     halts_loses d these r handed (inr (inl h)) whole makes same = ⊎_elim
         (λ k. absurd (true≢false (sym k.0 ∙ unfailed failed _ h.4.0 d h.0 whole h.4.1)))
@@ -269,12 +273,12 @@ module _ {R : Type 0} (history : R → Reads) (remaining : R → Option (List �
         h.2
 
   -- all that is due of what came before it is written
-  pub loses_last : (first : R) (start : Option (List ℕ)) (read : List ℕ) (made : ℕ) (r : Refusal) → Makes history remaining first (going read made) a → Writes (characters (due_open read)) start before → Loses r → LosesLastPiece history remaining first b start after r
-  loses_last first start read made Count makes w h = (a, read, made, h.0, makes, h.1, h.2, subst (Writes (characters (due_open read)) start) (sym h.3) w)
+  pub loses_last : (first : R) (start : Option (List ℕ)) (read : List ℕ) (made : ℕ) (r : Refusal) → MakesReads history remaining first (going read made) a → WritesText (characters (due_open read)) start before → Loses r → LosesLastPiece history remaining first b start after r
+  loses_last first start read made Count makes w h = (a, read, made, h.0, makes, h.1, h.2, subst (WritesText (characters (due_open read)) start) (sym h.3) w)
   loses_last first start read made other makes w h = tt
 
 -- nothing is read yet
-pub at_first : (known : Option (List ℕ)) → Writes (characters (due_open [])) known known
+pub at_first : (known : Option (List ℕ)) → WritesText (characters (due_open [])) known known
 at_first known = record { bytes = []; utf8 = IsUtf8-nil; spells = chars-nil ∙ sym (ap (λ l. characters (flat_map closed_of l)) lossy-nil); appends = Appends-nil known }
 
 pub ready_first : (held unwritten : List ℕ) (failed : Bool) → held ≡ [] → failed ≡ false → unwritten ≡ [] → IsReady [] held failed unwritten

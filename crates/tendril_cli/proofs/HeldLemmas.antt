@@ -4,8 +4,8 @@ use Rattle.std.specs.Io.KnownBytes.{Appends}
 use Rattle.tendril_block.specs.declared.refusal.Refusal.{Refusal}
 use Rattle.tendril_block.specs.declared.refusal.Refusal.TheVariants.{Memory, Io}
 use Rattle.tendril_run.specs.Cells.{Cell}
-use Rattle.tendril_cli.specs.Endings.{TakesFront}
-use Rattle.tendril_cli.specs.Held.{Passes, Prints, PrintsSome}
+use Rattle.tendril_cli.specs.Endings.{AppendsFront}
+use Rattle.tendril_cli.specs.Held.{Passes, PrintsLines, PrintsSome}
 use Rattle.tendril_cli.specs.Sessions.{WritesLine}
 use Rattle.tendril_cli.proofs.SessionLemmas.{session_more, appends_more, appends_none}
 
@@ -18,15 +18,15 @@ pub all_written : (before after : Option (List ℕ)) (held : List ℕ) → Appen
 all_written before after held h = record { taken = held; appends = h; splits = refl }
 
 -- a front of it is written
-pub front_written : (before after : Option (List ℕ)) (held : List ℕ) (h : TakesFront before after held) → Passes before after held [] h.rest
+pub front_written : (before after : Option (List ℕ)) (held : List ℕ) (h : AppendsFront before after held) → Passes before after held [] h.rest
 front_written before after held h = record { taken = h.taken; appends = h.appends; splits = append-nil held ∙ h.splits }
 
 -- no lines print nothing
-pub nothing_printed : (known : Option (List ℕ)) (held : List ℕ) → Prints [] [] known known held held
+pub nothing_printed : (known : Option (List ℕ)) (held : List ℕ) → PrintsLines [] [] known known held held
 nothing_printed known held = record { bytes = []; session = (refl, refl); passes = all_held known held }
 
 -- one more line prints behind what is held back
-pub line_printed : (lines : List (List ℕ)) (line : List ℕ) (mid new : List Cell) (before after : Option (List ℕ)) (held mine next : List ℕ) → Prints lines mid before after held mine → WritesLine mid line new (Some mine) (Some next) → Prints (lines ++ line ∷ []) new before after held next
+pub line_printed : (lines : List (List ℕ)) (line : List ℕ) (mid new : List Cell) (before after : Option (List ℕ)) (held mine next : List ℕ) → PrintsLines lines mid before after held mine → WritesLine mid line new (Some mine) (Some next) → PrintsLines (lines ++ line ∷ []) new before after held next
 line_printed lines line mid new before after held mine next h w = record {
   bytes = h.bytes ++ w.bytes;
   session = session_more [] mid new lines line h.bytes w.bytes h.session w.writes;
@@ -38,7 +38,7 @@ line_printed lines line mid new before after held mine next h w = record {
 }
 
 -- and what is held back is passed on
-pub passed_on : (lines : List (List ℕ)) (new : List Cell) (before mid after : Option (List ℕ)) (held mine left : List ℕ) → Prints lines new before mid held mine → Passes mid after mine [] left → Prints lines new before after held left
+pub passed_on : (lines : List (List ℕ)) (new : List Cell) (before mid after : Option (List ℕ)) (held mine left : List ℕ) → PrintsLines lines new before mid held mine → Passes mid after mine [] left → PrintsLines lines new before after held left
 passed_on lines new before mid after held mine left h p = record {
   bytes = h.bytes;
   session = h.session;
@@ -50,22 +50,22 @@ passed_on lines new before mid after held mine left h p = record {
 }
 
 -- the lines so far and the next one
-pub next_line : {X : Type 0} (f : X → List ℕ) (xs : List X) (i : ℕ) (d : X) (mid new : List Cell) (before between after : Option (List ℕ)) (held mine next left : List ℕ) → i < length xs → Prints (map f (take i xs)) mid before between held mine → WritesLine mid (f (get_or xs i d)) new (Some mine) (Some next) → Passes between after next [] left → Prints (map f (take (i + 1) xs)) new before after held left
+pub next_line : {X : Type 0} (f : X → List ℕ) (xs : List X) (i : ℕ) (d : X) (mid new : List Cell) (before between after : Option (List ℕ)) (held mine next left : List ℕ) → i < length xs → PrintsLines (map f (take i xs)) mid before between held mine → WritesLine mid (f (get_or xs i d)) new (Some mine) (Some next) → Passes between after next [] left → PrintsLines (map f (take (i + 1) xs)) new before after held left
 next_line f xs i d mid new before between after held mine next left within h w p =
     let so_far : List (List ℕ) = map f (take i xs) in
     let line : List ℕ = f (get_or xs i d) in
-    subst (λ lines. Prints lines new before after held left) (sym (map_more f xs i d within))
+    subst (λ lines. PrintsLines lines new before after held left) (sym (map_more f xs i d within))
     (passed_on (so_far ++ line ∷ []) new before between after held next left (line_printed so_far line mid new before between held mine next h w) p)
 
 -- memory is refused in a line
-pub line_refused : {X : Type 0} (f : X → List ℕ) (xs : List X) (i : ℕ) (mid : List Cell) (before after : Option (List ℕ)) (held mine left : List ℕ) (refusal : Refusal) → refusal ≡ Memory → left ≡ mine → Prints (map f (take i xs)) mid before after held mine → PrintsSome (map f xs) before after held left refusal
+pub line_refused : {X : Type 0} (f : X → List ℕ) (xs : List X) (i : ℕ) (mid : List Cell) (before after : Option (List ℕ)) (held mine left : List ℕ) (refusal : Refusal) → refusal ≡ Memory → left ≡ mine → PrintsLines (map f (take i xs)) mid before after held mine → PrintsSome (map f xs) before after held left refusal
 line_refused f xs i mid before after held mine left refusal e same h =
-    let some = subst (λ lines. Prints lines mid before after held mine) (sym (take-map f i xs)) h in
-    subst (PrintsSome (map f xs) before after held left) (sym e) (i, (mid, subst (Prints (take i (map f xs)) mid before after held) (sym same) some))
+    let some = subst (λ lines. PrintsLines lines mid before after held mine) (sym (take-map f i xs)) h in
+    subst (PrintsSome (map f xs) before after held left) (sym e) (i, (mid, subst (PrintsLines (take i (map f xs)) mid before after held) (sym same) some))
 
 -- a write fails behind a line
-pub write_refused : {X : Type 0} (f : X → List ℕ) (xs : List X) (i : ℕ) (d : X) (mid new : List Cell) (before between after : Option (List ℕ)) (held mine next left : List ℕ) (refusal : Refusal) → refusal ≡ Io → left ≡ [] → i < length xs → Prints (map f (take i xs)) mid before between held mine → WritesLine mid (f (get_or xs i d)) new (Some mine) (Some next) → TakesFront between after next → PrintsSome (map f xs) before after held left refusal
+pub write_refused : {X : Type 0} (f : X → List ℕ) (xs : List X) (i : ℕ) (d : X) (mid new : List Cell) (before between after : Option (List ℕ)) (held mine next left : List ℕ) (refusal : Refusal) → refusal ≡ Io → left ≡ [] → i < length xs → PrintsLines (map f (take i xs)) mid before between held mine → WritesLine mid (f (get_or xs i d)) new (Some mine) (Some next) → AppendsFront between after next → PrintsSome (map f xs) before after held left refusal
 write_refused f xs i d mid new before between after held mine next left refusal e none within h w k =
     let more = next_line f xs i d mid new before between after held mine next k.rest within h w (front_written between after next k) in
-    let some = subst (λ lines. Prints lines new before after held k.rest) (sym (take-map f (i + 1) xs)) more in
+    let some = subst (λ lines. PrintsLines lines new before after held k.rest) (sym (take-map f (i + 1) xs)) more in
     subst (PrintsSome (map f xs) before after held left) (sym e) (none, (i + 1, (k.rest, (new, some))))

@@ -2,12 +2,12 @@ use Rattle.std.proofs.Common.{◌≡◌, ℕ, List, [], ◌∷◌, ◌++◌, Opt
 use Rattle.std.proofs.lemmas.List.{append-nil}
 use Rattle.std.specs.Io.KnownBytes.{Appends, Keeps}
 use Rattle.tendril_run.specs.Cells.{Cell}
-use Rattle.tendril_cli.specs.Sessions.{Answers, Writes, WritesLine, WritesLines, Session}
+use Rattle.tendril_cli.specs.Sessions.{Answers, LinePrints, WritesLine, WritesLines, Session}
 
 -- a session goes on by one line
-pub session_more : (old mid new : List Cell) (lines : List (List ℕ)) (line bytes more : List ℕ) → Session old lines bytes mid → Writes mid line more new → Session old (lines ++ line ∷ []) (bytes ++ more) new
+pub session_more : (old mid new : List Cell) (lines : List (List ℕ)) (line bytes more : List ℕ) → Session old lines bytes mid → LinePrints mid line more new → Session old (lines ++ line ∷ []) (bytes ++ more) new
 session_more old mid new [] line bytes more h w =
-    let start : Writes old line more new = subst (λ cells. Writes cells line more new) h.1 w in
+    let start : LinePrints old line more new = subst (λ cells. LinePrints cells line more new) h.1 w in
     let same : bytes ++ more ≡ more ++ [] = ap (λ b. b ++ more) h.0 ∙ sym (append-nil more) in
     (new, (more, ([], (start, ((refl, refl), same)))))
 session_more old mid new (first ∷ lines) line bytes more h w =

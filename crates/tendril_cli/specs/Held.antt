@@ -12,14 +12,14 @@ pub record Passes (before after : Option (List ℕ)) (held bytes left : List ℕ
   pub splits : held ++ bytes ≡ taken ++ left
 
 -- what lines print on an empty table went that way
-pub record Prints (lines : List (List ℕ)) (new : List Cell) (before after : Option (List ℕ)) (held left : List ℕ) : Type 0 where
+pub record PrintsLines (lines : List (List ℕ)) (new : List Cell) (before after : Option (List ℕ)) (held left : List ℕ) : Type 0 where
   pub bytes : List ℕ
   pub session : Session [] lines bytes new
   pub passes : Passes before after held bytes left
 
 -- and all lines are done
 abbrev pub PrintsAll : List (List ℕ) → Option (List ℕ) → Option (List ℕ) → List ℕ → List ℕ → Type 0
-PrintsAll lines before after held left = (new : List Cell) × Prints lines new before after held left
+PrintsAll lines before after held left = (new : List Cell) × PrintsLines lines new before after held left
 
 -- or only some first ones. Want of memory leaves what they print held back, a failed write holds nothing back any more
 abbrev pub PrintsSome : List (List ℕ) → Option (List ℕ) → Option (List ℕ) → List ℕ → List ℕ → Refusal → Type 0

@@ -41,19 +41,19 @@ abbrev pub Answers : List Cell → List ℕ → List ℕ → List Cell → Type 
 Answers old line text new = IsAnswered old line text new ⊎ IsMalformed old line text new
 
 -- what is written for a line: its answer and a line feed, nothing for an empty one
-abbrev pub Writes : List Cell → List ℕ → List ℕ → List Cell → Type 0
-Writes old [] bytes new = (bytes ≡ []) × (new ≡ old)
-Writes old (byte ∷ line) bytes new = (text : List ℕ) × (Answers old (byte ∷ line) text new × (bytes ≡ text ++ 10 ∷ []))
+abbrev pub LinePrints : List Cell → List ℕ → List ℕ → List Cell → Type 0
+LinePrints old [] bytes new = (bytes ≡ []) × (new ≡ old)
+LinePrints old (byte ∷ line) bytes new = (text : List ℕ) × (Answers old (byte ∷ line) text new × (bytes ≡ text ++ 10 ∷ []))
 
 -- what is written for lines, one after another
 abbrev pub Session : List Cell → List (List ℕ) → List ℕ → List Cell → Type 0
 Session old [] bytes new = (bytes ≡ []) × (new ≡ old)
-Session old (line ∷ lines) bytes new = (mid : List Cell) × ((first : List ℕ) × ((rest : List ℕ) × (Writes old line first mid × (Session mid lines rest new × (bytes ≡ first ++ rest)))))
+Session old (line ∷ lines) bytes new = (mid : List Cell) × ((first : List ℕ) × ((rest : List ℕ) × (LinePrints old line first mid × (Session mid lines rest new × (bytes ≡ first ++ rest)))))
 
 -- a writer that tells its bytes has taken what is written for a line
 pub record WritesLine (old : List Cell) (line : List ℕ) (new : List Cell) (before after : Option (List ℕ)) : Type 0 where
   pub bytes : List ℕ
-  pub writes : Writes old line bytes new
+  pub writes : LinePrints old line bytes new
   pub appends : Appends before after bytes
 
 -- and what is written for lines

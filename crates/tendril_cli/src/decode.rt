@@ -2,10 +2,10 @@
 ghost use Rattle.std.specs.Prelude.{◌≡◌, ◌<◌, Some, None, false, List, ℕ, Option, ◌++◌, IsUtf8, IfOk, IfErr, OnOk, OnErr, MatchOption};
 ghost use Rattle.std.specs.Io.KnownBytes.{Appends, IsAtEnd};
 ghost use Rattle.tendril_lossy.specs.Lossy.{characters, due_open};
-ghost use Rattle.tendril_stream.specs.Readings.{Makes};
+ghost use Rattle.tendril_stream.specs.Readings.{MakesReads};
 ghost use Rattle.tendril_stream.specs.Reads.{Reads, giving};
-ghost use Rattle.tendril_cli.specs.Decodings.{Decoded, DecodingStops, IsReady, LosesLastPiece, LosesPiece, Writes, behind, most_reads};
-ghost use Rattle.tendril_cli.specs.Endings.{TakesFront};
+ghost use Rattle.tendril_cli.specs.Decodings.{Decoded, DecodeStops, IsReady, LosesLastPiece, LosesPiece, WritesText, behind, most_reads};
+ghost use Rattle.tendril_cli.specs.Endings.{AppendsFront};
 
 use crate::joined::Joined;
 use crate::output::{flush, write_bytes};
@@ -25,10 +25,10 @@ pub fn decode<R: CountedRead, W: Write>(
     reader: &mut R,
     out: &mut W,
 ) -> Result<(), Refusal>
-    ensures ok { OnOk result ((these : Reads) × Makes R.history R.remaining reader.old these reader.new
+    ensures ok { OnOk result ((these : Reads) × MakesReads R.history R.remaining reader.old these reader.new
         × IsAtEnd (R.remaining reader.new) × Decoded most_reads these (W.contents out.old) (W.contents out.new)) }
-    ensures stops { IfErr result (λ r. (these : Reads) × Makes R.history R.remaining reader.old these reader.new
-        × DecodingStops most_reads these (R.remaining reader.new) (W.contents out.old) (W.contents out.new) r) }
+    ensures stops { IfErr result (λ r. (these : Reads) × MakesReads R.history R.remaining reader.old these reader.new
+        × DecodeStops most_reads these (R.remaining reader.new) (W.contents out.old) (W.contents out.new) r) }
     ensures last { IfErr result (λ r. LosesLastPiece R.history R.remaining reader.old reader.new
         (W.contents out.old) (W.contents out.new) r) }
 {
@@ -53,18 +53,18 @@ fn decode_read<R: CountedRead, W: Write>(
     out: &mut W,
 ) -> Result<Option<Utf8LossyDecoder<Joined>>, Refusal>
     ensures ok { (before : Option (List ℕ)) → (b : List ℕ) → (made : ℕ) → made < most_reads
-        → Writes (characters (due_open b)) before (W.contents out.old)
+        → WritesText (characters (due_open b)) before (W.contents out.old)
         → IsReady b decoder.kept decoder.failed decoder.inner_sink.text.bytes → IfOk result (λ next. MatchOption next
-        ((one : Reads) × Makes R.history R.remaining reader.old one reader.new × IsAtEnd (R.remaining reader.new)
+        ((one : Reads) × MakesReads R.history R.remaining reader.old one reader.new × IsAtEnd (R.remaining reader.new)
         × Decoded most_reads (behind b made one) before (W.contents out.new))
-        (λ d. (bytes : List ℕ) × Makes R.history R.remaining reader.old (giving bytes) reader.new
-        × Writes (characters (due_open (b ++ bytes))) before (W.contents out.new)
+        (λ d. (bytes : List ℕ) × MakesReads R.history R.remaining reader.old (giving bytes) reader.new
+        × WritesText (characters (due_open (b ++ bytes))) before (W.contents out.new)
         × IsReady (b ++ bytes) d.kept d.failed d.inner_sink.text.bytes)) }
     ensures stops { (before : Option (List ℕ)) → (b : List ℕ) → (made : ℕ) → made < most_reads
-        → Writes (characters (due_open b)) before (W.contents out.old)
+        → WritesText (characters (due_open b)) before (W.contents out.old)
         → IsReady b decoder.kept decoder.failed decoder.inner_sink.text.bytes → IfErr result (λ r.
-        (one : Reads) × Makes R.history R.remaining reader.old one reader.new
-        × DecodingStops most_reads (behind b made one) (R.remaining reader.new) before (W.contents out.new) r) }
+        (one : Reads) × MakesReads R.history R.remaining reader.old one reader.new
+        × DecodeStops most_reads (behind b made one) (R.remaining reader.new) before (W.contents out.new) r) }
     ensures last { decoder.failed ≡ false → IfErr result (λ r. LosesPiece R.history R.remaining reader.old reader.new
         (W.contents out.old) (W.contents out.new) r) }
 {
@@ -107,7 +107,7 @@ fn may_read_on(
 fn write_text<W: Write>(text: &StrTendril, out: &mut W) -> Result<(), Refusal>
     ensures utf8 { IsUtf8 text.now.bytes }
     ensures ok { OnOk result (Appends (W.contents out.old) (W.contents out.new) text.now.bytes) }
-    ensures err { OnErr result (TakesFront (W.contents out.old) (W.contents out.new) text.now.bytes) }
+    ensures err { OnErr result (AppendsFront (W.contents out.old) (W.contents out.new) text.now.bytes) }
     ensures refusal { IfErr result (λ r. r ≡ Refusal.SinkRefused) }
 {
     if let Err(_) = write_bytes(out, text.as_str().as_bytes()) {

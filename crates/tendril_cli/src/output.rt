@@ -1,7 +1,7 @@
 //! Writing of which something is known after a failed write too.
 ghost use Rattle.std.specs.Prelude.{◌≡◌, OnOk, OnErr, IfErr};
 ghost use Rattle.std.specs.Io.KnownBytes.{Appends, Keeps};
-ghost use Rattle.tendril_cli.specs.Endings.{TakesFront};
+ghost use Rattle.tendril_cli.specs.Endings.{AppendsFront};
 
 use std::io::{ErrorKind, Write};
 use tendril_text::block::Refusal;
@@ -10,7 +10,7 @@ use tendril_text::block::Refusal;
 /// taken a front of the bytes then, which std's `write_all` leaves open.
 pub fn write_bytes<W: Write>(out: &mut W, bytes: &[u8]) -> Result<(), Refusal>
     ensures ok { OnOk result (Appends (W.contents out.old) (W.contents out.new) bytes.now) }
-    ensures err { OnErr result (TakesFront (W.contents out.old) (W.contents out.new) bytes.now) }
+    ensures err { OnErr result (AppendsFront (W.contents out.old) (W.contents out.new) bytes.now) }
     ensures refusal { IfErr result (λ r. r ≡ Refusal.Io) }
 {
     let mut rest = bytes;

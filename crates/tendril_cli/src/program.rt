@@ -3,8 +3,8 @@ ghost use Rattle.std.specs.Prelude.{◌≡◌, ◌≢◌, ◌≤◌, ◌↔◌, 
 ghost use Rattle.std.specs.Io.KnownBytes.{IsAtEnd, Keeps};
 ghost use Rattle.std.specs.IoError.{error_kind};
 ghost use Rattle.tendril_lossy.specs.Lossy.{characters, due};
-ghost use Rattle.tendril_cli.specs.Decodings.{DecodingEnded, EndsDecoding, Writes, most_reads};
-ghost use Rattle.tendril_cli.specs.Endings.{Ended, Ends, Stops, TakesFront, complaint, usage};
+ghost use Rattle.tendril_cli.specs.Decodings.{DecodingEnded, EndsDecoding, WritesText, most_reads};
+ghost use Rattle.tendril_cli.specs.Endings.{Ended, EndsProgram, RunStops, AppendsFront, complaint, usage};
 ghost use Rattle.tendril_cli.specs.Sessions.{Ran, lines};
 ghost use Rattle.tendril_cli.specs.Words.{AskToDecode, AskToRun};
 
@@ -43,7 +43,7 @@ pub fn program<R: Read, W: Write, E: Write>(
     ensures ran { AskToRun (map (λ word. word.now) words.now) → result ≡ 0
         → Ran (R.remaining input.old) (W.contents out.old) (W.contents out.new) }
     ensures decoded { AskToDecode (map (λ word. word.now) words.now) → result ≡ 0
-        → IfSome (R.remaining input.old) (λ bytes. Writes (characters (due bytes)) (W.contents out.old) (W.contents out.new)) }
+        → IfSome (R.remaining input.old) (λ bytes. WritesText (characters (due bytes)) (W.contents out.old) (W.contents out.new)) }
     ensures silent { result ≡ 0 → Keeps (E.contents err.old) (E.contents err.new) }
 
     // Or a refusal is told, and some first lines of the script are answered, in whole lines unless a write failed, or the
@@ -55,7 +55,7 @@ pub fn program<R: Read, W: Write, E: Write>(
 
     // Or the words ask for nothing.
     ensures misused { result ≡ 2 → Keeps (W.contents out.old) (W.contents out.new) }
-    ensures told { result ≡ 2 → TakesFront (E.contents err.old) (E.contents err.new) usage }
+    ensures told { result ≡ 2 → AppendsFront (E.contents err.old) (E.contents err.new) usage }
 
     // No line is answered before the input's end.
     ensures reads_first { AskToRun (map (λ word. word.now) words.now)
@@ -100,7 +100,7 @@ fn asks_to_decode(words: &[&str]) -> bool
 pub fn refuse<E: Write>(refusal: Refusal, err: &mut E) -> u8
     requires { EndsDecoding refusal }
     ensures status { result ≡ 1 }
-    ensures told { TakesFront (E.contents err.old) (E.contents err.new) (complaint refusal) }
+    ensures told { AppendsFront (E.contents err.old) (E.contents err.new) (complaint refusal) }
 {
     let _ = write_bytes(err, complaint(refusal).as_bytes());
     REFUSED
@@ -123,9 +123,9 @@ fn complaint(refusal: Refusal) -> &'static str
 // Runs the script that the input has.
 fn run_input<R: Read, W: Write>(alloc: Global, input: &mut R, out: &mut W) -> Result<(), Refusal>
     ensures ok { OnOk result (Ran (R.remaining input.old) (W.contents out.old) (W.contents out.new)) }
-    ensures refusal { IfErr result Ends }
+    ensures refusal { IfErr result EndsProgram }
     ensures stops { IfErr result (λ r. IfSome (R.remaining input.old)
-        (λ script. Stops (lines script) (W.contents out.old) (W.contents out.new) r)) }
+        (λ script. RunStops (lines script) (W.contents out.old) (W.contents out.new) r)) }
     ensures reads_first { Keeps (W.contents out.old) (W.contents out.new) ⊎ IsAtEnd (R.remaining input.new) }
 {
     let script = read_script(alloc, input)?;
@@ -135,7 +135,7 @@ fn run_input<R: Read, W: Write>(alloc: Global, input: &mut R, out: &mut W) -> Re
 fn read_script<R: Read>(alloc: Global, input: &mut R) -> Result<Vec<u8>, Refusal>
     ensures ok { IfOk result (λ v. IfSome (R.remaining input.old) (λ script. v.items ≡ script)) }
     ensures end { OnOk result (IsAtEnd (R.remaining input.new)) }
-    ensures refusal { IfErr result Ends }
+    ensures refusal { IfErr result EndsProgram }
 {
     let mut script = Vec::new(alloc);
     match input.read_to_end(&mut script) {

@@ -1,7 +1,7 @@
 //! A script of commands: its lines one by one, on one table.
 ghost use Rattle.std.specs.Prelude.{◌≡◌, Some, IfOk, IfErr, OnOk, OnErr, [], ◌∷◌, ◌++◌, map, string_bytes};
 ghost use Rattle.std.specs.Io.KnownBytes.{Appends};
-ghost use Rattle.tendril_cli.specs.Endings.{Stops, TakesFront};
+ghost use Rattle.tendril_cli.specs.Endings.{RunStops, AppendsFront};
 ghost use Rattle.tendril_cli.specs.Held.{Passes, PrintsAll, PrintsSome};
 ghost use Rattle.tendril_cli.specs.Sessions.{Answers, Replies, WritesLine, WritesScript, lines};
 
@@ -24,7 +24,7 @@ const NEWLINE: u8 = b'\n';
 /// too, in whole lines; where a write fails, that is the refusal.
 pub fn run_script<W: Write>(alloc: Global, script: &[u8], out: &mut W) -> Result<(), Refusal>
     ensures ok { OnOk result (WritesScript script.now (W.contents out.old) (W.contents out.new)) }
-    ensures refusal { IfErr result (Stops (lines script.now) (W.contents out.old) (W.contents out.new)) }
+    ensures refusal { IfErr result (RunStops (lines script.now) (W.contents out.old) (W.contents out.new)) }
 {
     let Ok(lines) = split_lines(alloc, script) else {
         return Err(Refusal::Memory);
@@ -66,7 +66,7 @@ fn run_lines<W: Write>(
 // Writes what is held back, where it is a chunk.
 fn write_chunk<W: Write>(held: &mut Vec<u8>, out: &mut W) -> Result<(), Refusal>
     ensures ok { OnOk result (Passes (W.contents out.old) (W.contents out.new) held.old.items [] held.new.items) }
-    ensures err { OnErr result (TakesFront (W.contents out.old) (W.contents out.new) held.old.items) }
+    ensures err { OnErr result (AppendsFront (W.contents out.old) (W.contents out.new) held.old.items) }
     ensures none_held { OnErr result (held.new.items ≡ []) }
     ensures refusal { IfErr result (λ r. r ≡ Refusal.Io) }
 {
@@ -79,7 +79,7 @@ fn write_chunk<W: Write>(held: &mut Vec<u8>, out: &mut W) -> Result<(), Refusal>
 // Writes what is held back. After a failed write nothing is held, since a part of it may have been written.
 fn write_held<W: Write>(held: &mut Vec<u8>, out: &mut W) -> Result<(), Refusal>
     ensures ok { OnOk result (Appends (W.contents out.old) (W.contents out.new) held.old.items) }
-    ensures err { OnErr result (TakesFront (W.contents out.old) (W.contents out.new) held.old.items) }
+    ensures err { OnErr result (AppendsFront (W.contents out.old) (W.contents out.new) held.old.items) }
     ensures none_held { held.new.items ≡ [] }
     ensures refusal { IfErr result (λ r. r ≡ Refusal.Io) }
 {

@@ -2,10 +2,7 @@
 
 mod arguments;
 mod decoding;
-mod malformed;
-mod refusals;
 mod requests;
-mod sessions;
 
 use crate::program::program;
 use std::alloc::Global;
@@ -21,138 +18,182 @@ struct Seen {
     err: Vec<u8>,
 }
 
-fn run_program(alloc: Global, words: &[&str], mut input: &[u8]) -> Seen {
+/// What it has to do: its status, and what it prints.
+type Due<'a> = (u8, &'a [u8], &'a [u8]);
+
+const USAGE: Due<'static> = (2, b"", b"usage: tendril run | tendril decode\n");
+
+/// Runs the program over any reader.
+fn run_on<R: Read>(alloc: Global, words: &[&str], input: &mut R) -> Seen {
     let mut out = Vec::new(alloc);
     let mut err = Vec::new(alloc);
-    let status = program(alloc, words, &mut input, &mut out, &mut err);
+    let status = program(alloc, words, input, &mut out, &mut err);
     Seen { status, out, err }
 }
 
-/// Runs the commands on the left of the arrows, one after another, and compares what is printed with the right.
-fn check_session(alloc: Global, rows: &str) -> Result<(), Fail> {
-    let mut script = Vec::new(alloc);
-    let mut printed = Vec::new(alloc);
-    for row in rows.lines() {
-        let Some((command, reply)) = row.trim().split_once(" => ") else {
-            return Err(Fail::from(row));
-        };
-        writeln!(script, "{command}")?;
-        writeln!(printed, "{reply}")?;
+fn run_program(alloc: Global, words: &[&str], mut input: &[u8]) -> Seen {
+    run_on(alloc, words, &mut input)
+}
+
+/// Fails unless what was seen in this row is what is due.
+fn check(row: usize, seen: &Seen, (status, out, err): Due) -> Result<(), Fail> {
+    if seen.status == status && seen.out.as_slice() == out && seen.err.as_slice() == err {
+        return Ok(());
     }
-    check_script(alloc, script.as_slice(), printed.as_slice())
+    Err(differs(row, seen, (status, out, err)))
 }
 
-fn check_script(alloc: Global, script: &[u8], printed: &[u8]) -> Result<(), Fail> {
-    let seen = run_program(alloc, &[], script);
-    if seen.status == 0 && seen.out.as_slice() == printed && seen.err.is_empty() {
-        Ok(())
-    } else {
-        Err(Fail::new(str::from_utf8(seen.out.as_slice())?))
+fn differs(row: usize, seen: &Seen, due: Due) -> Fail {
+    let status = seen.status;
+    let out = seen.out.as_slice();
+    let err = seen.err.as_slice();
+    Fail::new(format_args!("row {row}: {status}, {out:?} and {err:?} came, and {due:?} was due"))
+}
+
+/// A whole session, the one that the README has.
+const SESSION: &[u8] = b"from utf8 f09f92a97a7a7a7a7a7a\n\
+        front 0 1\n\
+        front 0 4\n\
+        text 0\n\
+        clone 0\n\
+        join 0 1\n\
+        text 0\n\
+        join 1 1\n\
+        cmp 0 1\n\
+        text 9\n\
+        from wtf8 61616161EDA0BD\n\
+        push 2 edb2a9\n\
+        text 2\n\
+        down 2 utf8\n\
+        down 2 ascii\n\
+        up 2 latin1\n\
+        run 2\n\
+        text 2\n\
+        pop 3\n\
+        slice 3 8 0\n\
+        drop 3\n\
+        text 3\n\
+        new  utf8\n";
+
+const ANSWERS: &[u8] = b"slot 0\n\
+        refused 6 ValidationFailed\n\
+        ok\n\
+        utf8 7a7a7a7a7a7a\n\
+        slot 1\n\
+        ok\n\
+        utf8 7a7a7a7a7a7a7a7a7a7a7a7a\n\
+        ok\n\
+        equal\n\
+        refused 13 NoSuchSlot\n\
+        slot 2\n\
+        ok\n\
+        wtf8 61616161f09f92a9\n\
+        ok\n\
+        refused 4 Invalid\n\
+        refused 14 WrongFormat\n\
+        run 3 1\n\
+        utf8 -\n\
+        char 97\n\
+        refused 5 OutOfBounds\n\
+        ok\n\
+        refused 13 NoSuchSlot\n\
+        malformed\n";
+
+// Words, what is read, and what is due.
+const RUNS: [(&[&str], &[u8], Due<'static>); 7] = [
+    (&[], b"new bytes\ntext 0\n", (0, b"slot 0\nbytes -\n", b"")),
+    (
+        &["run"],
+        b"new bytes\ntext 0\n",
+        (0, b"slot 0\nbytes -\n", b""),
+    ),
+    (&[], b"", (0, b"", b"")),
+    (
+        &[],
+        b"new bytes\n\n\ntext 0",
+        (0, b"slot 0\nbytes -\n", b""),
+    ),
+    (&[], SESSION, (0, ANSWERS, b"")),
+    // White space is of class 0.
+    (
+        &[],
+        b"from utf8 20202078797a7a792020\nrun 0\nrun 0\nrun 0\nrun 0\n",
+        (0, b"slot 0\nrun 1 0\nrun 2 1\nrun 3 0\nnone\n", b""),
+    ),
+    // Lines that are no UTF-8, or have more than a command, are malformed, and the text stays.
+    (
+        &[],
+        b"from utf8 3031\ntext \xff\n\xff\xfe 0\ntext 0\r\n \ntext 0 \ntext 0\n",
+        (
+            0,
+            b"slot 0\nmalformed\nmalformed\nmalformed\nmalformed\nmalformed\nutf8 3031\n",
+            b"",
+        ),
+    ),
+];
+
+#[test]
+fn scripts(rt: HostRuntime) -> Result<(), Fail> {
+    for (row, (words, input, due)) in RUNS.iter().enumerate() {
+        check(row, &run_program(rt.alloc(), words, input), *due)?;
     }
+    Ok(())
 }
 
+const OTHER_WORDS: [&[&str]; 8] = [
+    &["runs"],
+    &["decodes"],
+    &["decode", ""],
+    &["decode", "run"],
+    &[""],
+    &["run", "run"],
+    &["run", ""],
+    &["-h", "x", "y"],
+];
+
 #[test]
-fn the_word_run_may_be_left_out(rt: HostRuntime) {
-    for words in [[].as_slice(), &["run"]] {
-        let seen = run_program(rt.alloc(), words, b"new bytes\ntext 0\n");
-        assert_eq!(rt; seen.status, 0);
-        assert_eq!(rt; seen.out.as_slice(), b"slot 0\nbytes -\n".as_slice());
-        assert_eq!(rt; seen.err.as_slice(), b"".as_slice());
+fn other_words_print_the_usage(rt: HostRuntime) -> Result<(), Fail> {
+    for (row, words) in OTHER_WORDS.iter().enumerate() {
+        check(row, &run_program(rt.alloc(), words, b"new bytes\n"), USAGE)?;
     }
+    Ok(())
+}
+
+// Puts so many of these bytes, one behind the other, at the end of a list.
+fn repeat(list: &mut Vec<u8>, bytes: &[u8], count: usize) -> Result<(), Fail> {
+    for _ in 0..count {
+        list.extend_from_slice(bytes)?;
+    }
+    Ok(())
+}
+
+fn check_length(alloc: Global, len: usize) -> Result<(), Fail> {
+    let mut digits = Vec::new(alloc);
+    repeat(&mut digits, b"a5", len)?;
+    let text = str::from_utf8(digits.as_slice())?;
+    let script = format!(in alloc; "from bytes {text}\nclone 0\npush 1 5A\ntext 0\ntext 1\n")?;
+    let printed = format!(in alloc; "slot 0\nslot 1\nok\nbytes {text}\nbytes {text}5a\n")?;
+    let seen = run_program(alloc, &[], script.as_bytes());
+    check(len, &seen, (0, printed.as_bytes(), b""))
 }
 
 #[test]
-fn empty_input_prints_nothing(rt: HostRuntime) {
-    let seen = run_program(rt.alloc(), &[], b"");
-    assert_eq!(rt; seen.status, 0);
-    assert_eq!(rt; seen.out.as_slice(), b"".as_slice());
-    assert_eq!(rt; seen.err.as_slice(), b"".as_slice());
+fn texts_of_many_lengths(rt: HostRuntime) -> Result<(), Fail> {
+    for len in [7, 8, 9, 1000000] {
+        check_length(rt.alloc(), len)?;
+    }
+    Ok(())
 }
 
 #[test]
-fn the_last_line_may_lack_its_line_feed(rt: HostRuntime) {
-    let seen = run_program(rt.alloc(), &[], b"new bytes\n\n\ntext 0");
-    assert_eq!(rt; seen.out.as_slice(), b"slot 0\nbytes -\n".as_slice());
-}
-
-#[test]
-fn texts_of_many_lengths(rt: HostRuntime) {
+fn a_script_of_a_hundred_thousand_lines(rt: HostRuntime) -> Result<(), Fail> {
     let alloc = rt.alloc();
-    for len in [7u32, 8, 9, 1000000] {
-        let mut script = Vec::new(alloc);
-        let mut text = Vec::new(alloc);
-        for _ in 0..len {
-            text.extend_from_slice(b"a5").expect(&rt, "accepted");
-        }
-        script
-            .extend_from_slice(b"from bytes ")
-            .expect(&rt, "accepted");
-        script
-            .extend_from_slice(text.as_slice())
-            .expect(&rt, "accepted");
-        script
-            .extend_from_slice(b"\nclone 0\npush 1 5A\ntext 0\ntext 1\n")
-            .expect(&rt, "accepted");
-
-        let mut printed = Vec::new(alloc);
-        printed
-            .extend_from_slice(b"slot 0\nslot 1\nok\nbytes ")
-            .expect(&rt, "accepted");
-        printed
-            .extend_from_slice(text.as_slice())
-            .expect(&rt, "accepted");
-        printed
-            .extend_from_slice(b"\nbytes ")
-            .expect(&rt, "accepted");
-        printed
-            .extend_from_slice(text.as_slice())
-            .expect(&rt, "accepted");
-        printed.extend_from_slice(b"5a\n").expect(&rt, "accepted");
-
-        let seen = run_program(alloc, &[], script.as_slice());
-        assert_eq!(rt; seen.status, 0);
-        assert!(rt; seen.out.as_slice() == printed.as_slice(), "length {len}");
-    }
-}
-
-#[test]
-fn a_script_of_a_hundred_thousand_lines(rt: HostRuntime) {
-    let alloc = rt.alloc();
-    let mut script = Vec::from_slice(alloc, b"from bytes 303132333435363738\n").expect(
-        &rt, "accepted",
-    );
-    let mut printed = Vec::from_slice(alloc, b"slot 0\n").expect(&rt, "accepted");
-    for _ in 0..50000 {
-        script
-            .extend_from_slice(b"push 0 61\nclone 7\n")
-            .expect(&rt, "accepted");
-        printed
-            .extend_from_slice(b"ok\nrefused 13 NoSuchSlot\n")
-            .expect(&rt, "accepted");
-    }
+    let mut script = Vec::from_slice(alloc, b"from bytes 303132333435363738\n")?;
+    repeat(&mut script, b"push 0 61\nclone 7\n", 50000)?;
+    let mut printed = Vec::from_slice(alloc, b"slot 0\n")?;
+    repeat(&mut printed, b"ok\nrefused 13 NoSuchSlot\n", 50000)?;
     let seen = run_program(alloc, &["run"], script.as_slice());
-    assert_eq!(rt; seen.status, 0);
-    assert!(rt; seen.out.as_slice() == printed.as_slice());
-}
-
-#[test]
-fn other_words_print_the_usage(rt: HostRuntime) {
-    let usage = b"usage: tendril run | tendril decode\n";
-    for words in [
-        ["runs"].as_slice(),
-        &["decodes"],
-        &["decode", ""],
-        &["decode", "run"],
-        &[""],
-        &["run", "run"],
-        &["run", ""],
-        &["-h", "x", "y"],
-    ] {
-        let seen = run_program(rt.alloc(), words, b"new bytes\n");
-        assert_eq!(rt; seen.status, 2);
-        assert_eq!(rt; seen.out.as_slice(), b"".as_slice());
-        assert_eq!(rt; seen.err.as_slice(), usage.as_slice());
-    }
+    check(0, &seen, (0, printed.as_slice(), b""))
 }
 
 /// A reader that gives its bytes one at a time, and then fails.
@@ -173,23 +214,24 @@ impl Read for Breaks<'_> {
     }
 }
 
+const BREAKS: [(ErrorKind, Due<'static>); 2] = [
+    (ErrorKind::BrokenPipe, (1, b"", b"tendril: refused 9 Io\n")),
+    (
+        ErrorKind::OutOfMemory,
+        (1, b"", b"tendril: refused 2 Memory\n"),
+    ),
+];
+
 #[test]
-fn a_reader_that_fails_in_the_middle(rt: HostRuntime) {
-    for (kind, told) in [
-        (ErrorKind::BrokenPipe, b"tendril: refused 9 Io\n".as_slice()),
-        (ErrorKind::OutOfMemory, b"tendril: refused 2 Memory\n"),
-    ] {
+fn a_reader_that_fails_in_the_middle(rt: HostRuntime) -> Result<(), Fail> {
+    for (row, (kind, due)) in BREAKS.iter().enumerate() {
         let mut input = Breaks {
             bytes: b"new bytes\ntext 0\n",
-            kind,
+            kind: *kind,
         };
-        let mut out = Vec::new(rt.alloc());
-        let mut err = Vec::new(rt.alloc());
-        let status = program(rt.alloc(), &[], &mut input, &mut out, &mut err);
-        assert_eq!(rt; status, 1);
-        assert_eq!(rt; out.as_slice(), b"".as_slice());
-        assert_eq!(rt; err.as_slice(), told);
+        check(row, &run_on(rt.alloc(), &[], &mut input), *due)?;
     }
+    Ok(())
 }
 
 /// A writer that takes a few bytes at a time, and fails once it has taken so many.
@@ -219,38 +261,49 @@ impl Write for Fills {
     }
 }
 
+/// Runs the program on a writer that fills up. It has written so many of the bytes that are due, and no more.
+fn check_filled(
+    alloc: Global,
+    words: &[&str],
+    mut input: &[u8],
+    (most, kind): (usize, ErrorKind),
+    (printed, told): (&[u8], &[u8]),
+) -> Result<(), Fail> {
+    let mut writer = Fills {
+        bytes: Vec::new(alloc),
+        most,
+        kind,
+    };
+    let mut err = Vec::new(alloc);
+    let status = program(alloc, words, &mut input, &mut writer, &mut err);
+    let seen = Seen {
+        status,
+        out: writer.bytes,
+        err,
+    };
+    let due = printed.get(..most).ok_or("less is due")?;
+    check(most, &seen, (1, due, told))
+}
+
+// At its first write, at a later one, in the middle of a chunk, and for want of memory.
+const FILLS: [(usize, ErrorKind); 5] = [
+    (0, ErrorKind::BrokenPipe),
+    (1000, ErrorKind::BrokenPipe),
+    (8192, ErrorKind::OutOfMemory),
+    (50000, ErrorKind::BrokenPipe),
+    (109999, ErrorKind::OutOfMemory),
+];
+
 #[test]
-fn a_writer_that_fails(rt: HostRuntime) {
+fn a_writer_that_fails(rt: HostRuntime) -> Result<(), Fail> {
     let alloc = rt.alloc();
     let mut script = Vec::new(alloc);
+    repeat(&mut script, b"text 0\n", 5000)?;
     let mut printed = Vec::new(alloc);
-    for _ in 0..5000 {
-        script
-            .extend_from_slice(b"text 0\n")
-            .expect(&rt, "accepted");
-        printed
-            .extend_from_slice(b"refused 13 NoSuchSlot\n")
-            .expect(&rt, "accepted");
+    repeat(&mut printed, b"refused 13 NoSuchSlot\n", 5000)?;
+    for fill in FILLS {
+        let due = (printed.as_slice(), b"tendril: refused 9 Io\n".as_slice());
+        check_filled(alloc, &[], script.as_slice(), fill, due)?;
     }
-    // At its first write, at a later one, in the middle of a chunk, and for want of memory.
-    for (most, kind) in [
-        (0, ErrorKind::BrokenPipe),
-        (1000, ErrorKind::BrokenPipe),
-        (8192, ErrorKind::OutOfMemory),
-        (50000, ErrorKind::BrokenPipe),
-        (109999, ErrorKind::OutOfMemory),
-    ] {
-        let mut input = script.as_slice();
-        let mut out = Fills {
-            bytes: Vec::new(alloc),
-            most,
-            kind,
-        };
-        let mut err = Vec::new(alloc);
-        let status = program(alloc, &[], &mut input, &mut out, &mut err);
-        assert_eq!(rt; status, 1);
-        assert_eq!(rt; out.bytes.len(), most);
-        assert!(rt; printed.starts_with(out.bytes.as_slice()));
-        assert_eq!(rt; err.as_slice(), b"tendril: refused 9 Io\n".as_slice());
-    }
+    Ok(())
 }

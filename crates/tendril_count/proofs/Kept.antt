@@ -3,7 +3,7 @@ use Rattle.std.proofs.Common.{◌≡◌, ◌⊎◌, inl, inr, ⊎_elim, ℕ, zer
 use Rattle.std.proofs.lemmas.Bool.{eqb-false}
 use borrow.Author.Tests.{clash}
 use Rattle.std.proofs.Math.Nat.{mod-eq_of_lt, add-mod_right}
-use Rattle.tendril_count.specs.Machine.{Holder, Ended, Reads, Writes, Surplus, Block, Step, Make, Add, Alone, Done, Subtract, Free, Pass, holder_at, becomes, without, has, added, with_holder, add_by, alone_by, done_by, subtract_by, pass_by, happens, run, after, is_held, is_surplus, total, held, surplus, IsLimit}
+use Rattle.tendril_count.specs.Machine.{Holder, Ended, Reads, Writes, Surplus, Block, CountStep, Make, Add, Alone, Done, Subtract, Free, Pass, holder_at, becomes, without, has, added, with_holder, add_by, alone_by, done_by, subtract_by, pass_by, happens, run, after, is_held, is_surplus, total, held, surplus, IsLimit}
 
 abbrev pub is_writer : Holder → ℕ
 is_writer Ended = 0
@@ -229,7 +229,7 @@ module _ (limit : ℕ) (low : IsLimit limit) (b : Block) (kept : Kept limit b) w
   make_kept t true is = kept
   make_kept t false is = absurd (clash (sym is ∙ kept.made))
 
-  pub step_kept : (s : Step) → Kept limit (happens limit b s)
+  pub step_kept : (s : CountStep) → Kept limit (happens limit b s)
   step_kept (Make t) = make_kept t _ refl
   step_kept (Add k) = add_by_kept k _ refl
   step_kept (Alone k) = alone_by_kept k _ refl
@@ -238,11 +238,11 @@ module _ (limit : ℕ) (low : IsLimit limit) (b : Block) (kept : Kept limit b) w
   step_kept (Free t) = free_kept t _ refl
   step_kept (Pass k t) = pass_by_kept k t _ refl
 
-run_kept : (limit : ℕ) → IsLimit limit → (steps : List Step) (b : Block) → Kept limit b → Kept limit (run limit steps b)
+run_kept : (limit : ℕ) → IsLimit limit → (steps : List CountStep) (b : Block) → Kept limit b → Kept limit (run limit steps b)
 run_kept limit low [] b kept = kept
 run_kept limit low (s ∷ steps) b kept = run_kept limit low steps (happens limit b s) (step_kept limit low b kept s)
 
-pub after_kept : (limit thread : ℕ) (steps : List Step) → IsLimit limit → Kept limit (after limit thread steps)
+pub after_kept : (limit thread : ℕ) (steps : List CountStep) → IsLimit limit → Kept limit (after limit thread steps)
 after_kept limit thread steps low =
     run_kept limit low steps _ (record {
       made = refl;

@@ -13,7 +13,7 @@ use types.RcWeak.{part, rest, cut}
 use denote.Steps.{nothing}
 use Rattle.atomic_table.specs.Seated.{word, fact, roster}
 use Rattle.atomic_table.proofs.Marking.{begins}
-use Rattle.tendril_count.specs.Machine.{Holder, Reads, Writes, Block, Step, Done, held, happens, nothing as no_block, holder_at, becomes, with_holder, done_by, is_held, IsLimit}
+use Rattle.tendril_count.specs.Machine.{Holder, Reads, Writes, Block, CountStep, Done, held, happens, nothing as no_block, holder_at, becomes, with_holder, done_by, is_held, IsLimit}
 use Rattle.tendril_count.specs.Machine as machine
 use Rattle.tendril_count.proofs.Kept.{changed, counts_at}
 use Rattle.tendril_count.specs.Rule.{Role, Reader, Writer, role, roles, role_coded, Threads, IsReached, IsTurn, mark, live, state, Inv}

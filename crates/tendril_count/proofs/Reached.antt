@@ -4,7 +4,7 @@ use Rattle.std.specs.Prelude.{⊤}
 use Rattle.std.proofs.Common.{◌≡◌, ℕ, zero, suc, ◌+◌, ◌-◌, ◌%◌, ◌^◌, Bool, true, false, List, [], ◌∷◌, ◌++◌, length, set, refl, sym, ◌∙◌, ap, subst, arith, eq-eqb, if◌then◌else◌, ◌==◌, ltb}
 use mathlib.Core.Option.{some, some-injective, some-ne-none}
 use lib.ListN.{get_elem?}
-use Rattle.tendril_count.specs.Machine.{Holder, Ended, Reads, Writes, Surplus, Block, Step, Make, Add, Alone, Done, Subtract, Free, Pass, has, without, holder_at, becomes, nothing, added, subtracted, with_holder, add_by, alone_by, done_by, subtract_by, pass_by, happens, run, held, is_held, IsLimit}
+use Rattle.tendril_count.specs.Machine.{Holder, Ended, Reads, Writes, Surplus, Block, CountStep, Make, Add, Alone, Done, Subtract, Free, Pass, has, without, holder_at, becomes, nothing, added, subtracted, with_holder, add_by, alone_by, done_by, subtract_by, pass_by, happens, run, held, is_held, IsLimit}
 use Rattle.tendril_count.proofs.Kept.{Kept, after_kept, changed}
 use Rattle.tendril_count.specs.Rule.{Role, Reader, role, roles, number, Threads, Any, Only, stays, all_stay, IsReached, IsTurn}
 
@@ -44,11 +44,11 @@ reads_on (Reads t) is = (t, refl)
 reads_on (Writes t) is = absurd (omega (arith, ap number is))
 reads_on (Surplus t) is = absurd (omega (arith, ap number is))
 
-run-append : (limit : ℕ) (steps : List Step) (s : Step) (b : Block) → run limit (steps ++ s ∷ []) b ≡ happens limit (run limit steps b) s
+run-append : (limit : ℕ) (steps : List CountStep) (s : CountStep) (b : Block) → run limit (steps ++ s ∷ []) b ≡ happens limit (run limit steps b) s
 run-append limit [] s b = refl
 run-append limit (x ∷ steps) s b = run-append limit steps s (happens limit b x)
 
-all_stay-append : (steps : List Step) (s : Step) → all_stay steps ≡ true → stays s ≡ true → all_stay (steps ++ s ∷ []) ≡ true
+all_stay-append : (steps : List CountStep) (s : CountStep) → all_stay steps ≡ true → stays s ≡ true → all_stay (steps ++ s ∷ []) ≡ true
 all_stay-append [] s all one = ap (λ (y : Bool). if y then true else false) one
 all_stay-append (x ∷ steps) s all one = go (stays x) all (λ rest. all_stay-append steps s rest one)
   where
@@ -56,10 +56,10 @@ all_stay-append (x ∷ steps) s all one = go (stays x) all (λ rest. all_stay-ap
     go true rest goes = goes rest
     go false rest goes = rest
 
-pub by_any : (limit : ℕ) (b : Block) → IsReached Any limit b → (s : Step) → IsReached Any limit (happens limit b s)
+pub by_any : (limit : ℕ) (b : Block) → IsReached Any limit b → (s : CountStep) → IsReached Any limit (happens limit b s)
 by_any limit b is s = (is.0, is.1 ++ s ∷ [], ap (λ (x : Block). happens limit x s) is.2 ∙ sym (run-append limit is.1 s (happens limit nothing (Make is.0))))
 
-pub reached_step : (whose : Threads) (limit : ℕ) (b : Block) → IsReached whose limit b → (s : Step) → stays s ≡ true → IsReached whose limit (happens limit b s)
+pub reached_step : (whose : Threads) (limit : ℕ) (b : Block) → IsReached whose limit b → (s : CountStep) → stays s ≡ true → IsReached whose limit (happens limit b s)
 reached_step Any limit b is s one = by_any limit b is s
 reached_step (Only t) limit b is s one = (is.0 ++ s ∷ [], all_stay-append is.0 s is.1 one, ap (λ (x : Block). happens limit x s) is.2 ∙ sym (run-append limit is.0 s (happens limit nothing (Make t))))
 
@@ -144,7 +144,7 @@ module _ (t limit : ℕ) (b : Block) (own : IsOwn t b) where
   frees_on u true = own
   frees_on u false = own
 
-  own_step : (s : Step) → stays s ≡ true → IsOwn t (happens limit b s)
+  own_step : (s : CountStep) → stays s ≡ true → IsOwn t (happens limit b s)
   own_step (Make u) stay = makes_on u b.made refl
   own_step (Add k) stay = adds_on k (holder_at b.holders k) (on_at t b.holders k own.1)
   own_step (Alone k) stay = alone_on k (holder_at b.holders k) (on_at t b.holders k own.1)
@@ -153,7 +153,7 @@ module _ (t limit : ℕ) (b : Block) (own : IsOwn t b) where
   own_step (Free u) stay = frees_on u (has u b.duties)
   own_step (Pass k u) stay = absurd (clash stay)
 
-own_run : (t limit : ℕ) (steps : List Step) (b : Block) → IsOwn t b → all_stay steps ≡ true → IsOwn t (run limit steps b)
+own_run : (t limit : ℕ) (steps : List CountStep) (b : Block) → IsOwn t b → all_stay steps ≡ true → IsOwn t (run limit steps b)
 own_run t limit [] b own all = own
 own_run t limit (s ∷ steps) b own all = go (stays s) refl all (λ is rest. own_run t limit steps (happens limit b s) (own_step t limit b own s is) rest)
   where

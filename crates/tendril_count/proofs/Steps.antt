@@ -21,7 +21,7 @@ use denote.Steps.{nothing}
 use Rattle.core.specs.Sync.RawAtomic.{Shift, rests, ends, enters, leaves, asks, always, along, shifted, if_none, back, found}
 use Rattle.atomic_table.specs.Seated.{word, fact, seen, roster}
 use Rattle.atomic_table.proofs.Roster.{Moved, moves, Joined, joins}
-use Rattle.tendril_count.specs.Machine.{Holder, Ended, Reads, Writes, Block, Step, Add, Alone, Subtract, holder_at, becomes, held, happens, is_held, is_surplus, IsLimit, subtracted, added, with_holder, subtract_by, add_by, alone_by}
+use Rattle.tendril_count.specs.Machine.{Holder, Ended, Reads, Writes, Block, CountStep, Add, Alone, Subtract, holder_at, becomes, held, happens, is_held, is_surplus, IsLimit, subtracted, added, with_holder, subtract_by, add_by, alone_by}
 use native.Mathlib.Decide.{ℕ_discrete}
 use mathlib.Core.Logic.{dite}
 use Rattle.tendril_count.proofs.Kept.{changed, joined, no_more, up}
@@ -161,7 +161,7 @@ module _ {M : Type 1} {𝓤 : Ura M} (𝓛 : Logic 𝓤) (whose : Threads) (limi
         move ! (2 ∷ 3 ∷ []) $ fjoin ! $ nothing ! $ fpack ! (IsReached whose limit s × (0 < held s)) (λ _. ftrue) (is, more) $ fjoin ! $ move ! (2 ∷ 0 ∷ []) $ fjoin ! $ move ! (1 ∷ 0 ∷ []) $ fjoin ! $
         fpack ! Block (live c whose limit P b o a γ) s $ fpack ! Bool (state c whose limit P b o a γ) true $ done !
 
-    reached : (s : Block) (e : Step) (s' : Block) → happens limit s e ≡ s' → stays e ≡ true → IsReached whose limit s → IsReached whose limit s'
+    reached : (s : Block) (e : CountStep) (s' : Block) → happens limit s e ≡ s' → stays e ≡ true → IsReached whose limit s → IsReached whose limit s'
     reached s e s' is stay so = subst (IsReached whose limit) is (reached_step whose limit s so e stay)
 
     -- the add that goes on only where the word is still old, which is below the limit. A share of the mark is enough

@@ -20,14 +20,14 @@ pub record Block : Type 0 where
   pub frees : ℕ
 
 -- five kinds of step, the end of a write, and the pass of a holder to another thread
-pub data Step : Type 0 where
-  Make : (thread : ℕ) → Step
-  Add : (holder : ℕ) → Step
-  Alone : (holder : ℕ) → Step
-  Done : (holder : ℕ) → Step
-  Subtract : (holder : ℕ) → Step
-  Free : (thread : ℕ) → Step
-  Pass : (holder thread : ℕ) → Step
+pub data CountStep : Type 0 where
+  Make : (thread : ℕ) → CountStep
+  Add : (holder : ℕ) → CountStep
+  Alone : (holder : ℕ) → CountStep
+  Done : (holder : ℕ) → CountStep
+  Subtract : (holder : ℕ) → CountStep
+  Free : (thread : ℕ) → CountStep
+  Pass : (holder thread : ℕ) → CountStep
 
 abbrev pub holder_at : List Holder → ℕ → Holder
 holder_at [] k = Ended
@@ -117,7 +117,7 @@ pass_by b k t (Reads s) = with_holder b k (Reads t)
 pass_by b k t h = b
 
 -- A step that is not allowed leaves the block as it is. A load that finds more than 1 is no step.
-abbrev pub happens : ℕ → Block → Step → Block
+abbrev pub happens : ℕ → Block → CountStep → Block
 happens limit b (Make t) =
     if b.made then b else record { made = true; word = 1; holders = Reads t ∷ []; duties = []; frees = 0 }
 happens limit b (Add k) = add_by limit b k (holder_at b.holders k)
@@ -136,12 +136,12 @@ happens limit b (Free t) =
     else b
 happens limit b (Pass k t) = pass_by b k t (holder_at b.holders k)
 
-abbrev pub run : ℕ → List Step → Block → Block
+abbrev pub run : ℕ → List CountStep → Block → Block
 run limit [] b = b
 run limit (s ∷ steps) b = run limit steps (happens limit b s)
 
 -- after a make by this thread, and then these steps
-abbrev pub after : ℕ → ℕ → List Step → Block
+abbrev pub after : ℕ → ℕ → List CountStep → Block
 after limit thread steps = run limit (Make thread ∷ steps) nothing
 
 -- how many holders a number stands for, the surplus one left out
@@ -195,5 +195,5 @@ abbrev pub IsAlone : Block → Type 0
 IsAlone b = (held b ≡ 1) × (surplus b ≡ 0)
 
 -- the steps of who writes
-abbrev pub IsEndOfWrite : Step → ℕ → Type 0
+abbrev pub IsEndOfWrite : CountStep → ℕ → Type 0
 IsEndOfWrite s k = (s ≡ Done k) ⊎ (s ≡ Subtract k)

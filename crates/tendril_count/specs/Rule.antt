@@ -7,7 +7,7 @@ use base.Share.{three_quarters}
 use base.Fml.{Fml, fsep, fex, fdead, flent}
 use types.RcWeak.{part, rest}
 use Rattle.atomic_table.specs.Seated.{word, fact, seen, roster}
-use Rattle.tendril_count.specs.Machine.{Holder, Ended, Reads, Writes, Surplus, Block, Step, Make, Add, Alone, Done, Subtract, Free, Pass, held, after, holder_at}
+use Rattle.tendril_count.specs.Machine.{Holder, Ended, Reads, Writes, Surplus, Block, CountStep, Make, Add, Alone, Done, Subtract, Free, Pass, held, after, holder_at}
 
 -- what a mark says of a holder: what it does, on whatever thread
 pub data Role : Type 0 where
@@ -55,7 +55,7 @@ pub data Threads : Type 0 where
   Only : (thread : ℕ) → Threads
 
 -- whether a step leaves each holder with its thread
-abbrev pub stays : Step → Bool
+abbrev pub stays : CountStep → Bool
 stays (Make t) = true
 stays (Add k) = true
 stays (Alone k) = true
@@ -64,14 +64,14 @@ stays (Subtract k) = true
 stays (Free t) = true
 stays (Pass k t) = false
 
-abbrev pub all_stay : List Step → Bool
+abbrev pub all_stay : List CountStep → Bool
 all_stay [] = true
 all_stay (s ∷ steps) = if stays s then all_stay steps else false
 
 -- a block that some list of these threads' steps leads to
 abbrev pub IsReached : Threads → ℕ → Block → Type 0
-IsReached Any limit s = (thread : ℕ) × (steps : List Step) × (s ≡ after limit thread steps)
-IsReached (Only thread) limit s = (steps : List Step) × (all_stay steps ≡ true) × (s ≡ after limit thread steps)
+IsReached Any limit s = (thread : ℕ) × (steps : List CountStep) × (s ≡ after limit thread steps)
+IsReached (Only thread) limit s = (steps : List CountStep) × (all_stay steps ≡ true) × (s ≡ after limit thread steps)
 
 -- whether a thread may take steps
 abbrev pub IsTurn : Threads → ℕ → Type 0

@@ -2,7 +2,7 @@ use Rattle.std.proofs.Common.{ℕ, ◌≡◌, ◌↔◌, List, ◌∷◌, Option
 use Rattle.std.specs.Result.{IfOk}
 use Rattle.std.specs.Option.{MatchOption, IsSomeAnd}
 use Rattle.tendril_lines.specs.Lines.{AreWords, words_of}
-use Rattle.tendril_lines.specs.Verbs.{Reads, verb_name}
+use Rattle.tendril_lines.specs.Verbs.{ReadsCommand, verb_name}
 use Rattle.tendril_lines.specs.declared.command.Command.{Command}
 use Rattle.tendril_lines.specs.declared.command.Command.TheVariants.{New, FromBytes, PushBytes, PushTendril, PushChar, PushZeros, Slice, PopFront, PopBack, PopChar, PopRun, Clone, Clear, Reserve, Reinterpret, ToSuperset, ToSubset, WriteByte, Compare, Text, ThroughSend, Drop}
 use Rattle.tendril_lines.specs.declared.words.Verb.{Verb}
@@ -18,7 +18,7 @@ taken P F Q (Some x) (Some y) made reads h c = (
 )
 
 -- a command's words are a verb and the words after it
-pub to_verb : (c : Command) (word : List ℕ) (args : List (List ℕ)) → AreWords (words_of c) (word ∷ args) → (v : Verb) × (word ≡ verb_name v) × Reads v args c
+pub to_verb : (c : Command) (word : List ℕ) (args : List (List ℕ)) → AreWords (words_of c) (word ∷ args) → (v : Verb) × (word ≡ verb_name v) × ReadsCommand v args c
 to_verb (New kind) word args h = (verb.New, h.0, (kind, refl, h.1))
 to_verb (FromBytes kind b) word args h = (verb.From, h.0, ((kind, b), refl, h.1))
 to_verb (PushBytes slot b) word args h = (verb.Push, h.0, ((slot, b), refl, h.1))
@@ -42,7 +42,7 @@ to_verb (Text slot) word args h = (verb.Text, h.0, (slot, refl, h.1))
 to_verb (ThroughSend slot) word args h = (verb.Send, h.0, (slot, refl, h.1))
 to_verb (Drop slot) word args h = (verb.Drop, h.0, (slot, refl, h.1))
 
-pub from_verb : (v : Verb) (args : List (List ℕ)) (c : Command) → Reads v args c → AreWords (words_of c) (verb_name v ∷ args)
+pub from_verb : (v : Verb) (args : List (List ℕ)) (c : Command) → ReadsCommand v args c → AreWords (words_of c) (verb_name v ∷ args)
 from_verb verb.New args c (x, e, p) = rw e (refl, p)
 from_verb verb.From args c (x, e, p) = rw e (refl, p)
 from_verb verb.Push args c (x, e, p) = rw e (refl, p)
@@ -67,7 +67,7 @@ from_verb verb.Send args c (x, e, p) = rw e (refl, p)
 from_verb verb.Drop args c (x, e, p) = rw e (refl, p)
 
 -- a reader's answer after its verb is the words' command
-pub joined : (word : List ℕ) (args : List (List ℕ)) (v : Verb) (answer : Option Verb) (found : Option Command) → answer ≡ Some v → ((u : Verb) → (answer ≡ Some u) ↔ (word ≡ verb_name u)) → ((c : Command) → (found ≡ Some c) ↔ Reads v args c) → (c : Command) → (found ≡ Some c) ↔ AreWords (words_of c) (word ∷ args)
+pub joined : (word : List ℕ) (args : List (List ℕ)) (v : Verb) (answer : Option Verb) (found : Option Command) → answer ≡ Some v → ((u : Verb) → (answer ≡ Some u) ↔ (word ≡ verb_name u)) → ((c : Command) → (found ≡ Some c) ↔ ReadsCommand v args c) → (c : Command) → (found ≡ Some c) ↔ AreWords (words_of c) (word ∷ args)
 joined word args v answer found is verbs reads c = (
   λ e. rw ((verbs v).0 is) (from_verb v args c ((reads c).0 e)),
   λ h. let (u, at, found_so) = to_verb c word args h in
@@ -83,6 +83,6 @@ no_verb word args answer is verbs c h =
     let k : answer ≡ Some u = (verbs u).1 at in
     cc
 
-pub joined_ok : {E : Type 0} (word : List ℕ) (args : List (List ℕ)) (v : Verb) (answer : Option Verb) (r : Result (Option Command) E) → answer ≡ Some v → ((u : Verb) → (answer ≡ Some u) ↔ (word ≡ verb_name u)) → IfOk r (λ found. (c : Command) → (found ≡ Some c) ↔ Reads v args c) → IfOk r (λ found. (c : Command) → (found ≡ Some c) ↔ AreWords (words_of c) (word ∷ args))
+pub joined_ok : {E : Type 0} (word : List ℕ) (args : List (List ℕ)) (v : Verb) (answer : Option Verb) (r : Result (Option Command) E) → answer ≡ Some v → ((u : Verb) → (answer ≡ Some u) ↔ (word ≡ verb_name u)) → IfOk r (λ found. (c : Command) → (found ≡ Some c) ↔ ReadsCommand v args c) → IfOk r (λ found. (c : Command) → (found ≡ Some c) ↔ AreWords (words_of c) (word ∷ args))
 joined_ok word args v answer (Ok found) is verbs reads = joined word args v answer found is verbs reads
 joined_ok word args v answer (Err e) is verbs reads = tt

@@ -1,7 +1,7 @@
 //! The lines of commands.
 ghost use Rattle.std.specs.Prelude.{◌≡◌, ◌↔◌, ℕ, map, Some, IfOk, IfErr};
 ghost use Rattle.tendril_lines.specs.Lines.{AreWords, IsLine, words_of};
-ghost use Rattle.tendril_lines.specs.Verbs.{Reads};
+ghost use Rattle.tendril_lines.specs.Verbs.{ReadsCommand};
 
 use crate::command::Command;
 use crate::words::{
@@ -41,7 +41,7 @@ fn read_words(alloc: Global, words: &[&[u8]]) -> Result<Option<Command>, AllocEr
 
 // The command of a verb and the words after it.
 fn read(alloc: Global, verb: Verb, arguments: &[&[u8]]) -> Result<Option<Command>, AllocError>
-    ensures { IfOk result (λ found. (c : _) → (found ≡ Some c) ↔ Reads verb (map (λ word. word.now) arguments.now) c) }
+    ensures { IfOk result (λ found. (c : _) → (found ≡ Some c) ↔ ReadsCommand verb (map (λ word. word.now) arguments.now) c) }
 {
     match verb {
         Verb::New => Ok(one_kind(arguments).map(|kind| Command::New(kind))),

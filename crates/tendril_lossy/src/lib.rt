@@ -6,8 +6,5 @@ mod search;
 mod theorems;
 
 pub use completion::{Completion, ShortText, complete};
-pub use search::{Ending, first_part};
+pub use search::{Ending, first_part, first_part_by};
 pub use theorems::laws;
-
-#[cfg(test)]
-mod tests;

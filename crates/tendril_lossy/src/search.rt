@@ -16,8 +16,18 @@ pub fn first_part(bytes: &[u8]) -> (&str, Ending)
     ensures items { lossy bytes.now ≡ map Keep (chars result.0.now) ++ items_after bytes.now (length result.0.now) result.1 }
     ensures within { EndsWithin bytes.now (length result.0.now) result.1 }
 {
+    first_part_by(bytes, 128)
+}
+
+/// The same, where a first window of so many bytes is looked at first: few where a fault is likely near.
+pub fn first_part_by(bytes: &[u8], first: usize) -> (&str, Ending)
+    requires { 4 ≤ first }
+    ensures front { result.0.now ≡ take (length result.0.now) bytes.now }
+    ensures items { lossy bytes.now ≡ map Keep (chars result.0.now) ++ items_after bytes.now (length result.0.now) result.1 }
+    ensures within { EndsWithin bytes.now (length result.0.now) result.1 }
+{
     let mut at = 0;
-    let mut window = 128;
+    let mut window = first;
     while bytes.len() - at > window {
         let end = char_start(bytes, at + window);
         match simdutf8::compat::from_utf8(&bytes[at..end]) {

@@ -14,7 +14,7 @@ Worked items_of class old commands new (Ok replies) = Chain class old commands (
 Worked items_of class old commands new (Err refusal) = (refusal ≡ Memory) × (new ≡ old)
 
 -- how a job ends: by the chain of its commands, refused with its table as it was, or without having begun
-abbrev pub Ends : (ℕ → ℕ) → List Cell → List Command → Outcome → Type 0
-Ends class old commands (Done table replies) = Chain class old commands replies.items table.cells
-Ends class old commands (Refused table refusal) = (refusal ≡ Memory) × (table.cells ≡ old)
-Ends class old commands NotStarted = Unit {0}
+abbrev pub JobEnds : (ℕ → ℕ) → List Cell → List Command → Outcome → Type 0
+JobEnds class old commands (Done table replies) = Chain class old commands replies.items table.cells
+JobEnds class old commands (Refused table refusal) = (refusal ≡ Memory) × (table.cells ≡ old)
+JobEnds class old commands NotStarted = Unit {0}

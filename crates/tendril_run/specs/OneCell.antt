@@ -117,9 +117,9 @@ JoinMay to from (text kind b) (text format y) r = MemoryMay (length (join_in kin
 JoinMay to from cell other r = ⊥
 
 -- the cell with the other's text at its end
-abbrev pub joined : Cell → Cell → Cell
-joined (text kind b) (text format y) = text kind (join_in kind b y)
-joined cell other = cell
+abbrev pub joined_cell : Cell → Cell → Cell
+joined_cell (text kind b) (text format y) = text kind (join_in kind b y)
+joined_cell cell other = cell
 
 -- the first refusal of an edit of a cell
 abbrev pub CellEditMust : Cell → Edit → Option Refusal → Type 0
@@ -172,9 +172,9 @@ pub record Converts {S : Type 0} (cell_of : S → Cell) (cell : Cell) (conversio
   pub kept : IfOk result (λ s. IsCell cell → IsCell (cell_of s))
 
 -- the reply that tells the cell
-abbrev pub Tells : Cell → Reply → Type 0
-Tells gone reply = ⊥
-Tells (text kind b) reply = reply ≡ Text kind b
+abbrev pub TellsCell : Cell → Reply → Type 0
+TellsCell gone reply = ⊥
+TellsCell (text kind b) reply = reply ≡ Text kind b
 
 -- a push onto a cell
 abbrev pub CellPushed : Cell → List ℕ → Reply → Cell → Type 0
@@ -182,7 +182,7 @@ CellPushed cell y reply new = Changed (PushMust cell y) (PushMay cell y) (pushed
 
 -- a push of the cell of one slot onto that of another
 abbrev pub CellJoined : ℕ → ℕ → Cell → Cell → Reply → Cell → Type 0
-CellJoined to from cell other reply new = Changed (JoinMust cell other) (JoinMay to from cell other) (joined cell other) cell reply new
+CellJoined to from cell other reply new = Changed (JoinMust cell other) (JoinMay to from cell other) (joined_cell cell other) cell reply new
 
 -- the first refusal of a change of a cell
 abbrev pub ChangeMust : Cell → Change → Option Refusal → Type 0
@@ -223,4 +223,4 @@ CellChanged cell change reply new = Answered (ChangeMust cell change) (ChangeMay
 
 -- what is answered to a question for the cell's text
 abbrev pub CellTold : Cell → Reply → Type 0
-CellTold cell reply = Replied (CellMust cell) (λ r. r ≡ Memory) (λ reply new. Tells cell reply) cell reply cell
+CellTold cell reply = Replied (CellMust cell) (λ r. r ≡ Memory) (λ reply new. TellsCell cell reply) cell reply cell

@@ -1,7 +1,7 @@
 //! A thread for each table.
 ghost use Rattle.std.specs.Prelude.{◌≡◌, ◌≤◌, ◌+◌, [], IfOk, IfErr, IfSome, MatchOption, vec_len, vec_capacity};
 ghost use Rattle.std.specs.List.{AllZip};
-ghost use Rattle.tendril_run.specs.Jobs.{Worked, Ends};
+ghost use Rattle.tendril_run.specs.Jobs.{Worked, JobEnds};
 
 use crate::classifier::Classifier;
 use crate::gate::Gate;
@@ -60,7 +60,7 @@ pub fn run_tables<
     G: Gate + Send + Drop + 'static,
 >(rt: &R, alloc: Global, jobs: Vec<Job<C, G>>) -> Result<Vec<Outcome>, (Refusal, Vec<Job<C, G>>)>
     ensures ok { IfOk result (λ outcomes.
-        AllZip (λ j o. Ends (C.class j.class) j.table.cells j.commands.items o) jobs.items outcomes.items) }
+        AllZip (λ j o. JobEnds (C.class j.class) j.table.cells j.commands.items o) jobs.items outcomes.items) }
     ensures refusal { IfErr result (λ e. e.0 ≡ Refusal.Memory) }
     ensures back { IfErr result (λ e. e.1 ≡ jobs) }
 {
@@ -123,7 +123,7 @@ fn join_all<R: Threads, C: Classifier, G>(
     requires empty { outcomes.items ≡ [] }
     requires room { vec_len outcomes + vec_len workers ≤ vec_capacity outcomes }
     ensures { AllZip (λ w o. MatchOption w (o ≡ Outcome.NotStarted)
-        (λ h. let job = h.promise.0.value in Ends (C.class job.class) job.table.cells job.commands.items o))
+        (λ h. let job = h.promise.0.value in JobEnds (C.class job.class) job.table.cells job.commands.items o))
         workers.items result.items }
 {
     for worker in workers {
@@ -135,7 +135,7 @@ fn join_all<R: Threads, C: Classifier, G>(
 
 fn join<R: Threads, C: Classifier, G>(rt: &R, worker: Worker<C, G>) -> Outcome
     ensures { MatchOption worker (result ≡ Outcome.NotStarted)
-        (λ h. let job = h.promise.0.value in Ends (C.class job.class) job.table.cells job.commands.items result) }
+        (λ h. let job = h.promise.0.value in JobEnds (C.class job.class) job.table.cells job.commands.items result) }
 {
     match worker {
         Some(handle) => match handle.join(rt) {

@@ -145,7 +145,7 @@ impl<A: Atomicity> Storage<A> {
         }
     }
 
-    /// The bytes in a block of this kind, or inline; where there is no memory for one, as they were.
+    /// The bytes in a block of this kind, or inline. The kinds of `tendril_block` ask for no memory, and refuse nothing.
     pub fn from_apart(apart: Apart) -> Result<Self, (Refusal, Apart)>
         ensures bytes { IfOk result (λ s. s.bytes ≡ apart) }
         ensures copied { IfOk result (λ s. s.copied ≡ length apart) }

@@ -8,7 +8,7 @@ use Rattle.tendril_text.specs.Texts.{Text}
 use Rattle.tendril_block.specs.declared.refusal.Refusal.{Refusal}
 use Rattle.tendril_block.specs.declared.refusal.Refusal.TheVariants.{Io, Memory, TooManyReads}
 use Rattle.tendril_stream.proofs.Stands.{bytes_of}
-use Rattle.tendril_stream.specs.Readings.{Makes, Receives, ReadsAll, Halts}
+use Rattle.tendril_stream.specs.Readings.{MakesReads, Receives, ReadsAll, Halts}
 use Rattle.tendril_stream.specs.Reads.{AddUp, Reads, no_reads, giving, interrupted, failure, end}
 use Rattle.tendril_stream.specs.Sinks.{Sent, Piece}
 
@@ -39,13 +39,13 @@ adds_up_on bytes all made these first second is =
     }
 
 module _ {R : Type 0} (history : R → Reads) (remaining : R → Option (List ℕ)) where
-  pub Makes-none : (r : R) → Makes history remaining r no_reads r
-  Makes-none r = (record { given = sym (append-nil (history r).given); reads = omega arith; failed = omega arith; empty = omega arith }, Consumes-nil (remaining r), record { within = omega arith; silent = λ is. refl })
+  pub MakesReads-none : (r : R) → MakesReads history remaining r no_reads r
+  MakesReads-none r = (record { given = sym (append-nil (history r).given); reads = omega arith; failed = omega arith; empty = omega arith }, Consumes-nil (remaining r), record { within = omega arith; silent = λ is. refl })
 
   -- further reads, and what all gave
-  pub Makes-on : (a b c : R) (bytes all : List ℕ) (made : ℕ) (these : Reads) → Makes history remaining a (going bytes made) b → Makes history remaining b these c → bytes ++ these.given ≡ all
-      → Makes history remaining a (record { given = all; reads = made + these.reads; failed = these.failed; empty = these.empty }) c
-  Makes-on a b c bytes all made these first second is =
+  pub MakesReads-on : (a b c : R) (bytes all : List ℕ) (made : ℕ) (these : Reads) → MakesReads history remaining a (going bytes made) b → MakesReads history remaining b these c → bytes ++ these.given ≡ all
+      → MakesReads history remaining a (record { given = all; reads = made + these.reads; failed = these.failed; empty = these.empty }) c
+  MakesReads-on a b c bytes all made these first second is =
       let r = first.0 in
       let s = second.0 in
       let reads = r.reads in
@@ -73,39 +73,39 @@ module _ {R : Type 0} (history : R → Reads) (remaining : R → Option (List �
     pub record Fed (made : ℕ) (now : S) (at : R) : Type 0 where
       pub pieces : List Text
       pub calls : FoldsTo (λ s p t. takes s (Piece p) t) sink pieces now
-      pub makes : Makes history remaining reader (going (bytes_of pieces) made) at
+      pub makes : MakesReads history remaining reader (going (bytes_of pieces) made) at
 
     pub fed_nothing : Fed 0 sink reader
-    fed_nothing = record { pieces = []; calls = refl; makes = Makes-none reader }
+    fed_nothing = record { pieces = []; calls = refl; makes = MakesReads-none reader }
 
     -- a read gave nothing, and may be made again
-    pub fed_idle : (made : ℕ) (now : S) (at next : R) → Fed made now at → Makes history remaining at interrupted next → Fed (made + 1) now next
-    fed_idle made now at next f read = record { pieces = f.pieces; calls = f.calls; makes = Makes-on reader at next (bytes_of f.pieces) (bytes_of f.pieces) made interrupted f.makes read (append-nil (bytes_of f.pieces)) }
+    pub fed_idle : (made : ℕ) (now : S) (at next : R) → Fed made now at → MakesReads history remaining at interrupted next → Fed (made + 1) now next
+    fed_idle made now at next f read = record { pieces = f.pieces; calls = f.calls; makes = MakesReads-on reader at next (bytes_of f.pieces) (bytes_of f.pieces) made interrupted f.makes read (append-nil (bytes_of f.pieces)) }
 
-    pub fed_more : (made : ℕ) (now then : S) (at next : R) (t : Text) → Fed made now at → Makes history remaining at (giving t.bytes) next → takes now (Piece t) then → Fed (made + 1) then next
+    pub fed_more : (made : ℕ) (now then : S) (at next : R) (t : Text) → Fed made now at → MakesReads history remaining at (giving t.bytes) next → takes now (Piece t) then → Fed (made + 1) then next
     fed_more made now then at next t f read taken = record {
       pieces = f.pieces ++ t ∷ [];
       calls = FoldsTo-push (λ s p u. takes s (Piece p) u) sink f.pieces now t then f.calls taken;
-      makes = Makes-on reader at next (bytes_of f.pieces) (bytes_of (f.pieces ++ t ∷ [])) made (giving t.bytes) f.makes read (bytes_more f.pieces t);
+      makes = MakesReads-on reader at next (bytes_of f.pieces) (bytes_of (f.pieces ++ t ∷ [])) made (giving t.bytes) f.makes read (bytes_more f.pieces t);
     }
 
     received : (made : ℕ) (now : S) (at : R) (f : Fed made now at) → Receives takes sink (bytes_of f.pieces) now
     received made now at f = (f.pieces, f.calls, refl)
 
     -- all is read
-    pub reads_all : {O : Type 0} (finishes : S → O → Type 0) (most made : ℕ) (now : S) (at next : R) (out : O) → Fed made now at → Makes history remaining at end next → IsAtEnd (remaining next) → finishes now out → made + 1 ≤ most
-        → (these : Reads) × Makes history remaining reader these next × IsAtEnd (remaining next) × ReadsAll takes finishes most sink these out
+    pub reads_all : {O : Type 0} (finishes : S → O → Type 0) (most made : ℕ) (now : S) (at next : R) (out : O) → Fed made now at → MakesReads history remaining at end next → IsAtEnd (remaining next) → finishes now out → made + 1 ≤ most
+        → (these : Reads) × MakesReads history remaining reader these next × IsAtEnd (remaining next) × ReadsAll takes finishes most sink these out
     reads_all finishes most made now at next out f read last done within =
         let bytes = bytes_of f.pieces in (
           record { given = bytes; reads = made + 1; failed = 0; empty = 1 },
-          Makes-on reader at next bytes bytes made end f.makes read (append-nil bytes),
+          MakesReads-on reader at next bytes bytes made end f.makes read (append-nil bytes),
           last,
           record { last = now; receives = received made now at f; finished = done; failed = refl; empty = refl; within = within },
         )
 
     module _ (refuses : S → Sent → Refusal → S → Type 0) (ends : S → Refusal → Type 0) (most : ℕ) where
       abbrev pub Halted : R → Refusal → Option S → Type 0
-      Halted next refusal handed = (these : Reads) × Makes history remaining reader these next × Halts takes refuses ends most sink these refusal handed
+      Halted next refusal handed = (these : Reads) × MakesReads history remaining reader these next × Halts takes refuses ends most sink these refusal handed
 
       -- no read is left
       pub halts_at_most : (made : ℕ) (now : S) (at : R) → Fed made now at → made ≡ most → Halted at TooManyReads (Some now)
@@ -117,30 +117,30 @@ module _ {R : Type 0} (history : R → Reads) (remaining : R → Option (List �
       pub halts_without_memory : (made : ℕ) (now : S) (at next : R) → Fed made now at → next ≡ at → made < most → Halted next Memory (Some now)
       halts_without_memory made now at next f same left =
           let bytes = bytes_of f.pieces in
-          (going bytes made, subst (λ r. Makes history remaining reader (going bytes made) r) (sym same) f.makes, inl (now, received made now at f, refl, inr (inr (refl, refl, left)), refl))
+          (going bytes made, subst (λ r. MakesReads history remaining reader (going bytes made) r) (sym same) f.makes, inl (now, received made now at f, refl, inr (inr (refl, refl, left)), refl))
 
-      pub halts_at_failure : (made : ℕ) (now : S) (at next : R) → Fed made now at → Makes history remaining at failure next → made + 1 ≤ most → Halted next Io (Some now)
+      pub halts_at_failure : (made : ℕ) (now : S) (at next : R) → Fed made now at → MakesReads history remaining at failure next → made + 1 ≤ most → Halted next Io (Some now)
       halts_at_failure made now at next f read within =
           let bytes = bytes_of f.pieces in (
             record { given = bytes; reads = made + 1; failed = 1; empty = 0 },
-            Makes-on reader at next bytes bytes made failure f.makes read (append-nil bytes),
+            MakesReads-on reader at next bytes bytes made failure f.makes read (append-nil bytes),
             inl (now, received made now at f, refl, inr (inl (refl, refl, within)), refl),
           )
 
       -- a read gave bytes that the sink refused
-      pub halts_at_piece : (made : ℕ) (now last : S) (at next : R) (t : Text) (refusal : Refusal) → Fed made now at → Makes history remaining at (giving t.bytes) next → refuses now (Piece t) refusal last → made + 1 ≤ most → Halted next refusal (Some last)
+      pub halts_at_piece : (made : ℕ) (now last : S) (at next : R) (t : Text) (refusal : Refusal) → Fed made now at → MakesReads history remaining at (giving t.bytes) next → refuses now (Piece t) refusal last → made + 1 ≤ most → Halted next refusal (Some last)
       halts_at_piece made now last at next t refusal f read refused within =
           let bytes = bytes_of f.pieces in (
             record { given = bytes ++ t.bytes; reads = made + 1; failed = 0; empty = 0 },
-            Makes-on reader at next bytes (bytes ++ t.bytes) made (giving t.bytes) f.makes read refl,
+            MakesReads-on reader at next bytes (bytes ++ t.bytes) made (giving t.bytes) f.makes read refl,
             inr (inl (now, bytes, t, last, received made now at f, refl, refused, refl, refl, refl, within)),
           )
 
       -- the sink refused its end
-      pub halts_at_end : (made : ℕ) (now : S) (at next : R) (refusal : Refusal) → Fed made now at → Makes history remaining at end next → ends now refusal → made + 1 ≤ most → Halted next refusal None
+      pub halts_at_end : (made : ℕ) (now : S) (at next : R) (refusal : Refusal) → Fed made now at → MakesReads history remaining at end next → ends now refusal → made + 1 ≤ most → Halted next refusal None
       halts_at_end made now at next refusal f read refused within =
           let bytes = bytes_of f.pieces in (
             record { given = bytes; reads = made + 1; failed = 0; empty = 1 },
-            Makes-on reader at next bytes bytes made end f.makes read (append-nil bytes),
+            MakesReads-on reader at next bytes bytes made end f.makes read (append-nil bytes),
             inr (inr (now, received made now at f, refused, refl, refl, refl, within)),
           )

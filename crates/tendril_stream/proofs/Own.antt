@@ -4,7 +4,7 @@ use Rattle.std.specs.List.{FoldsTo}
 use Rattle.tendril_text.specs.Texts.{Text}
 use Rattle.tendril_block.specs.declared.refusal.Refusal.{Refusal}
 use Rattle.tendril_block.specs.declared.refusal.Refusal.TheVariants.{Count, Failed, Io, Memory, SinkRefused, TooManyReads}
-use Rattle.tendril_stream.specs.Decoders.{DecodingStops, EndStops, nothing}
+use Rattle.tendril_stream.specs.Decoders.{DecodingStops, EndStops, no_piece}
 use Rattle.tendril_stream.specs.Readings.{IsOfReading}
 use Rattle.tendril_stream.specs.Sinks.{Sent, Piece, IsStop}
 
@@ -33,7 +33,7 @@ pub end_clash : {S : Type 0} (takes : S → Sent → S → Type 0) (refuses : S 
     → ((f ≡ true) × (r ≡ Failed)) ⊎ ((f ≡ false) × EndStops takes refuses ends a k r) → IsOfReading r → ⊥
 end_clash takes refuses ends a f k r h o = ⊎_elim
     (λ w. clash r Failed refl w.1 o)
-    (λ w. ⊎_elim (λ v. stop_clash refuses nothing v.1.mid v.0 r v.1.stop o) (λ v. clash r SinkRefused refl v.2 o) w.1)
+    (λ w. ⊎_elim (λ v. stop_clash refuses no_piece v.1.mid v.0 r v.1.stop o) (λ v. clash r SinkRefused refl v.2 o) w.1)
     h
 
 -- a decoder that accepted each piece hasn't failed

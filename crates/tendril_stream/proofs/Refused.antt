@@ -6,7 +6,7 @@ use Rattle.tendril_block.specs.declared.refusal.Refusal.TheVariants.{Failed}
 use Rattle.tendril_lossy.specs.Lossy.{Told, due_open, kept}
 use Rattle.tendril_stream.proofs.Own.{unfailed}
 use Rattle.tendril_stream.proofs.Stands.{stands_from_nothing}
-use Rattle.tendril_stream.specs.Compositions.{GoesOn, StandsAt, StreamStops}
+use Rattle.tendril_stream.specs.Compositions.{FollowsCalls, StandsAt, StreamStops}
 use Rattle.tendril_stream.specs.Decoders.{Decodes, DecodingStops, EndStops}
 use Rattle.tendril_stream.specs.Readings.{Halts, IsOfReading, StopsBetween}
 use Rattle.tendril_stream.specs.Reads.{Reads}
@@ -35,7 +35,7 @@ module _ {S D : Type 0} (takes : S → Sent → S → Type 0) (refuses : S → S
       (λ k. subst (λ l. EndStops takes refuses ends (inner d) l r) keeps k.1) h
 
   -- while it was read into, as a new one
-  pub stream_stops : (ends : S → Refusal → Type 0) (after : S → List Told → Type 0) → GoesOn takes after → (sink : S) (d : D) (most : ℕ) (these : Reads) (r : Refusal) (handed : Option D)
+  pub stream_stops : (ends : S → Refusal → Type 0) (after : S → List Told → Type 0) → FollowsCalls takes after → (sink : S) (d : D) (most : ℕ) (these : Reads) (r : Refusal) (handed : Option D)
       → inner d ≡ sink → held d ≡ [] → failed d ≡ false → after sink []
       → Halts (λ d e n. (failed d ≡ false) × (failed n ≡ false) × Decodes takes (inner d) (held d) e (inner n) (held n))
       (λ d e r n. (failed n ≡ true) × (((failed d ≡ true) × (r ≡ Failed) × (inner n ≡ inner d)) ⊎ ((failed d ≡ false) × DecodingStops takes refuses (inner d) (held d) e r (inner n))))

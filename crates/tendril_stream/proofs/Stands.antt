@@ -5,8 +5,8 @@ use Rattle.tendril_text.specs.Texts.{Text}
 use Rattle.tendril_lossy.proofs.Lossy.{lossy-nil}
 use Rattle.tendril_lossy.proofs.Streams.{due_open-append, kept-append, due-append}
 use Rattle.tendril_lossy.specs.Lossy.{Told, due, due_open, kept, cut_bytes, closed_of}
-use Rattle.tendril_stream.specs.Compositions.{GoesOn, StandsAt}
-use Rattle.tendril_stream.specs.Decoders.{Decodes, Ends, nothing}
+use Rattle.tendril_stream.specs.Compositions.{FollowsCalls, StandsAt}
+use Rattle.tendril_stream.specs.Decoders.{Decodes, Ends, no_piece}
 use Rattle.tendril_stream.specs.Sinks.{Sent, Piece, told, told_of, Feeds}
 
 abbrev pub bytes_of : List Text → List ℕ
@@ -18,7 +18,7 @@ due_nil = ap (flat_map closed_of) lossy-nil
 finish : (b : List ℕ) → due b ≡ due_open b ++ due (kept b)
 finish b = ap due (sym (append-nil b)) ∙ due-append b [] ∙ ap (λ l. due_open b ++ due l) (append-nil (kept b))
 
-module _ {S : Type 0} (takes : S → Sent → S → Type 0) (after : S → List Told → Type 0) (goes : GoesOn takes after) where
+module _ {S : Type 0} (takes : S → Sent → S → Type 0) (after : S → List Told → Type 0) (goes : FollowsCalls takes after) where
   sent_on : (t : List Told) (a : S) (es : List Sent) (b : S) → after a t → FoldsTo takes a es b → after b (t ++ told es)
   sent_on t a [] b h f = subst (after b) (sym (append-nil t)) (subst (λ s. after s t) f h)
   sent_on t a (e ∷ es) b h f = subst (after b) (append_assoc t (told_of e) (told es)) (sent_on (t ++ told_of e) f.0 es b (goes t a e f.0 h f.1) f.2)
@@ -36,7 +36,7 @@ module _ {S : Type 0} (takes : S → Sent → S → Type 0) (after : S → List 
   }
 
   pub ends_at : {O : Type 0} (finishes : S → O → Type 0) (sink : S) (k b : List ℕ) (out : O) → StandsAt after sink k b → Ends takes finishes sink k out → (last : S) × after last (due b) × finishes last out
-  ends_at finishes sink k b out s h = (h.0, subst (after h.0) (ap (λ x. due_open b ++ due x) s.keeps ∙ sym (finish b)) (fed nothing (due_open b) (due k) sink h.0 s.tells h.1), h.2)
+  ends_at finishes sink k b out s h = (h.0, subst (after h.0) (ap (λ x. due_open b ++ due x) s.keeps ∙ sym (finish b)) (fed no_piece (due_open b) (due k) sink h.0 s.tells h.1), h.2)
 
   -- after many pieces
   module _ {D : Type 0} (inner : D → S) (held : D → List ℕ) (failed : D → Bool) where

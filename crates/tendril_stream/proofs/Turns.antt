@@ -2,11 +2,12 @@
 use Rattle.std.proofs.Common.{◌≡◌, ℕ, ◌≤◌, ◌<◌, List, [], ◌∷◌, ◌++◌, length, take, drop, map, flat_map, ◌⊎◌, Option, Some, None, refl, sym, ap, ◌+◌, ◌∙◌, subst, arith, append_assoc, append-nil, length-drop, length-take, inl, inr, codes}
 use Rattle.std.specs.List.{FoldsTo}
 use Rattle.std.specs.Str.{chars}
+use Rattle.std.proofs.lemmas.List.{drop-drop}
 use Rattle.std.proofs.lemmas.List.Elements.{All-weaker}
 use Rattle.std.proofs.lemmas.Str.{chars-nil}
 use Rattle.std.specs.Prelude.{IfSome}
-use Rattle.tendril_text.proofs.Decoding.{rest-through, handed-through}
-use Rattle.tendril_text.specs.Decoding.{IsHandedOn, IsRest, PopsText, broken_len, bytes_of, listed}
+use Rattle.tendril_text.proofs.Decoding.{rest-through, handed-through, long-behind}
+use Rattle.tendril_text.specs.Decoding.{IsHandedOn, IsRest, LongPieceMay, PopsText, broken_len, bytes_of, listed}
 use Rattle.tendril_text.specs.Texts.{Text, Keeps}
 use Rattle.tendril_block.specs.declared.refusal.Refusal.{Refusal}
 use Rattle.tendril_lossy.specs.Completions.{CompletesTo}
@@ -19,6 +20,10 @@ use Rattle.tendril_lossy.specs.declared.search.Ending.{Ending}
 use Rattle.tendril_lossy.specs.declared.search.Ending.TheVariants.{Whole, Broken, Open}
 use Rattle.tendril_stream.proofs.Feeds.{Feeds-append, Feeds-none, Feeds-one, Feeds-same, Stops-after, Stops-more}
 use Rattle.tendril_stream.specs.Sinks.{Sent, Piece, Fault, Feeds, IsStop, Stops, IsSentOf}
+
+-- what is left of a piece isn't longer
+rest_shorter : (input rest : List ℕ) (n : ℕ) → rest ≡ drop n input → length rest ≤ length input
+rest_shorter input rest n is = omega (arith, ap length is, length-drop n input)
 
 -- what is told of an ending, before the rest
 abbrev pub told_by : Ending → List Told
@@ -76,24 +81,25 @@ module _ {S : Type 0} (takes : S → Sent → S → Type 0) where
     pub due : due_open piece.bytes ≡ told ++ due_open rest.bytes
     pub keeps : kept piece.bytes ≡ kept rest.bytes
     pub part : IsRest piece rest
-    pub less : length rest.bytes ≤ length piece.bytes
+    pub end : (n : ℕ) × (rest.bytes ≡ drop n piece.bytes)
 
   pub start : (piece : Text) (old : S) → SoFar piece old piece old
-  start piece old = record { told = []; feeds = Feeds-none takes piece old; due = refl; keeps = refl; part = inl refl; less = omega arith }
+  start piece old = record { told = []; feeds = Feeds-none takes piece old; due = refl; keeps = refl; part = inl refl; end = (0, refl) }
 
   -- one more text, and then one more replacement where it is broken
   pub more : (piece b c : Text) (old s u v : S) (text : Option Text) (ending : Ending) → SoFar piece old b s → PopsText b text ending c → FoldsTo (λ s t u. takes s (Piece t) u) s (listed text) u → Feeds takes piece u (told_by ending) v → SoFar piece old c v
   more piece b c old s u v text ending so h calls ends =
       let p = popped b c text ending h in
-      let less = so.less in
-      let shorter : length c.bytes ≤ length b.bytes = omega (arith, ap length h.rest, length-drop (length (bytes_of text) + broken_len ending) b.bytes) in
+      let less = rest_shorter piece.bytes b.bytes so.end.0 so.end.1 in
+      let taken = length (bytes_of text) + broken_len ending in
+      let shorter : length c.bytes ≤ length b.bytes = rest_shorter b.bytes c.bytes taken h.rest in
       let one = sends piece b s u text so.part less h.handed calls in record {
         told = so.told ++ (text_told text ++ told_by ending);
         feeds = Feeds-append takes piece old s v so.told (text_told text ++ told_by ending) so.feeds (Feeds-append takes piece s u v (text_told text) (told_by ending) one ends);
         due = so.due ∙ ap (λ l. so.told ++ l) (p.due ∙ sym (append_assoc (text_told text) (told_by ending) (due_open c.bytes))) ∙ sym (append_assoc so.told (text_told text ++ told_by ending) (due_open c.bytes));
         keeps = so.keeps ∙ p.keeps;
         part = rest-through piece b c so.part (λ _. shorter) h.part;
-        less = omega (arith, less, shorter);
+        end = (so.end.0 + taken, h.rest ∙ ap (drop taken) so.end.1 ∙ drop-drop taken so.end.0 piece.bytes);
       }
 
 -- what is left where nothing breaks it
@@ -115,12 +121,24 @@ module _ {S : Type 0} (takes : S → Sent → S → Type 0) (refuses : S → Sen
   pub stopped : (piece b c : Text) (old s u v : S) (text : Option Text) (k : ℕ) (r : Refusal) → SoFar takes piece old b s → PopsText b text (Broken k) c → FoldsTo (λ s t u. takes s (Piece t) u) s (listed text) u → Stops takes refuses piece u (replaced (codes "invalid byte sequence")) r v → Stops takes refuses piece old (due_open piece.bytes) r v
   stopped piece b c old s u v text k r so h calls stop =
       let p = popped b c text (Broken k) h in
-      let one = sends takes piece b s u text so.part so.less h.handed calls in
+      let one = sends takes piece b s u text so.part (rest_shorter piece.bytes b.bytes so.end.0 so.end.1) h.handed calls in
       Stops-after takes refuses piece old s v so.told (due_open b.bytes) (due_open piece.bytes) r so.feeds
       (Stops-after takes refuses piece s u v (text_told text) (replaced (codes "invalid byte sequence") ++ due_open c.bytes) (due_open b.bytes) r one
       (Stops-more takes refuses piece u v (replaced (codes "invalid byte sequence")) (due_open c.bytes) (replaced (codes "invalid byte sequence") ++ due_open c.bytes) r stop refl)
       (sym p.due))
       (sym so.due)
+
+  -- the next text is refused
+  pub unpopped : (piece b : Text) (old s : S) (r : Refusal) → SoFar takes piece old b s → LongPieceMay b.bytes r → Stops takes refuses piece old (due_open piece.bytes) r s
+  unpopped piece b old s r so may = record {
+    sent = so.feeds.sent;
+    each = so.feeds.each;
+    mid = s;
+    calls = so.feeds.calls;
+    rest = due_open b.bytes;
+    front = ap (λ l. l ++ due_open b.bytes) so.feeds.tells ∙ sym so.due;
+    stop = inl (long-behind piece.bytes b.bytes so.end.0 r so.end.1 may, refl);
+  }
 
 -- what is sent of a part is sent of the piece
 
@@ -128,12 +146,15 @@ sent_through : (piece rest : Text) → IsRest piece rest → length rest.bytes �
 sent_through piece rest part less (Piece t) h = handed-through piece rest part less t h
 sent_through piece rest part less (Fault words) h = tt
 
-module _ {S : Type 0} (takes : S → Sent → S → Type 0) (refuses : S → Sent → Refusal → S → Type 0) (piece rest : Text) (part : IsRest piece rest) (less : length rest.bytes ≤ length piece.bytes) where
+module _ {S : Type 0} (takes : S → Sent → S → Type 0) (refuses : S → Sent → Refusal → S → Type 0) (piece rest : Text) (part : IsRest piece rest) (end : (n : ℕ) × (rest.bytes ≡ drop n piece.bytes)) where
+  less : length rest.bytes ≤ length piece.bytes
+  less = rest_shorter piece.bytes rest.bytes end.0 end.1
+
   pub Feeds-through : (a b : S) (told : List Told) → Feeds takes rest a told b → Feeds takes piece a told b
   Feeds-through a b told h = record { sent = h.sent; each = All-weaker (IsSentOf rest) (IsSentOf piece) (sent_through piece rest part less) h.sent h.each; calls = h.calls; tells = h.tells }
 
   stop_through : (mid new : S) (r : Refusal) → IsStop refuses rest mid r new → IsStop refuses piece mid r new
-  stop_through mid new r (inl k) = let long = k.0.1 in inl ((k.0.0, omega (arith, long, less)), k.1)
+  stop_through mid new r (inl k) = inl (long-behind piece.bytes rest.bytes end.0 r end.1 k.0, k.1)
   stop_through mid new r (inr k) = inr k
 
   pub Stops-through : (a b : S) (told : List Told) (r : Refusal) → Stops takes refuses rest a told r b → Stops takes refuses piece a told r b
@@ -149,10 +170,6 @@ short_handed piece t k input rest some h copied =
       within = λ long. absurd (omega (arith, len, long));
       part = (λ long. absurd (omega (arith, len, long)), λ _. omega (arith, len, copied));
     }
-
--- what is left of a piece isn't longer
-pub rest_shorter : (input rest : List ℕ) (n : ℕ) → rest ≡ drop n input → length rest ≤ length input
-rest_shorter input rest n is = omega (arith, ap length is, length-drop n input)
 
 -- what a pop left
 pub rest_kept : (piece rest : Text) → Keeps piece rest → IsRest piece rest

@@ -9,8 +9,8 @@ use Rattle.tendril_stream.specs.Reads.{Reads}
 use Rattle.tendril_stream.specs.Sinks.{Sent, Piece, Stops, told_of}
 
 -- what is known of a sink after it was told a list is known of it after an accepted call too, with what that tells behind
-abbrev pub GoesOn : {S : Type 0} → (S → Sent → S → Type 0) → (S → List Told → Type 0) → Type 0
-GoesOn {S} takes after = (told : List Told) (a : S) (e : Sent) (b : S) → after a told → takes a e b → after b (told ++ told_of e)
+abbrev pub FollowsCalls : {S : Type 0} → (S → Sent → S → Type 0) → (S → List Told → Type 0) → Type 0
+FollowsCalls {S} takes after = (told : List Told) (a : S) (e : Sent) (b : S) → after a told → takes a e b → after b (told ++ told_of e)
 
 -- a decoder that keeps k, over a sink that was told what is due of b, where k is the cut end of b
 pub record StandsAt {S : Type 0} (after : S → List Told → Type 0) (sink : S) (k b : List ℕ) : Type 0 where

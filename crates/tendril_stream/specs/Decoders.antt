@@ -1,5 +1,5 @@
 -- What a decoder does to its inner sink.
-use Rattle.std.specs.Prelude.{◌≡◌, ℕ, ◌≤◌, ◌⊎◌, Bool, true, false, List, [], ◌++◌, length}
+use Rattle.std.specs.Prelude.{◌≡◌, ℕ, ◌⊎◌, Bool, true, false, List, [], ◌++◌, drop}
 use Rattle.tendril_text.specs.Decoding.{IsRest}
 use Rattle.tendril_text.specs.Texts.{Text}
 use Rattle.tendril_block.specs.declared.refusal.Refusal.{Refusal}
@@ -8,14 +8,14 @@ use Rattle.tendril_lossy.specs.Lossy.{Told, due, due_open, kept}
 use Rattle.tendril_stream.specs.Sinks.{Sent, Piece, Fault, Feeds, Stops}
 
 -- no piece: at the end of a stream a decoder sends short texts alone
-abbrev pub nothing : Text
-nothing = record { bytes = []; copied = 0 }
+abbrev pub no_piece : Text
+no_piece = record { bytes = []; copied = 0 }
 
 -- What is told of the kept bytes k and the piece, after they were completed or more is kept. Where they were completed,
 -- the rest of the piece is left, and nothing is kept.
-abbrev pub Resumes : {S : Type 0} → (S → Sent → S → Type 0) → S → List ℕ → Text → Bool → S → List ℕ → Text → Type 0
-Resumes takes old k piece true new next rest = (told : List Told) × Feeds takes piece old told new × (due_open (k ++ piece.bytes) ≡ told ++ due_open rest.bytes) × (kept (k ++ piece.bytes) ≡ kept rest.bytes) × (next ≡ []) × IsRest piece rest × (length rest.bytes ≤ length piece.bytes)
-Resumes takes old k piece false new next rest = (new ≡ old) × (due_open (k ++ piece.bytes) ≡ []) × (next ≡ kept (k ++ piece.bytes))
+abbrev pub ResumesPiece : {S : Type 0} → (S → Sent → S → Type 0) → S → List ℕ → Text → Bool → S → List ℕ → Text → Type 0
+ResumesPiece takes old k piece true new next rest = (told : List Told) × Feeds takes piece old told new × (due_open (k ++ piece.bytes) ≡ told ++ due_open rest.bytes) × (kept (k ++ piece.bytes) ≡ kept rest.bytes) × (next ≡ []) × IsRest piece rest × ((n : ℕ) × (rest.bytes ≡ drop n piece.bytes))
+ResumesPiece takes old k piece false new next rest = (new ≡ old) × (due_open (k ++ piece.bytes) ≡ []) × (next ≡ kept (k ++ piece.bytes))
 
 -- an accepted call of a decoder that kept k
 abbrev pub Decodes : {S : Type 0} → (S → Sent → S → Type 0) → S → List ℕ → Sent → S → List ℕ → Type 0
@@ -29,10 +29,10 @@ DecodingStops takes refuses old k (Fault words) refusal new = (refusal ≡ SinkR
 
 -- an accepted end
 abbrev pub Ends : {S O : Type 0} → (S → Sent → S → Type 0) → (S → O → Type 0) → S → List ℕ → O → Type 0
-Ends {S} takes finishes old k out = (last : S) × Feeds takes nothing old (due k) last × finishes last out
+Ends {S} takes finishes old k out = (last : S) × Feeds takes no_piece old (due k) last × finishes last out
 
 -- a refused end: of a call before the sink's own, or of that
 abbrev pub EndStops : {S : Type 0} → (S → Sent → S → Type 0) → (S → Sent → Refusal → S → Type 0) → (S → Refusal → Type 0) → S → List ℕ → Refusal → Type 0
 EndStops {S} takes refuses ends old k refusal =
-    ((last : S) × Stops takes refuses nothing old (due k) refusal last)
-    ⊎ ((last : S) × Feeds takes nothing old (due k) last × (refusal ≡ SinkRefused) × ((r : Refusal) × ends last r))
+    ((last : S) × Stops takes refuses no_piece old (due k) refusal last)
+    ⊎ ((last : S) × Feeds takes no_piece old (due k) last × (refusal ≡ SinkRefused) × ((r : Refusal) × ends last r))

@@ -11,8 +11,8 @@ use Rattle.tendril_stream.specs.declared.reading.Part.{Part}
 use Rattle.tendril_stream.specs.declared.reading.Part.TheVariants.{Bytes, Interrupted, End}
 
 -- a reader made these reads, and where it tells what it will give, it has given that
-abbrev pub Makes : {R : Type 0} → (R → Reads) → (R → Option (List ℕ)) → R → Reads → R → Type 0
-Makes history remaining old these new = ReadsOn (history old) these (history new) × Consumes (remaining old) (remaining new) these.given × AddUp these
+abbrev pub MakesReads : {R : Type 0} → (R → Reads) → (R → Option (List ℕ)) → R → Reads → R → Type 0
+MakesReads history remaining old these new = ReadsOn (history old) these (history new) × Consumes (remaining old) (remaining new) these.given × AddUp these
 
 -- the read that came to this
 abbrev pub reads_of : {A B : _} → Part A B → Reads
@@ -68,4 +68,4 @@ Fills most these (Err refusal) len =
 
 -- all that was read went behind a text, and the answer is how many bytes that is
 abbrev pub Adds : {R : Type 0} → (R → Reads) → (R → Option (List ℕ)) → ℕ → R → R → Text → Text → Result ℕ Refusal → Type 0
-Adds history remaining most reader reader' text text' result = (these : Reads) × Makes history remaining reader these reader' × (text'.bytes ≡ text.bytes ++ these.given) × IfOk result (λ n. n ≡ length these.given) × Fills most these result (length text'.bytes)
+Adds history remaining most reader reader' text text' result = (these : Reads) × MakesReads history remaining reader these reader' × (text'.bytes ≡ text.bytes ++ these.given) × IfOk result (λ n. n ≡ length these.given) × Fills most these result (length text'.bytes)

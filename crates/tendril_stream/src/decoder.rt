@@ -4,7 +4,7 @@ ghost use Rattle.tendril_lossy.specs.Lossy.{IsOpen, due, due_open, kept, replace
 ghost use Rattle.std.specs.Borrow.{Lends, sem};
 ghost use Rattle.std.specs.List.{FoldsTo};
 ghost use Rattle.tendril_text.specs.Decoding.{listed};
-ghost use Rattle.tendril_stream.specs.Decoders.{Resumes, nothing};
+ghost use Rattle.tendril_stream.specs.Decoders.{ResumesPiece, no_piece};
 ghost use Rattle.tendril_stream.specs.Sinks.{Piece, Feeds, SinkRefuses, Stops};
 
 use crate::sink::TendrilSink;
@@ -13,7 +13,7 @@ use std::borrow::CowStr;
 use std::marker::PhantomData;
 use tendril_block::Refusal;
 use tendril_lossy::Ending;
-use tendril_text::{Atomicity, ByteTendril, IncompleteUtf8, NonAtomic, StrTendril};
+use tendril_text::{Atomicity, ByteTendril, FEW_BEFORE, IncompleteUtf8, NonAtomic, StrTendril};
 
 const INVALID: &str = "invalid byte sequence";
 
@@ -210,10 +210,15 @@ fn feed_rest<S: TendrilSink<StrTendril<A>>, A: Atomicity>(
         Feeds S.takes piece sink.old (due_open piece.bytes) sink.new × (k ≡ kept piece.bytes)) }
     ensures err { IfErr result (λ r. Stops S.takes S.refuses piece sink.old (due_open piece.bytes) r sink.new) }
 {
+    let mut last = FEW_BEFORE;
     loop {
-        let (text, ending) = match piece.pop_text() {
+        let (text, ending) = match piece.pop_text_after(last) {
             Ok(found) => found,
             Err(refusal) => return Err(refusal),
+        };
+        last = match &text {
+            Some(text) => text.len32(),
+            None => 0,
         };
         if let Err(refusal) = send_some(sink, text) {
             return Err(refusal);
@@ -236,7 +241,7 @@ fn resume<S: TendrilSink<StrTendril<A>>, A: Atomicity>(
     kept: &mut IncompleteUtf8,
     piece: &mut ByteTendril<A>,
 ) -> Result<bool, Refusal>
-    ensures ok { IfOk result (λ done. Resumes S.takes sink.old kept.old piece.old done sink.new kept.new piece.new) }
+    ensures ok { IfOk result (λ done. ResumesPiece S.takes sink.old kept.old piece.old done sink.new kept.new piece.new) }
     ensures err { IfErr result (λ r.
         Stops S.takes S.refuses piece.old sink.old (due_open (kept.old ++ piece.old.bytes)) r sink.new) }
 {
@@ -293,8 +298,8 @@ fn flush<S: TendrilSink<StrTendril<A>>, A: Atomicity>(
     alloc: Global,
     held: &IncompleteUtf8,
 ) -> Result<(), Refusal>
-    ensures ok { OnOk result (Feeds S.takes nothing sink.old (due held.now) sink.new) }
-    ensures err { IfErr result (λ r. Stops S.takes S.refuses nothing sink.old (due held.now) r sink.new) }
+    ensures ok { OnOk result (Feeds S.takes no_piece sink.old (due held.now) sink.new) }
+    ensures err { IfErr result (λ r. Stops S.takes S.refuses no_piece sink.old (due held.now) r sink.new) }
 {
     if held.kept().is_empty() {
         return Ok(());

@@ -1,7 +1,7 @@
 //! Reading into a text.
 ghost use Rattle.std.specs.Prelude.{◌≡◌, ◌<◌, ◌≤◌, ◌++◌, length, take, OnOk, IfErr};
 ghost use Rattle.std.specs.Io.KnownBytes.{IsAtEnd};
-ghost use Rattle.tendril_stream.specs.Readings.{Adds, Fills, Makes};
+ghost use Rattle.tendril_stream.specs.Readings.{Adds, Fills, MakesReads};
 ghost use Rattle.tendril_stream.specs.Reads.{Reads};
 
 use crate::counted_read::{CountedRead, ReadFault};
@@ -60,7 +60,7 @@ fn fill<A: Atomicity, R: CountedRead>(
     most: u64,
 ) -> (u32, Result<(), Refusal>)
     ensures within { result.0 ≤ length text.new.bytes }
-    ensures read { (these : Reads) × Makes R.history R.remaining reader.old these reader.new
+    ensures read { (these : Reads) × MakesReads R.history R.remaining reader.old these reader.new
         × (take result.0 text.new.bytes ≡ text.old.bytes ++ these.given) × Fills most these result.1 result.0 }
     ensures end { OnOk result.1 (IsAtEnd (R.remaining reader.new)) }
 {

@@ -4,7 +4,7 @@ ghost use Rattle.std.specs.Io.KnownBytes.{IsAtEnd, Keeps, ReadConsumes};
 ghost use Rattle.tendril_lossy.specs.Lossy.{due};
 ghost use Rattle.tendril_stream.specs.Compositions.{StandsAt, StreamStops};
 ghost use Rattle.tendril_stream.specs.Events.{sent};
-ghost use Rattle.tendril_stream.specs.Readings.{EndsAt, Halts, IsOfReading, Makes, ReadsAll, StopsBetween, reads_of};
+ghost use Rattle.tendril_stream.specs.Readings.{EndsAt, Halts, IsOfReading, MakesReads, ReadsAll, StopsBetween, reads_of};
 ghost use Rattle.tendril_stream.specs.Reads.{Reads, ReadsOn, failure, read_of};
 ghost use Rattle.tendril_stream.specs.Sinks.{told};
 
@@ -39,9 +39,9 @@ pub fn read_from<A: Atomicity, S: TendrilSink<ByteTendril<A>>, R: CountedRead>(
     reader: &mut R,
     most: u64,
 ) -> Result<S::Output, Stopped<S>>
-    ensures ok { IfOk result (λ out. (these : Reads) × Makes R.history R.remaining reader.old these reader.new
+    ensures ok { IfOk result (λ out. (these : Reads) × MakesReads R.history R.remaining reader.old these reader.new
         × IsAtEnd (R.remaining reader.new) × ReadsAll S.takes S.finishes most sink these out) }
-    ensures stopped { IfErr result (λ s. (these : Reads) × Makes R.history R.remaining reader.old these reader.new
+    ensures stopped { IfErr result (λ s. (these : Reads) × MakesReads R.history R.remaining reader.old these reader.new
         × Halts S.takes S.refuses S.ends most sink these s.refusal s.sink) }
 {
     let mut made = 0;
@@ -112,10 +112,10 @@ pub fn decode_reader<A: Atomicity, R: CountedRead>(
     reader: &mut R,
     most: u64,
 ) -> Result<Vec<Event<A>>, Stopped<Utf8LossyDecoder<Accumulate<A>, A>>>
-    ensures ok { IfOk result (λ events. (these : Reads) × Makes R.history R.remaining reader.old these reader.new
+    ensures ok { IfOk result (λ events. (these : Reads) × MakesReads R.history R.remaining reader.old these reader.new
         × IsAtEnd (R.remaining reader.new) × (told (sent events.items) ≡ due these.given)
         × (these.failed ≡ 0) × (these.empty ≡ 1) × (these.reads ≤ most)) }
-    ensures stopped { IfErr result (λ s. (these : Reads) × Makes R.history R.remaining reader.old these reader.new
+    ensures stopped { IfErr result (λ s. (these : Reads) × MakesReads R.history R.remaining reader.old these reader.new
         × (IsOfReading s.refusal → StopsBetween most these s.refusal × (these.empty ≡ 0)
         × ((d : _) × (s.sink ≡ Some d) × (d.failed ≡ false)
         × StandsAt (λ a t. told (sent a.events.items) ≡ t) d.inner_sink d.kept these.given))
@@ -135,11 +135,11 @@ pub fn read_decoded<A: Atomicity, S: TendrilSink<StrTendril<A>>, R: CountedRead>
     reader: &mut R,
     most: u64,
 ) -> Result<S::Output, Stopped<Utf8LossyDecoder<S, A>>>
-    ensures ok { IfOk result (λ out. (these : Reads) × Makes R.history R.remaining reader.old these reader.new
+    ensures ok { IfOk result (λ out. (these : Reads) × MakesReads R.history R.remaining reader.old these reader.new
         × IsAtEnd (R.remaining reader.new)
         × ReadsAll ⟦<Utf8LossyDecoder<S, A> as TendrilSink<ByteTendril<A>>>⟧.takes
         ⟦<Utf8LossyDecoder<S, A> as TendrilSink<ByteTendril<A>>>⟧.finishes most decoder these out) }
-    ensures stopped { IfErr result (λ s. (these : Reads) × Makes R.history R.remaining reader.old these reader.new
+    ensures stopped { IfErr result (λ s. (these : Reads) × MakesReads R.history R.remaining reader.old these reader.new
         × Halts ⟦<Utf8LossyDecoder<S, A> as TendrilSink<ByteTendril<A>>>⟧.takes
         ⟦<Utf8LossyDecoder<S, A> as TendrilSink<ByteTendril<A>>>⟧.refuses
         ⟦<Utf8LossyDecoder<S, A> as TendrilSink<ByteTendril<A>>>⟧.ends most decoder these s.refusal s.sink) }
@@ -160,11 +160,11 @@ fn read_part<A: Atomicity, R: CountedRead>(
     alloc: Global,
     reader: &mut R,
 ) -> Result<Part<A>, Refusal>
-    ensures part { IfOk result (λ part. Makes R.history R.remaining reader.old (reads_of part) reader.new) }
+    ensures part { IfOk result (λ part. MakesReads R.history R.remaining reader.old (reads_of part) reader.new) }
     ensures end { IfOk result (λ part. EndsAt part (R.remaining reader.new)) }
     ensures err { IfErr result (λ r.
         ((r ≡ Refusal.Memory) × (reader.new ≡ reader.old))
-        ⊎ ((r ≡ Refusal.Io) × Makes R.history R.remaining reader.old failure reader.new)) }
+        ⊎ ((r ≡ Refusal.Io) × MakesReads R.history R.remaining reader.old failure reader.new)) }
 {
     let mut piece = ByteTendril::new(alloc);
     piece.push_uninitialized(PIECE)?;

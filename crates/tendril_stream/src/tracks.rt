@@ -6,11 +6,11 @@ use crate::sink::{Streamed, TendrilSink};
 pub trait Tracks<T: Streamed>: TendrilSink<T> {
     ghost use Rattle.std.specs.Prelude.{List};
     ghost use Rattle.tendril_lossy.specs.Lossy.{Told};
-    ghost use Rattle.tendril_stream.specs.Compositions.{GoesOn};
+    ghost use Rattle.tendril_stream.specs.Compositions.{FollowsCalls};
 
     /// What is known of it then.
     ghost after: { Self → List Told → Type 0 };
 
     /// An accepted call goes on with that.
-    ghost goes_on: { GoesOn Self.takes after };
+    ghost goes_on: { FollowsCalls Self.takes after };
 }

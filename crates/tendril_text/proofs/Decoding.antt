@@ -8,15 +8,16 @@ use Rattle.std.proofs.lemmas.Str.{chars-nil, chars_from_encodes}
 use Rattle.std.specs.List.{All, FoldsTo}
 use Rattle.std.specs.Prelude.{IfSome, MatchResult, chars, encode_utf8}
 use lib.Utf8.{encode}
+use Rattle.tendril_block.specs.declared.refusal.Refusal.{Refusal}
 use Rattle.tendril_lossy.proofs.Lossy.{lossy-nil}
-use Rattle.tendril_lossy.proofs.Completions.{IsFirstPart, rest_items}
+use Rattle.tendril_lossy.proofs.Completions.{IsFirstPart, rest_items, open_len}
 use Rattle.tendril_lossy.proofs.Resume.{closed-keeps, cut-keeps}
 use Rattle.tendril_lossy.proofs.Streams.{IsLossy-lossy, only_lossy}
 use Rattle.tendril_lossy.specs.Completions.{BreaksAt, CompletesTo}
 use Rattle.tendril_lossy.specs.Lossy.{EndsWithin, Item, Told, Keep, Bad, Cut, Char, Mark, IsLossy, IsOpen, lossy, items_after, closed_of, characters, due_open, cut_bytes, kept}
 use Rattle.tendril_lossy.specs.declared.search.Ending.{Ending}
 use Rattle.tendril_lossy.specs.declared.search.Ending.TheVariants.{Whole, Broken, Open}
-use Rattle.tendril_text.specs.Decoding.{DecodesPiece, IsHandedOn, IsRest, HandsOn, HandsOnUpTo, Hands, Leaves, PopsText, broken_len, bytes_of, listed}
+use Rattle.tendril_text.specs.Decoding.{BothShare, LongPieceMay, DecodesPiece, IsHandedOn, IsRest, HandsOn, HandsOnUpTo, Hands, Leaves, PopsText, broken_len, bytes_of, listed}
 use Rattle.tendril_storage.specs.Partings.{IsParted}
 use Rattle.tendril_storage.specs.Texts.{Text, IsPart, Keeps}
 
@@ -103,6 +104,35 @@ popped old mid new front ending text p within taken end part =
         let h = subst (IsLossy (drop (length front) old.bytes)) items (IsLossy-lossy (drop (length front) old.bytes)) in
         let is = rest ∙ none in
         (ap (λ l. Cut l ∷ []) (sym is), subst (λ l. 0 < length l) (sym is) h.0, subst IsOpen (sym is) h.2)
+
+-- where the first text and the rest are both long, a broken sequence stands between them
+pub both_share : (b front : List ℕ) (ending : Ending) → IsFirstPart b front ending → 8 < length front → 8 + length front < length b → BothShare b
+both_share b front ending p text rest = by ending p
+  where
+    n : ℕ
+    n = length front
+
+    by : (e : Ending) → IsFirstPart b front e → BothShare b
+    by Whole q =
+        let nil : drop n b ≡ [] = subst (IsLossy (drop n b)) (rest_items b front Whole q) (IsLossy-lossy (drop n b)) in
+        absurd (omega (arith, ap length nil, length-drop n b, rest))
+    by (Broken k) q = record { front = front; broken = k; is = q.front_is; items = q.items; text = text; rest = rest }
+    by Open q =
+        let h = subst (IsLossy (drop n b)) (rest_items b front Open q) (IsLossy-lossy (drop n b)) in
+        absurd (omega (arith, open_len (drop n b) h.2, length-drop n b, rest))
+
+-- what is so of an end of bytes
+pub long-behind : (a b : List ℕ) (n : ℕ) (r : Refusal) → b ≡ drop n a → LongPieceMay b r → LongPieceMay a r
+long-behind a b n r is k =
+    let at = k.1.0 in
+    (k.0, (n + at, subst BothShare (ap (drop at) is ∙ drop-drop at n a) k.1.1))
+
+pub long-some : (b : List ℕ) (r : Refusal) → LongPieceMay b r → 17 < length b
+long-some b r k =
+    let at = k.1.0 in
+    let text = k.1.1.text in
+    let rest = k.1.1.rest in
+    omega (arith, text, rest, length-drop at b)
 
 -- what is handed on, text by text
 

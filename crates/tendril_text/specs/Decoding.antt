@@ -9,9 +9,18 @@ use Rattle.tendril_lossy.specs.Completions.{BreaksAt, CompletesTo}
 use Rattle.tendril_lossy.specs.Lossy.{Item, Told, Keep, Bad, Cut, IsOpen, lossy, closed_of, characters, due_open, kept}
 use Rattle.tendril_storage.specs.Texts.{Text, IsPart, Keeps}
 
--- no state rules out that the count is full where the bytes b are enough for a text and a rest that both share them
+-- before the first broken sequence stands a text of more than 8 bytes, and with it begin more than 8
+pub record BothShare (b : List ℕ) : Type 0 where
+  pub front : List ℕ
+  pub broken : ℕ
+  pub is : front ≡ take (length front) b
+  pub items : lossy b ≡ map Keep (chars front) ++ (Bad broken ∷ lossy (drop (length front + broken) b))
+  pub text : 8 < length front
+  pub rest : 8 + length front < length b
+
+-- no state rules out that the count is full where a text and a rest both share an end of the bytes b
 abbrev pub LongPieceMay : List ℕ → Refusal → Type 0
-LongPieceMay b r = (r ≡ Count) × (17 < length b)
+LongPieceMay b r = (r ≡ Count) × ((at : ℕ) × BothShare (drop at b))
 
 -- A text that is handed on of a piece. It isn't empty, it is short or no longer than the piece, and copied no bytes but
 -- those that the piece had, or few.

@@ -13,7 +13,10 @@ use crate::tendril::Tendril;
 use std::marker::Model;
 use tendril_block::{Atomicity, Refusal};
 use tendril_fmt::fmt::{Bytes, Encoded, Format, UTF8};
-use tendril_lossy::{Completion, Ending, ShortText, complete, first_part};
+use tendril_lossy::{Completion, Ending, ShortText, complete, first_part_by};
+
+/// So few bytes of text before a broken sequence let another one be expected near.
+pub const FEW_BEFORE: u32 = 16;
 
 const REPLACEMENT: &str = "\u{FFFD}";
 
@@ -245,8 +248,13 @@ impl<A: Atomicity> Tendril<Bytes, A> {
             HandsOnUpTo (λ p t u q. P.step p (⟦<Tendril<UTF8, A> as Handed<T>>⟧.handed t) u q)
             push_utf8.old self.old self.new push_utf8.new) }
     {
+        let mut last = FEW_BEFORE;
         loop {
-            let (text, ending) = self.pop_text()?;
+            let (text, ending) = self.pop_text_after(last)?;
+            last = match &text {
+                Some(text) => text.len32(),
+                None => 0,
+            };
             push_some(push_utf8, text);
             match ending {
                 Ending::Whole => return Ok(None),
@@ -268,7 +276,20 @@ impl<A: Atomicity> Tendril<Bytes, A> {
         ensures { Outcome NoneMust (LongPieceMay self.old.bytes)
             (λ found new. PopsText self.old found.0 found.1 new) self.old result self.new }
     {
-        let (front, ending) = first_part(self.as_byte_slice());
+        self.pop_text_after(FEW_BEFORE)
+    }
+
+    /// The same behind a broken sequence that stood behind so many bytes of text. Where they were few, the next broken
+    /// sequence is looked for among few bytes first.
+    pub fn pop_text_after(
+        &mut self,
+        last: u32,
+    ) -> Result<(Option<Tendril<UTF8, A>>, Ending), Refusal>
+        ensures { Outcome NoneMust (LongPieceMay self.old.bytes)
+            (λ found new. PopsText self.old found.0 found.1 new) self.old result self.new }
+    {
+        let window = if last < FEW_BEFORE { 16 } else { 128 };
+        let (front, ending) = first_part_by(self.as_byte_slice(), window);
         let text = match front.len() {
             0 => None,
             count => {

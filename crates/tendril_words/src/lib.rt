@@ -13,6 +13,3 @@ pub use byte_list::ByteList;
 pub use hexadecimal::{byte, bytes, hex_of};
 pub use line::split_words;
 pub use numbers::{number, scalar};
-
-#[cfg(test)]
-mod tests;

@@ -42,6 +42,14 @@ impl<K: Kind> Handle<K> {
         }
     }
 
+    /// The only holder of a node that is nobody's.
+    pub(crate) fn from_node(mut node: Box<Node>, limit: u64) -> Handle<K>
+        ensures { (result.limit ≡ limit) × (result.inner ≡ node.value.body) }
+    {
+        node.count = 1;
+        Handle::of(Loose::of(node), limit)
+    }
+
     // The first holder of a node whose word is 1.
     fn of(loose: Loose<Node, Global>, _limit: u64) -> Handle<K>
         requires { loose.value.count ≡ 1 }
@@ -74,13 +82,13 @@ impl<K: Kind> Handle<K> {
     }
 
     // One more holder, where the word is still the one that was seen. Else the word.
-    fn join_at(&self, alloc: Global, seen: u64, next: u64) -> Result<Handle<K>, u64>
+    fn add_at(&self, alloc: Global, seen: u64, next: u64) -> Result<Handle<K>, u64>
         requires below { seen < limit self.now.limit }
         requires next { next ≡ seen + 1 }
         ensures { IfOk result (λ b. (b.limit ≡ self.now.limit) × (b.inner ≡ self.now.inner)) }
     {
         let node = self.node;
-        let found = unsafe { K::join(&raw mut (*node).count, seen, next) };
+        let found = unsafe { K::add(&raw mut (*node).count, seen, next) };
         if found == seen {
             Ok(Handle {
                 node,
@@ -103,7 +111,7 @@ impl<K: Kind> Handle<K> {
                 return None;
             }
             let alloc = self.body().allocator();
-            match self.join_at(alloc, seen, seen + 1) {
+            match self.add_at(alloc, seen, seen + 1) {
                 Ok(block) => return Some(block),
                 Err(found) => seen = found,
             }
@@ -139,12 +147,12 @@ impl<K: Kind> Handle<K> {
         Ok(Last { node, alloc })
     }
 
-    /// The body alone, or the holder back where there are others.
-    pub(crate) fn into_body(self) -> Result<Body, Handle<K>>
-        ensures { MatchResult result (λ v. v ≡ self.inner) (λ b. b ≡ self) }
+    /// The node, which is nobody's then, or the holder back where there are others.
+    pub(crate) fn into_node(self) -> Result<Box<Node>, Handle<K>>
+        ensures { MatchResult result (λ n. n.value.body ≡ self.inner) (λ b. b ≡ self) }
     {
         match self.take_alone() {
-            Ok(last) => Ok(Box::into_inner(last.free().into_box()).body),
+            Ok(last) => Ok(last.free().into_box()),
             Err(block) => Err(block),
         }
     }

@@ -36,7 +36,7 @@ impl Kind for OneThread {
         unsafe { *word }
     }
 
-    unsafe fn join(word: *mut u64, seen: u64, next: u64) -> u64 {
+    unsafe fn add(word: *mut u64, seen: u64, next: u64) -> u64 {
         let found = unsafe { *word };
         if found == seen {
             unsafe {

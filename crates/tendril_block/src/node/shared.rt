@@ -25,7 +25,7 @@ impl Kind for AnyThread {
         unsafe { raw::load::<Brand>(word, SeqCst) }
     }
 
-    unsafe fn join(word: *mut u64, seen: u64, next: u64) -> u64 {
+    unsafe fn add(word: *mut u64, seen: u64, next: u64) -> u64 {
         unsafe { exchange::<Brand>(word, seen, next) }
     }
 

@@ -1,10 +1,11 @@
 //! The words that the program gets of the arguments that it is started with.
 
-use super::Seen;
+use super::{Due, Seen, USAGE, check};
 use crate::arguments::program_with_arguments;
 use std::alloc::Global;
 use std::env::FillError;
 use std::rt::Env;
+use std::test::Fail;
 
 /// A program's name and its arguments, with a space between each two.
 #[derive(Drop)]
@@ -40,51 +41,30 @@ fn run_with(alloc: Global, arguments: &[u8]) -> Seen {
     Seen { status, out, err }
 }
 
-#[test]
-fn the_words_are_the_arguments_behind_the_name(rt: HostRuntime) {
-    for arguments in [
-        b"tendril".as_slice(),
-        b"tendril run",
-        b"run",
-        b"\xc5\x91 run",
-    ] {
-        let seen = run_with(rt.alloc(), arguments);
-        assert_eq!(rt; seen.status, 0);
-        assert_eq!(rt; seen.out.as_slice(), b"slot 0\nbytes -\n".as_slice());
-        assert_eq!(rt; seen.err.as_slice(), b"".as_slice());
-    }
-}
+const ANSWERED: Due<'static> = (0, b"slot 0\nbytes -\n", b"");
+
+// The words are the arguments behind the name. An argument that isn't UTF-8 is an unknown word.
+const ARGUMENTS: [(&[u8], Due<'static>); 14] = [
+    (b"tendril", ANSWERED),
+    (b"tendril run", ANSWERED),
+    (b"run", ANSWERED),
+    (b"\xc5\x91 run", ANSWERED),
+    (b"tendril runs", USAGE),
+    (b"tendril ", USAGE),
+    (b"tendril run ", USAGE),
+    (b"tendril  run", USAGE),
+    (b"tendril run run", USAGE),
+    (b"tendril decode decode", USAGE),
+    (b"run tendril", USAGE),
+    (b"tendril \xff", USAGE),
+    (b"tendril run \xff", USAGE),
+    (b"tendril \xed\xa0\xbd", USAGE),
+];
 
 #[test]
-fn other_arguments_print_the_usage(rt: HostRuntime) {
-    let usage = b"usage: tendril run | tendril decode\n";
-    for arguments in [
-        b"tendril runs".as_slice(),
-        b"tendril ",
-        b"tendril run ",
-        b"tendril  run",
-        b"tendril run run",
-        b"tendril decode decode",
-        b"run tendril",
-    ] {
-        let seen = run_with(rt.alloc(), arguments);
-        assert_eq!(rt; seen.status, 2);
-        assert_eq!(rt; seen.out.as_slice(), b"".as_slice());
-        assert_eq!(rt; seen.err.as_slice(), usage.as_slice());
+fn the_words_are_the_arguments_behind_the_name(rt: HostRuntime) -> Result<(), Fail> {
+    for (row, (arguments, due)) in ARGUMENTS.iter().enumerate() {
+        check(row, &run_with(rt.alloc(), arguments), *due)?;
     }
-}
-
-#[test]
-fn an_argument_that_is_not_utf8_is_an_unknown_word(rt: HostRuntime) {
-    let usage = b"usage: tendril run | tendril decode\n";
-    for arguments in [
-        b"tendril \xff".as_slice(),
-        b"tendril run \xff",
-        b"tendril \xed\xa0\xbd",
-    ] {
-        let seen = run_with(rt.alloc(), arguments);
-        assert_eq!(rt; seen.status, 2);
-        assert_eq!(rt; seen.out.as_slice(), b"".as_slice());
-        assert_eq!(rt; seen.err.as_slice(), usage.as_slice());
-    }
+    Ok(())
 }

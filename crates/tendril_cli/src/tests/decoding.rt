@@ -1,26 +1,30 @@
 //! What `tendril decode` writes.
 
-use super::{Breaks, Fills, run_program};
-use crate::program::program;
+use super::{Breaks, Due, check, check_filled, repeat, run_on, run_program};
 use std::io;
 use std::io::{ErrorKind, Read};
+use std::test::Fail;
+
+const DECODED: [(&[u8], &[u8]); 7] = [
+    (b"foo\xffbar", b"foo\xef\xbf\xbdbar"),
+    (b"", b""),
+    (b"xyz", b"xyz"),
+    (b"\xc5\x91\xf0\x9f\x92\xa9", b"\xc5\x91\xf0\x9f\x92\xa9"),
+    (b"\xed\xa0\xbf", b"\xef\xbf\xbd\xef\xbf\xbd\xef\xbf\xbd"),
+    (b"a\xea\x99", b"a\xef\xbf\xbd"),
+    (b"\xef\xbf\xbd", b"\xef\xbf\xbd"),
+];
 
 #[test]
-fn a_broken_sequence_is_replaced(rt: HostRuntime) {
-    for (input, decoded) in [
-        (b"foo\xffbar".as_slice(), b"foo\xef\xbf\xbdbar".as_slice()),
-        (b"", b""),
-        (b"xyz", b"xyz"),
-        (b"\xc5\x91\xf0\x9f\x92\xa9", b"\xc5\x91\xf0\x9f\x92\xa9"),
-        (b"\xed\xa0\xbf", b"\xef\xbf\xbd\xef\xbf\xbd\xef\xbf\xbd"),
-        (b"a\xea\x99", b"a\xef\xbf\xbd"),
-        (b"\xef\xbf\xbd", b"\xef\xbf\xbd"),
-    ] {
-        let seen = run_program(rt.alloc(), &["decode"], input);
-        assert_eq!(rt; seen.status, 0);
-        assert_eq!(rt; seen.out.as_slice(), decoded);
-        assert_eq!(rt; seen.err.as_slice(), b"".as_slice());
+fn a_broken_sequence_is_replaced(rt: HostRuntime) -> Result<(), Fail> {
+    for (row, (input, decoded)) in DECODED.iter().enumerate() {
+        check(
+            row,
+            &run_program(rt.alloc(), &["decode"], input),
+            (0, decoded, b""),
+        )?;
     }
+    Ok(())
 }
 
 /// A reader that gives its bytes one at a time, each after an interrupted read.
@@ -46,69 +50,55 @@ impl Read for Drips<'_> {
 }
 
 #[test]
-fn characters_come_in_several_reads(rt: HostRuntime) {
+fn characters_come_in_several_reads(rt: HostRuntime) -> Result<(), Fail> {
     let mut input = Drips {
         bytes: b"xy\xea\x99\xaez\xea\xff\x99\xaez\xf0\x9f",
         interrupted: false,
     };
-    let mut out = Vec::new(rt.alloc());
-    let mut err = Vec::new(rt.alloc());
-    let status = program(rt.alloc(), &["decode"], &mut input, &mut out, &mut err);
-    assert_eq!(rt; status, 0);
-    assert_eq!(rt;
-        out.as_slice(),
-        b"xy\xea\x99\xaez\xef\xbf\xbd\xef\xbf\xbd\xef\xbf\xbd\xef\xbf\xbdz\xef\xbf\xbd".as_slice()
-    );
-    assert_eq!(rt; err.as_slice(), b"".as_slice());
+    let decoded = b"xy\xea\x99\xaez\xef\xbf\xbd\xef\xbf\xbd\xef\xbf\xbd\xef\xbf\xbdz\xef\xbf\xbd";
+    check(
+        0,
+        &run_on(rt.alloc(), &["decode"], &mut input),
+        (0, decoded, b""),
+    )
 }
 
+const BROKEN_OFF: Due<'static> = (1, b"ab\xef\xbf\xbd", b"tendril: refused 9 Io\n");
+
 #[test]
-fn what_was_read_before_a_failed_read_is_written(rt: HostRuntime) {
-    for kind in [ErrorKind::BrokenPipe, ErrorKind::OutOfMemory] {
+fn what_was_read_before_a_failed_read_is_written(rt: HostRuntime) -> Result<(), Fail> {
+    for (row, kind) in [ErrorKind::BrokenPipe, ErrorKind::OutOfMemory]
+        .iter()
+        .enumerate()
+    {
         let mut input = Breaks {
             bytes: b"ab\xff\xc5",
-            kind,
+            kind: *kind,
         };
-        let mut out = Vec::new(rt.alloc());
-        let mut err = Vec::new(rt.alloc());
-        let status = program(rt.alloc(), &["decode"], &mut input, &mut out, &mut err);
-        assert_eq!(rt; status, 1);
-        assert_eq!(rt; out.as_slice(), b"ab\xef\xbf\xbd".as_slice());
-        assert_eq!(rt; err.as_slice(), b"tendril: refused 9 Io\n".as_slice());
+        check(
+            row,
+            &run_on(rt.alloc(), &["decode"], &mut input),
+            BROKEN_OFF,
+        )?;
     }
+    Ok(())
 }
 
 #[test]
-fn what_was_written_before_a_failed_write_stands(rt: HostRuntime) {
+fn what_was_written_before_a_failed_write_stands(rt: HostRuntime) -> Result<(), Fail> {
     let alloc = rt.alloc();
     let mut input = Vec::new(alloc);
+    repeat(&mut input, b"0123\xff\xc5\x91\xea\x99", 5000)?;
     let mut decoded = Vec::new(alloc);
-    for _ in 0..5000 {
-        input
-            .extend_from_slice(b"0123\xff\xc5\x91\xea\x99")
-            .expect(&rt, "accepted");
-        decoded
-            .extend_from_slice(b"0123\xef\xbf\xbd\xc5\x91\xef\xbf\xbd")
-            .expect(&rt, "accepted");
-    }
+    repeat(&mut decoded, b"0123\xef\xbf\xbd\xc5\x91\xef\xbf\xbd", 5000)?;
     for most in [0, 999, 20000, 59999] {
-        let mut reader = input.as_slice();
-        let mut out = Fills {
-            bytes: Vec::new(alloc),
-            most,
-            kind: ErrorKind::BrokenPipe,
-        };
-        let mut err = Vec::new(alloc);
-        let status = program(alloc, &["decode"], &mut reader, &mut out, &mut err);
-        assert_eq!(rt; status, 1);
-        assert_eq!(rt; out.bytes.len(), most);
-        assert!(rt; decoded.starts_with(out.bytes.as_slice()));
-        assert_eq!(rt;
-            err.as_slice(),
-            b"tendril: refused 10 SinkRefused\n".as_slice()
+        let fill = (most, ErrorKind::BrokenPipe);
+        let due = (
+            decoded.as_slice(),
+            b"tendril: refused 10 SinkRefused\n".as_slice(),
         );
+        check_filled(alloc, &["decode"], input.as_slice(), fill, due)?;
     }
     let seen = run_program(alloc, &["decode"], input.as_slice());
-    assert_eq!(rt; seen.status, 0);
-    assert!(rt; seen.out.as_slice() == decoded.as_slice());
+    check(4, &seen, (0, decoded.as_slice(), b""))
 }

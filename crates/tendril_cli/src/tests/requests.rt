@@ -1,4 +1,4 @@
-//! `tendril decode` with each of its requests for memory refused in turn: a session, as `tendril_bench_refusals` says, of
+//! `tendril decode` with each of its requests for memory refused in turn: a session, as `test_refusals` says, of
 //! whose crates none can call a program.
 
 use super::{Seen, run_program};
@@ -8,7 +8,7 @@ use std::test::Fail;
 /// How many requests the session makes.
 const REQUESTS: usize = 6;
 
-/// Which request is refused, as in `tendril_bench_refusals`.
+/// Which request is refused, as in `test_refusals`.
 const REFUSED: usize = 128;
 
 // Runs the session, of which the request of this number is refused, or the one behind it.

@@ -1,6 +1,6 @@
 -- Each clause from what every step keeps.
 use Rattle.std.proofs.Common.{◌≡◌, ◌⊎◌, inl, inr, ⊎_elim, ℕ, zero, suc, ◌+◌, ◌<◌, List, [], ◌∷◌, length, refl, ap, arith}
-use Rattle.tendril_count.specs.Machine.{Step, Make, Add, Alone, Done, Subtract, Free, Pass, Ended, IsEndOfWrite, Block, Writes, held, holder_at, is_held, IsCounted, IsFreedOnce, IsOnesDuty, IsWriter, IsAlone, happens}
+use Rattle.tendril_count.specs.Machine.{CountStep, Make, Add, Alone, Done, Subtract, Free, Pass, Ended, IsEndOfWrite, Block, Writes, held, holder_at, is_held, IsCounted, IsFreedOnce, IsOnesDuty, IsWriter, IsAlone, happens}
 use Rattle.tendril_count.proofs.Kept.{Kept, after_kept, is_writer, counts_at, no_more, sole}
 use Rattle.tendril_count.proofs.interleavings.Goals as goal
 
@@ -48,7 +48,7 @@ module _ (limit : ℕ) (b : Block) (kept : Kept limit b) where
   other : (k t j : ℕ) → IsWriter b k t → (j ≡ k) ⊎ (holder_at b.holders j ≡ Ended)
   other k t j is = sole b.holders j k t is (omega (arith, (writer k t is).0))
 
-  still : (k t : ℕ) (s : Step) → IsWriter b k t → (happens limit b s ≡ b) ⊎ IsEndOfWrite s k
+  still : (k t : ℕ) (s : CountStep) → IsWriter b k t → (happens limit b s ≡ b) ⊎ IsEndOfWrite s k
   still k t (Make u) is = inl (rw kept.made refl)
   still k t (Add j) is = inl (⊎_elim (λ e. rw e (rw is refl)) (λ e. rw e refl) (other k t j is))
   still k t (Alone j) is = inl (⊎_elim (λ e. rw e (rw is refl)) (λ e. rw e refl) (other k t j is))

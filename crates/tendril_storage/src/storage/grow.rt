@@ -110,7 +110,7 @@ impl<A: Atomicity> Storage<A> {
         }
     }
 
-    /// Makes room for so many more bytes, unless the bytes are shared.
+    /// Makes room for so many more bytes. Bytes that are marked shared are left as they are.
     pub fn reserve(&mut self, more: usize) -> Result<(), Refusal>
         requires { length self.old.bytes + more ≤ MAX_LEN }
         ensures bytes { self.new.bytes ≡ self.old.bytes }
@@ -122,20 +122,15 @@ impl<A: Atomicity> Storage<A> {
         if total <= INLINE {
             return Ok(());
         }
+        if self.is_shared() {
+            return Ok(());
+        }
         if self.is_mostly_dropped() && self.spill(total).is_ok() {
             return Ok(());
         }
         match &mut self.held {
             Held::Inline { .. } => self.spill(total),
-            Held::View {
-                shared,
-                block,
-                offset,
-                ..
-            } => {
-                if shared.get() {
-                    return Ok(());
-                }
+            Held::View { block, offset, .. } => {
                 reserve_alone::<A>(block, *offset as usize + total)
             }
         }

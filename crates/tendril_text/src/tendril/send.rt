@@ -54,7 +54,7 @@ impl<F: Format, A: Atomicity> Tendril<F, A> {
     }
 
     /// A text that came from another thread, in a block of this kind where it has more than 8 bytes. No byte of those is
-    /// copied; where there is no memory for the block, the text comes back.
+    /// copied, and no memory is asked for. A kind of block may refuse it, and then it comes back; none here does.
     pub fn from_send(text: SendTendril<F>) -> Result<Self, (Refusal, SendTendril<F>)>
         ensures bytes { IfOk result (λ t. t.bytes ≡ text) }
         ensures copied { IfOk result (λ t. t.copied ≡ length text) }

@@ -1,7 +1,7 @@
 use Rattle.std.proofs.Common.{◌∙◌, ◌++◌, [], ap, arith, refl}
 use Rattle.tendril_cli.proofs.DecodingLemmas.{at_first, at_none, at_some, loses_last, ready_first}
 use Rattle.tendril_cli.specs.Decodings.{behind}
-use Rattle.tendril_stream.proofs.Fed.{going, Makes-none, Makes-on}
+use Rattle.tendril_stream.proofs.Fed.{going, MakesReads-none, MakesReads-on}
 use Rattle.tendril_stream.specs.Reads.{giving}
 use Rattle.tendril_cli.proofs.decode.decode.Goals as goal
 
@@ -9,7 +9,7 @@ pub loop-made-init : goal.loop-made-init
 loop-made-init g c = (
   [],
   omega arith,
-  Makes-none g.R.CountedRead.history g.R.CountedRead.remaining c.args.reader.now,
+  MakesReads-none g.R.CountedRead.history g.R.CountedRead.remaining c.args.reader.now,
   at_first (g.W.Write.contents c.args.out.now),
   ready_first _ _ _ c.new-decoder.ensures.kept c.new-decoder.ensures.failed (ap (λ s. s.text.bytes) c.new-decoder.ensures.sink ∙ c.new.ensures),
 )
@@ -21,7 +21,7 @@ loop-made-preserved g c =
     let some = at_some _ c.in-Ok-Some.next _ _ c.in-Ok-Some.field-0-is (c.in-Ok-Some.ensures.ok (g.W.Write.contents c.args.out.now) i.0 c.loop-made.made test i.3 i.4) in (
       i.0 ++ some.0,
       omega (arith, test),
-      Makes-on g.R.CountedRead.history g.R.CountedRead.remaining c.args.reader.now c.loop-made.reader c.decode_read.new.reader i.0 (i.0 ++ some.0) c.loop-made.made (giving some.0) i.2 some.1 refl,
+      MakesReads-on g.R.CountedRead.history g.R.CountedRead.remaining c.args.reader.now c.loop-made.reader c.decode_read.new.reader i.0 (i.0 ++ some.0) c.loop-made.made (giving some.0) i.2 some.1 refl,
       some.2,
       some.3,
     )
@@ -32,7 +32,7 @@ returns-in-Ok-None-clause-ok g c =
     let test = c.loop-made-test.true in
     let none = at_none _ _ _ c.in-Ok-None.field-0-is (c.in-Ok-None.ensures.ok (g.W.Write.contents c.args.out.now) i.0 c.loop-made.made test i.3 i.4) in (
       behind i.0 c.loop-made.made none.0,
-      Makes-on g.R.CountedRead.history g.R.CountedRead.remaining c.args.reader.now c.loop-made.reader c.decode_read.new.reader i.0 (i.0 ++ none.0.given) c.loop-made.made none.0 i.2 none.1 refl,
+      MakesReads-on g.R.CountedRead.history g.R.CountedRead.remaining c.args.reader.now c.loop-made.reader c.decode_read.new.reader i.0 (i.0 ++ none.0.given) c.loop-made.made none.0 i.2 none.1 refl,
       none.2,
       none.3,
     )
@@ -43,7 +43,7 @@ returns-in-Err-clause-stops g c =
     let test = c.loop-made-test.true in
     let e = c.in-Err.ensures.stops (g.W.Write.contents c.args.out.now) i.0 c.loop-made.made test i.3 i.4 in (
       behind i.0 c.loop-made.made e.0,
-      Makes-on g.R.CountedRead.history g.R.CountedRead.remaining c.args.reader.now c.loop-made.reader c.decode_read.new.reader i.0 (i.0 ++ e.0.given) c.loop-made.made e.0 i.2 e.1 refl,
+      MakesReads-on g.R.CountedRead.history g.R.CountedRead.remaining c.args.reader.now c.loop-made.reader c.decode_read.new.reader i.0 (i.0 ++ e.0.given) c.loop-made.made e.0 i.2 e.1 refl,
       e.2,
     )
 

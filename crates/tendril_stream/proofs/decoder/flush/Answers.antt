@@ -1,7 +1,7 @@
 use Rattle.std.proofs.Common.{◌≡◌, ◌∙◌, ◌<◌, [], length, sym, subst, ap, arith, codes, append-nil}
 use Rattle.std.proofs.lemmas.Bool.Decides.{nat_tests}
 use Rattle.tendril_lossy.specs.Lossy.{due, replaced}
-use Rattle.tendril_stream.specs.Decoders.{nothing}
+use Rattle.tendril_stream.specs.Decoders.{no_piece}
 use Rattle.tendril_stream.proofs.Ends.{due_held, due_none}
 use Rattle.tendril_stream.proofs.Feeds.{Feeds-none, Feeds-same, Stops-more}
 use Rattle.tendril_stream.proofs.decoder.flush.Goals as goal
@@ -9,16 +9,16 @@ use Rattle.tendril_stream.proofs.decoder.flush.Goals as goal
 pub returns-then-is_empty-clause-ok : goal.returns-then-is_empty-clause-ok
 returns-then-is_empty-clause-ok g c =
     let none : length c.kept.result.now ≡ 0 = grind (arith, nat_tests) in
-    Feeds-same g.S.TendrilSink.takes nothing c.args.sink.now c.args.sink.now [] (due c.args.held.now) (sym (due_none c.args.held.now (sym (ap length c.kept.ensures.bytes) ∙ none))) (Feeds-none g.S.TendrilSink.takes nothing c.args.sink.now)
+    Feeds-same g.S.TendrilSink.takes no_piece c.args.sink.now c.args.sink.now [] (due c.args.held.now) (sym (due_none c.args.held.now (sym (ap length c.kept.ensures.bytes) ∙ none))) (Feeds-none g.S.TendrilSink.takes no_piece c.args.sink.now)
 
 pub returns-in-Err-clause-err : goal.returns-in-Err-clause-err
 returns-in-Err-clause-err g c =
     let some : 0 < length c.kept.result.now = grind (arith, nat_tests) in
     let held = due_held c.args.held.now c.kept.ensures.waits (subst (λ l. 0 < length l) c.kept.ensures.bytes some) in
-    Stops-more g.S.TendrilSink.takes g.S.TendrilSink.refuses nothing c.args.sink.now c.replace.new.sink (replaced (codes "incomplete byte sequence at end of stream")) [] (due c.args.held.now) c.in-Err.refusal (c.in-Err.ensures.err nothing) (append-nil _ ∙ sym held)
+    Stops-more g.S.TendrilSink.takes g.S.TendrilSink.refuses no_piece c.args.sink.now c.replace.new.sink (replaced (codes "incomplete byte sequence at end of stream")) [] (due c.args.held.now) c.in-Err.refusal (c.in-Err.ensures.err no_piece) (append-nil _ ∙ sym held)
 
 pub returns-clause-ok : goal.returns-clause-ok
 returns-clause-ok g c =
     let some : 0 < length c.kept.result.now = grind (arith, nat_tests) in
     let held = due_held c.args.held.now c.kept.ensures.waits (subst (λ l. 0 < length l) c.kept.ensures.bytes some) in
-    Feeds-same g.S.TendrilSink.takes nothing c.args.sink.now c.replace.new.sink (replaced (codes "incomplete byte sequence at end of stream")) (due c.args.held.now) (sym held) (c.in_default.ensures.ok nothing)
+    Feeds-same g.S.TendrilSink.takes no_piece c.args.sink.now c.replace.new.sink (replaced (codes "incomplete byte sequence at end of stream")) (due c.args.held.now) (sym held) (c.in_default.ensures.ok no_piece)

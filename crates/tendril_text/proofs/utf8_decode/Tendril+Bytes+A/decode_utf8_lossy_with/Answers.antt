@@ -9,22 +9,22 @@ loop-text-init g c = (search rules, start (λ p t u q. goal.P-step g p (g.bound-
 
 pub returns-in-Whole-clause-ok : goal.returns-in-Whole-clause-ok
 returns-in-Whole-clause-ok g c =
-    at_whole (λ p t u q. goal.P-step g p (g.bound-5.handed t) u q) c.args.push_utf8.now c.loop-text.push_utf8 c.push_some.new.push_utf8 c.args.self.now c.loop-text.self c.pop_text.new.self c.in_ok-text.text
-    c.loop-text.invariant.1 (subst (λ e. PopsText c.loop-text.self c.in_ok-text.text e c.pop_text.new.self) c.in-Whole.is c.in_ok-text.ensures.1) c.push_some.ensures.hands
+    at_whole (λ p t u q. goal.P-step g p (g.bound-5.handed t) u q) c.args.push_utf8.now c.loop-text.push_utf8 c.push_some.new.push_utf8 c.args.self.now c.loop-text.self c.pop_text_after.new.self c.in_ok-text.text
+    c.loop-text.invariant.1 (subst (λ e. PopsText c.loop-text.self c.in_ok-text.text e c.pop_text_after.new.self) c.in-Whole.is c.in_ok-text.ensures.1) c.push_some.ensures.hands
 
 pub new-bytes-requires : goal.new-bytes-requires
 new-bytes-requires g c =
-    let popped = subst (λ e. PopsText c.loop-text.self c.in_ok-text.text e c.pop_text.new.self) c.in-Open.is c.in_ok-text.ensures.1 in
-    omega (arith, ap length c.as_byte_slice.ensures.value, open_len c.pop_text.new.self.bytes popped.leaves.2)
+    let popped = subst (λ e. PopsText c.loop-text.self c.in_ok-text.text e c.pop_text_after.new.self) c.in-Open.is c.in_ok-text.ensures.1 in
+    omega (arith, ap length c.as_byte_slice.ensures.value, open_len c.pop_text_after.new.self.bytes popped.leaves.2)
 
 pub returns-in-Open-clause-ok : goal.returns-in-Open-clause-ok
 returns-in-Open-clause-ok g c =
-    at_open (λ p t u q. goal.P-step g p (g.bound-5.handed t) u q) c.args.push_utf8.now c.loop-text.push_utf8 c.push_some.new.push_utf8 c.args.self.now c.loop-text.self c.pop_text.new.self c.in_ok-text.text c.new-bytes.result
-    c.loop-text.invariant.1 (subst (λ e. PopsText c.loop-text.self c.in_ok-text.text e c.pop_text.new.self) c.in-Open.is c.in_ok-text.ensures.1) c.push_some.ensures.hands (c.new-bytes.ensures ∙ c.as_byte_slice.ensures.value)
+    at_open (λ p t u q. goal.P-step g p (g.bound-5.handed t) u q) c.args.push_utf8.now c.loop-text.push_utf8 c.push_some.new.push_utf8 c.args.self.now c.loop-text.self c.pop_text_after.new.self c.in_ok-text.text c.new-bytes.result
+    c.loop-text.invariant.1 (subst (λ e. PopsText c.loop-text.self c.in_ok-text.text e c.pop_text_after.new.self) c.in-Open.is c.in_ok-text.ensures.1) c.push_some.ensures.hands (c.new-bytes.ensures ∙ c.as_byte_slice.ensures.value)
 
 pub loop-text-preserved : goal.loop-text-preserved
 loop-text-preserved g c = (
   search of_calls,
-  at_broken (λ p t u q. goal.P-step g p (g.bound-5.handed t) u q) c.args.push_utf8.now c.loop-text.push_utf8 c.push_some.new.push_utf8 c.push_utf8.new.self c.args.self.now c.loop-text.self c.pop_text.new.self c.short.result c.in_ok-text.text c.in-Broken.field-0
-      c.loop-text.invariant.1 (subst (λ e. PopsText c.loop-text.self c.in_ok-text.text e c.pop_text.new.self) c.in-Broken.is c.in_ok-text.ensures.1) c.push_some.ensures.hands (rw c.hand.ensures at c.push_utf8.ensures) (record { bytes = c.short.ensures.bytes; copied = c.short.ensures.copied ∙ sym (ap length c.short.ensures.bytes) }),
+  at_broken (λ p t u q. goal.P-step g p (g.bound-5.handed t) u q) c.args.push_utf8.now c.loop-text.push_utf8 c.push_some.new.push_utf8 c.push_utf8.new.self c.args.self.now c.loop-text.self c.pop_text_after.new.self c.short.result c.in_ok-text.text c.in-Broken.field-0
+      c.loop-text.invariant.1 (subst (λ e. PopsText c.loop-text.self c.in_ok-text.text e c.pop_text_after.new.self) c.in-Broken.is c.in_ok-text.ensures.1) c.push_some.ensures.hands (rw c.hand.ensures at c.push_utf8.ensures) (record { bytes = c.short.ensures.bytes; copied = c.short.ensures.copied ∙ sym (ap length c.short.ensures.bytes) }),
 )

@@ -24,14 +24,14 @@ use Rattle.std_alloc.proofs.ArcSteps.{Settles, Lends-settled}
 use Rattle.core.specs.contracts.marker.PhantomData as marker
 use Rattle.tendril_block.specs.declared.node.kind.Kind.{Ghosts}
 use Rattle.tendril_block.specs.contracts.node.handle.Handle as C
-use Rattle.tendril_block.specs.Held.{Crosses, kept, rule, BodyIn, shown, Id, reader, writer, held_at, lends, ptr_in_block, block_owns, block_shares}
+use Rattle.tendril_block.specs.Held.{Crosses, rule_kept, rule, BodyIn, shown, Id, reader, writer, held_at, lends, ptr_in_block, block_owns, block_shares}
 use Rattle.tendril_block.proofs.Carved.{shown_laws, counted, kept_twice}
 use Rattle.tendril_block.proofs.Lent.{Lends-holder, holder_shr_laws}
 use Rattle.tendril_block.proofs.node.handle.Handle.TheLaw.Statement.{statement}
 
 laws : (y : Bool) (l : ℕ) (p : Ptr) (h : Global) (x : BodyIn) → ShrLaws (block_shares y l p h x)
 laws y l p h x = beside_shr_laws (said (ptr_in_block p)) (some Id (lends y l h x (block_of p) (count_of p))) (said_shr_laws (ptr_in_block p) (λ _. tt))
-    (holder_shr_laws (λ i. kept y (block_of p) (count_of p + 0) (rule y l h x (block_of p) (count_of p) i)) (λ i W 𝓤 𝓛. kept_twice 𝓛 y (block_of p) (count_of p + 0) (rule y l h x (block_of p) (count_of p) i)) (shown h x (block_of p) (count_of p)) (shown_laws h x (block_of p) (count_of p)))
+    (holder_shr_laws (λ i. rule_kept y (block_of p) (count_of p + 0) (rule y l h x (block_of p) (count_of p) i)) (λ i W 𝓤 𝓛. kept_twice 𝓛 y (block_of p) (count_of p + 0) (rule y l h x (block_of p) (count_of p) i)) (shown h x (block_of p) (count_of p)) (shown_laws h x (block_of p) (count_of p)))
 
 module _ {M : Type 1} {𝓤 : Ura M} (𝓛 : Logic 𝓤) (P : Type 0) (y : Bool) (n : ℕ) (h : Global) (x : BodyIn) where
   open 𝓛 use {H, A}
@@ -61,7 +61,7 @@ module _ {M : Type 1} {𝓤 : Ura M} (𝓛 : Logic 𝓤) (P : Type 0) (y : Bool)
     at_block l = Lends-settled 𝓛 Owns Q l (settles l) (block_shares y n p h x) back
         (Lends-first 𝓛 Reads (fact P) (block_shares y n p h x) l
         (Lends-both 𝓛 (ptr_in_block p) (fex Id (reader y n h x b o)) (said (ptr_in_block p)) (some Id (lends y n h x b o)) l (Lends-said 𝓛 (ptr_in_block p) (λ _. tt) l)
-        (Lends-holder (λ i. kept y b (o + 0) (rule y n h x b o i)) (λ i W 𝓤' 𝓛'. kept_twice 𝓛' y b (o + 0) (rule y n h x b o i)) (shown h x b o) (shown_laws h x b o) 𝓛 l)))
+        (Lends-holder (λ i. rule_kept y b (o + 0) (rule y n h x b o i)) (λ i W 𝓤' 𝓛'. kept_twice 𝓛' y b (o + 0) (rule y n h x b o i)) (shown h x b o) (shown_laws h x b o) 𝓛 l)))
 
   law : (p : Ptr) (l : Lft) → Lends 𝓛 (block_owns P y n p h x) (block_shares y n p h x) l
   law null_ptr l = Lends-false 𝓛 (block_shares y n null_ptr h x) l

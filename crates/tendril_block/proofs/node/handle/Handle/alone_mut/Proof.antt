@@ -42,7 +42,7 @@ use Rattle.tendril_count.specs.Rule.{role_coded, Reader, mark}
 use Rattle.tendril_block.proofs.Carved.{counted, kept_twice}
 use Rattle.tendril_block.specs.declared.node.kind.Kind.{Ghosts}
 use Rattle.tendril_block.proofs.Handles.{Z, Self, args, handle_val, handle_out, handle_in, granted, refused, back}
-use Rattle.tendril_block.specs.Held.{BodyRow, BodyIn, body_at, rule, kept, all_but_body, reader, writer, Id, Step, seen_by}
+use Rattle.tendril_block.specs.Held.{BodyRow, BodyIn, body_at, rule, rule_kept, all_but_body, reader, writer, Id, Stepper, seen_by}
 use Rattle.tendril_block.specs.Written.{with_body}
 use Rattle.tendril_block.specs.contracts.node.kind.Kind.alone as callee
 use Rattle.tendril_block.specs.contracts.node.handle.Handle.alone_mut.{ended, clauses}
@@ -72,10 +72,10 @@ alone_mut_spec 𝓤 𝓛 𝓜 𝓡 wired K law k d met =
     move ! (1 ∷ []) $ handle_out (param 0 K) k ! me vs (λ pb po u ep ws fits. let v : Val = handle_val (vptr pb po) u in let p : Ptr = block_ptr pb (po + 0) in let there = po + body_at in
     rewrite ! 2 (λ (us : List Val). ‵ (cell_at full_share R.mir us b o)) ws refl $
     use1 𝓛 (later (‵ (fex Id (reader shared me.limit h x pb po)))) (counted 𝓛 shared me.limit h x pb po) $ await ! tt $ fpick ! (λ i. fsplit ! $ move ! (1 ∷ []) $ fsplit ! $
-    let P : Fml = rule shared me.limit h x pb po i in let Kept : Fml = kept shared pb (po + 0) P in use1 𝓛 (‵ Kept ⊛ ‵ Kept) (kept_twice 𝓛 shared pb (po + 0) P) $ split ! $ move ! (2 ∷ []) $ fsplit ! $
+    let P : Fml = rule shared me.limit h x pb po i in let Kept : Fml = rule_kept shared pb (po + 0) P in use1 𝓛 (‵ Kept ⊛ ‵ Kept) (kept_twice 𝓛 shared pb (po + 0) P) $ split ! $ move ! (2 ∷ []) $ fsplit ! $
     -- [mark; shown; invariant; invariant; part; the handle; the cell; the open borrow; obs; auth]
     move ! (0 ∷ 4 ∷ []) $ fjoin ! $ move ! (2 ∷ 0 ∷ []) $ fjoin ! $
-    let s : Step = (me.limit, h, x, po, i) in let y : step.Ghost = ((κs.1, qs.1, tt, (p, tt), (ptr_val p ∷ [], tt)), s) in
+    let s : Stepper = (me.limit, h, x, po, i) in let y : step.Ghost = ((κs.1, qs.1, tt, (p, tt), (ptr_val p ∷ [], tt)), s) in
     use0 𝓛 (raw (fact 𝓤 (κs.1.0 ⊑ K.lives))) (fact_i 𝓤 (κs.1.0 ⊑ K.lives) (emp 𝓤) le) $ join ! $
     nothing ! $ feq_i ! (List Val) (ptr_val p ∷ []) (ptr_val p ∷ []) refl $ fjoin ! $ move ! (10 ∷ []) $ join ! $ join ! $ use1 𝓛 (raw (step.pre y)) (id⊢ 𝓤 (step.pre y)) $
     sets ! (of_opd ! (load ! (through ! refl (fld ! refl (stop !))) (look_in ! 4 (sub ! 0 refl (whole !))))) refl (tt, tt) $

@@ -34,7 +34,7 @@ use denote.Triple.Walked.{Stays, stay_dropped, walk_of, Goes-dropped}
 use Rattle.core.proofs.alloc.Shapes.{after}
 use Rattle.std.proofs.raw_atomic.Walks.{proved, leaves}
 use Rattle.std.specs.contracts.alloc.Global as heap
-use Rattle.tendril_block.specs.Held.{kept, rule, body_at, shown, block_shares}
+use Rattle.tendril_block.specs.Held.{rule_kept, rule, body_at, shown, block_shares}
 use Rattle.tendril_block.proofs.Lent.{sees}
 use Rattle.tendril_block.proofs.Carved.{shown_laws, kept_twice}
 use Rattle.tendril_block.specs.contracts.node.handle.Handle as block
@@ -63,7 +63,7 @@ body_spec 𝓤 𝓛 𝓜 𝓡 wired K law k d met =
     split ! $ split ! $ move ! (2 ∷ []) $ fsplit ! $ fsplit ! $ keep ! (1 ∷ 3 ∷ 4 ∷ []) $
     use1 𝓛 (‵ (hidden_shr (Words K k) κ (to (block.the_type K k) me) b o) ⊛ ‵ (fhide (block_shares y me.limit p me.alloc x κ))) (lent_out 𝓛 (block.struct K k) (block.the_codes K.Denot K.coded (heap.the_row).coded (marker.the_row K).coded) (block.the_heap K k) (block.the_lent K k) κ me b o) $
     split ! $ move ! (1 ∷ []) $ unhide ! $ fsplit ! $ fpick ! (λ inb. drop ! $
-    use1 𝓛 (‵ (shown me.alloc x pb po κ)) (sees (λ i. kept y pb (po + 0) (rule y me.limit me.alloc x pb po i)) (λ i W 𝓤' 𝓛'. kept_twice 𝓛' y pb (po + 0) (rule y me.limit me.alloc x pb po i)) (shown me.alloc x pb po) (shown_laws me.alloc x pb po) 𝓛 κ) $ fsplit ! $ drop ! $ hide ! $
+    use1 𝓛 (‵ (shown me.alloc x pb po κ)) (sees (λ i. rule_kept y pb (po + 0) (rule y me.limit me.alloc x pb po i)) (λ i W 𝓤' 𝓛'. kept_twice 𝓛' y pb (po + 0) (rule y me.limit me.alloc x pb po i)) (shown me.alloc x pb po) (shown_laws me.alloc x pb po) 𝓛 κ) $ fsplit ! $ drop ! $ hide ! $
     move ! (1 ∷ []) $ unhide ! $ fsplit ! $ fsplit ! $ hide ! $ move ! (0 ∷ 3 ∷ 4 ∷ []) $ use1 𝓛 (‵ (hidden_shr RawPtr κ p b (o + 0))) (id⊢ 𝓤 _) $
     -- [the pointer; the list; the token]
     enter ! 𝓣.C 𝓣.Λ fn (vptr b o ∷ []) Post $ alloc_all ! (λ l. pass_all ! refl ((tt, tt), tt) $ let Ev = env fn.locals l in

@@ -44,7 +44,7 @@ use Rattle.tendril_block.proofs.Lasts.{L, last_in}
 use Rattle.tendril_block.proofs.Carved.{rejoin, counted}
 use Rattle.tendril_block.specs.declared.node.kind.Kind.{Ghosts}
 use Rattle.tendril_block.proofs.Handles.{Z, Self, args, handle_val, handle_good, handle_out, taken}
-use Rattle.tendril_block.specs.Held.{content, owed, reader, Id, Step, left}
+use Rattle.tendril_block.specs.Held.{content, owed, reader, Id, Stepper, left}
 use Rattle.tendril_block.specs.declared.node.Node.{Node}
 use Rattle.tendril_block.specs.contracts.node.Node as node
 use Rattle.tendril_block.specs.contracts.node.kind.Kind.subtract as callee
@@ -71,7 +71,7 @@ release_spec 𝓤 𝓛 𝓜 𝓡 wired K law k d met =
     -- [mark; what is shared; invariant; part; the handle; the end of the parameters; the tokens]
     move ! (2 ∷ 0 ∷ 3 ∷ []) $ fjoin3 ! $
     sets ! (of_opd ! (get_in ! (fld ! refl (stop !)) (sub ! 0 refl (whole !)))) refl (tt, tt) $ sets ! (of_opd ! (get_in ! (fld ! refl (stop !)) (sub ! 1 refl (whole !)))) refl fits $
-    let p : Ptr = block_ptr b (o + 0) in let g : Step = (v.limit, a, x, o, i) in let y : step.Ghost = ((κs, z.0.1, tt, (p, tt), (ptr_val p ∷ [], tt)), g) in
+    let p : Ptr = block_ptr b (o + 0) in let g : Stepper = (v.limit, a, x, o, i) in let y : step.Ghost = ((κs, z.0.1, tt, (p, tt), (ptr_val p ∷ [], tt)), g) in
     use0 𝓛 (raw (fact 𝓤 (κs.0 ⊑ K.lives))) (fact_i 𝓤 (κs.0 ⊑ K.lives) (emp 𝓤) le) $ join ! $
     nothing ! $ feq_i ! (List Val) (ptr_val p ∷ []) (ptr_val p ∷ []) refl $ fjoin ! $ move ! (5 ∷ []) $ join ! $ join ! $ use1 𝓛 (raw (step.pre y)) (id⊢ 𝓤 (step.pre y)) $
     first ! $ blocks ! $ sets ! (addr ! (through ! refl (fld ! refl (stop !)))) refl (tt, tt) $

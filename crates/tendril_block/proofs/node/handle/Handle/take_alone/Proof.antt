@@ -46,7 +46,7 @@ use Rattle.tendril_block.proofs.Lasts.{L, last_in}
 use Rattle.tendril_block.proofs.Carved.{rejoin, counted, kept_twice}
 use Rattle.tendril_block.specs.declared.node.kind.Kind.{Ghosts}
 use Rattle.tendril_block.proofs.Handles.{Z, Self, args, handle_val, handle_good, handle_out, handle_in, granted, refused, gives_up}
-use Rattle.tendril_block.specs.Held.{BodyRow, body_at, rule, kept, all_but_body, content, owed, reader, writer, Id, Step, seen_by}
+use Rattle.tendril_block.specs.Held.{BodyRow, body_at, rule, rule_kept, all_but_body, content, owed, reader, writer, Id, Stepper, seen_by}
 use Rattle.tendril_block.specs.declared.node.Node.{Node}
 use Rattle.tendril_block.specs.contracts.node.Node as node
 use Rattle.tendril_block.specs.contracts.node.kind.Kind.alone as callee
@@ -70,11 +70,11 @@ take_alone_spec 𝓤 𝓛 𝓜 𝓡 wired K law k d met =
     suffices ! (Run (w' ∷ [])) (subst (λ (us : List Val). ent 𝓤 (Run (w' ∷ [])) (Run us)) (sym (λ j. ws j ++ [])) (id⊢ 𝓤 (Run (w' ∷ [])))) $
     enter ! 𝓣.C 𝓣.Λ fn (w' ∷ []) Post $ alloc_all ! (λ l. pass_all ! refl (good_w', tt) $ let Ev = env fn.locals l in
     use1 𝓛 (later (‵ (fex Id (reader shared v.limit a x b o)))) (counted 𝓛 shared v.limit a x b o) $ await ! tt $ fpick ! (λ i. fsplit ! $ move ! (1 ∷ []) $ fsplit ! $
-    let P : Fml = rule shared v.limit a x b o i in let Kept : Fml = kept shared b (o + 0) P in use1 𝓛 (‵ Kept ⊛ ‵ Kept) (kept_twice 𝓛 shared b (o + 0) P) $ split ! $ move ! (2 ∷ []) $ fsplit ! $
+    let P : Fml = rule shared v.limit a x b o i in let Kept : Fml = rule_kept shared b (o + 0) P in use1 𝓛 (‵ Kept ⊛ ‵ Kept) (kept_twice 𝓛 shared b (o + 0) P) $ split ! $ move ! (2 ∷ []) $ fsplit ! $
     -- [mark; shown; invariant; invariant; part; the handle; the end of the parameters; the tokens]
     move ! (0 ∷ 4 ∷ []) $ fjoin ! $ move ! (2 ∷ 0 ∷ []) $ fjoin ! $
     sets ! (of_opd ! (get_in ! (fld ! refl (stop !)) (sub ! 0 refl (whole !)))) refl (tt, tt) $ sets ! (of_opd ! (get_in ! (fld ! refl (stop !)) (sub ! 1 refl (whole !)))) refl fits $ sets ! (of_opd ! (get_in ! (fld ! refl (stop !)) (sub ! 2 refl (whole !)))) refl (tt, tt) $
-    let p : Ptr = block_ptr b (o + 0) in let g : Step = (v.limit, a, x, o, i) in let y : step.Ghost = ((κs, z.0.1, tt, (p, tt), (ptr_val p ∷ [], tt)), g) in
+    let p : Ptr = block_ptr b (o + 0) in let g : Stepper = (v.limit, a, x, o, i) in let y : step.Ghost = ((κs, z.0.1, tt, (p, tt), (ptr_val p ∷ [], tt)), g) in
     use0 𝓛 (raw (fact 𝓤 (κs.0 ⊑ K.lives))) (fact_i 𝓤 (κs.0 ⊑ K.lives) (emp 𝓤) le) $ join ! $
     nothing ! $ feq_i ! (List Val) (ptr_val p ∷ []) (ptr_val p ∷ []) refl $ fjoin ! $ move ! (6 ∷ []) $ join ! $ join ! $ use1 𝓛 (raw (step.pre y)) (id⊢ 𝓤 (step.pre y)) $
     first ! $ blocks ! $ sets ! (addr ! (through ! refl (fld ! refl (stop !)))) refl (tt, tt) $

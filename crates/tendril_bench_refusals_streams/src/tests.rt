@@ -1,5 +1,0 @@
-//! Each file has a session, as `tendril_bench_refusals` says.
-
-mod events;
-mod reading;
-mod streams;

@@ -1,0 +1,192 @@
+//! Where request `REFUSED` is refused, these tests fail with the words of `request_behind`, and `.ci/memory` wants that:
+//! each row answered as it is due, no row asked for that request, and the rows made all requests before it.
+
+use super::refuse_request;
+use super::session::{Step, long_pile, pile, play, request_behind, take_string};
+use super::tables::{
+    CHARACTERS, CUTS, FORTY, PARTED, PARTS, PUSH_WHERE_IT_STANDS, PUSHED, ROOM, RUN, SENT, WRITTEN,
+    short,
+};
+use std::alloc::Global;
+use std::test::Fail;
+use tendril::fmt::{Bytes, Format, UTF8};
+use tendril::{Atomic, Atomicity, NonAtomic};
+use test_tools::same;
+
+// Rows on a long text, which make so many requests with it.
+fn long<A: Atomicity>(alloc: Global, count: usize, steps: &[Step]) -> Result<(), Fail> {
+    match long_pile::<A>(alloc, count.saturating_add(1))? {
+        Some(mut texts) => play::<UTF8, A>(alloc, &mut texts, steps)?,
+        None => return Ok(()),
+    }
+    request_behind(alloc)
+}
+
+// Rows that make so many requests.
+fn rows<F: Format, A: Atomicity>(alloc: Global, count: usize, steps: &[Step]) -> Result<(), Fail> {
+    play::<F, A>(alloc, &mut pile(alloc, count.saturating_add(1))?, steps)?;
+    request_behind(alloc)
+}
+
+fn strings_taken<A: Atomicity>(alloc: Global) -> Result<(), Fail> {
+    take_string::<A>(alloc, 3)?;
+    request_behind(alloc)
+}
+
+// Short texts of each length. They make no request.
+fn short_texts_of<A: Atomicity>(alloc: Global) -> Result<(), Fail> {
+    let mut texts = pile::<Bytes, A>(alloc, 1)?;
+    for (front, end, len) in PARTED {
+        play(alloc, &mut texts, &short(front, end, len))?;
+        texts.clear();
+    }
+    request_behind(alloc)
+}
+
+// A block of a vector is two requests. Its only holder has the body, also after another one is gone.
+fn block_written<A: Atomicity>(alloc: Global) -> Result<(), Fail> {
+    refuse_request(alloc, 3)?;
+    let bytes = Vec::from_slice(alloc, b"0123456789")?;
+    match A::make(bytes) {
+        Ok(block) => body_had::<A>(block)?,
+        Err((refusal, _)) => return Err(Fail::from(refusal)),
+    }
+    request_behind(alloc)
+}
+
+fn body_had<A: Atomicity>(mut block: A::Block) -> Result<(), Fail> {
+    A::make_mut(&mut block)?.replace_end(0, b"a", b"123456789")?;
+    drop(A::share(&block)?);
+    A::make_mut(&mut block)?.truncate(4);
+    same(A::bytes(&block), b"a123".as_slice())
+}
+
+#[test]
+fn cuts(rt: HostRuntime) -> Result<(), Fail> {
+    long::<NonAtomic>(rt.alloc(), 4, CUTS)
+}
+
+#[test]
+fn cuts_over_atomic(rt: HostRuntime) -> Result<(), Fail> {
+    long::<Atomic>(rt.alloc(), 4, CUTS)
+}
+
+#[test]
+fn a_byte_written(rt: HostRuntime) -> Result<(), Fail> {
+    long::<NonAtomic>(rt.alloc(), 4, WRITTEN)
+}
+
+#[test]
+fn a_byte_written_over_atomic(rt: HostRuntime) -> Result<(), Fail> {
+    long::<Atomic>(rt.alloc(), 4, WRITTEN)
+}
+
+#[test]
+fn a_text_sent(rt: HostRuntime) -> Result<(), Fail> {
+    long::<NonAtomic>(rt.alloc(), 4, SENT)
+}
+
+#[test]
+fn a_text_sent_over_atomic(rt: HostRuntime) -> Result<(), Fail> {
+    long::<Atomic>(rt.alloc(), 4, SENT)
+}
+
+#[test]
+fn strings(rt: HostRuntime) -> Result<(), Fail> {
+    strings_taken::<NonAtomic>(rt.alloc())
+}
+
+#[test]
+fn strings_over_atomic(rt: HostRuntime) -> Result<(), Fail> {
+    strings_taken::<Atomic>(rt.alloc())
+}
+
+#[test]
+fn short_texts(rt: HostRuntime) -> Result<(), Fail> {
+    short_texts_of::<NonAtomic>(rt.alloc())
+}
+
+#[test]
+fn short_texts_over_atomic(rt: HostRuntime) -> Result<(), Fail> {
+    short_texts_of::<Atomic>(rt.alloc())
+}
+
+#[test]
+fn characters(rt: HostRuntime) -> Result<(), Fail> {
+    rows::<UTF8, NonAtomic>(rt.alloc(), 0, CHARACTERS)
+}
+
+#[test]
+fn characters_over_atomic(rt: HostRuntime) -> Result<(), Fail> {
+    rows::<UTF8, Atomic>(rt.alloc(), 0, CHARACTERS)
+}
+
+#[test]
+fn few_bytes(rt: HostRuntime) -> Result<(), Fail> {
+    rows::<Bytes, NonAtomic>(rt.alloc(), 1, FORTY)
+}
+
+#[test]
+fn few_bytes_over_atomic(rt: HostRuntime) -> Result<(), Fail> {
+    rows::<Bytes, Atomic>(rt.alloc(), 1, FORTY)
+}
+
+#[test]
+fn pushes_up_to_forty_bytes(rt: HostRuntime) -> Result<(), Fail> {
+    rows::<Bytes, NonAtomic>(rt.alloc(), 1, PUSHED)
+}
+
+#[test]
+fn pushes_up_to_forty_bytes_over_atomic(rt: HostRuntime) -> Result<(), Fail> {
+    rows::<Bytes, Atomic>(rt.alloc(), 1, PUSHED)
+}
+
+#[test]
+fn room_for_forty_bytes(rt: HostRuntime) -> Result<(), Fail> {
+    rows::<Bytes, NonAtomic>(rt.alloc(), 1, ROOM)
+}
+
+#[test]
+fn room_for_forty_bytes_over_atomic(rt: HostRuntime) -> Result<(), Fail> {
+    rows::<Bytes, Atomic>(rt.alloc(), 1, ROOM)
+}
+
+#[test]
+fn parts_pushed(rt: HostRuntime) -> Result<(), Fail> {
+    rows::<Bytes, NonAtomic>(rt.alloc(), 3, PARTS)
+}
+
+#[test]
+fn parts_pushed_over_atomic(rt: HostRuntime) -> Result<(), Fail> {
+    rows::<Bytes, Atomic>(rt.alloc(), 3, PARTS)
+}
+
+#[test]
+fn a_rest_pushed_onto_its_run(rt: HostRuntime) -> Result<(), Fail> {
+    rows::<UTF8, NonAtomic>(rt.alloc(), 1, RUN)
+}
+
+#[test]
+fn a_rest_pushed_onto_its_run_over_atomic(rt: HostRuntime) -> Result<(), Fail> {
+    rows::<UTF8, Atomic>(rt.alloc(), 1, RUN)
+}
+
+#[test]
+fn a_push_onto_the_left_of_a_text(rt: HostRuntime) -> Result<(), Fail> {
+    rows::<Bytes, NonAtomic>(rt.alloc(), 4, PUSH_WHERE_IT_STANDS)
+}
+
+#[test]
+fn a_push_onto_the_left_of_a_text_over_atomic(rt: HostRuntime) -> Result<(), Fail> {
+    rows::<Bytes, Atomic>(rt.alloc(), 4, PUSH_WHERE_IT_STANDS)
+}
+
+#[test]
+fn a_body_that_is_lent(rt: HostRuntime) -> Result<(), Fail> {
+    block_written::<NonAtomic>(rt.alloc())
+}
+
+#[test]
+fn a_body_that_is_lent_over_atomic(rt: HostRuntime) -> Result<(), Fail> {
+    block_written::<Atomic>(rt.alloc())
+}

@@ -1,0 +1,197 @@
+//! Where a request is refused, these tests pass: each answers as with ample memory, or says which request was refused.
+
+use super::refuse_request;
+use super::session::{Step, left_pile, long_pile, play, take_string};
+use super::tables::{CUTS, PUSH_BEHIND, ROOM_BEHIND, SENT, WRITTEN, WRITTEN_BEHIND, ZEROS_BEHIND};
+use std::alloc::Global;
+use std::fmt;
+use std::fmt::{Display, Formatter};
+use std::test::Fail;
+use tendril::block::Refusal;
+use tendril::{Atomic, Atomicity, NonAtomic, StrTendril};
+use test_tools::same;
+
+// Rows on a long text, where the request of this number is refused.
+fn long<A: Atomicity>(alloc: Global, number: usize, steps: &[Step]) -> Result<(), Fail> {
+    match long_pile::<A>(alloc, number)? {
+        Some(mut texts) => play(alloc, &mut texts, steps),
+        None => Ok(()),
+    }
+}
+
+// Rows on what is left of a thousand bytes, where the request that comes behind those is refused.
+fn left<A: Atomicity>(alloc: Global, steps: &[Step]) -> Result<(), Fail> {
+    play(alloc, &mut left_pile::<A>(alloc)?, steps)
+}
+
+#[derive(Drop)]
+struct Breaks;
+
+impl Display for Breaks {
+    fn fmt<W: fmt::Write>(&self, f: &mut Formatter<W>) -> fmt::Result {
+        f.write_str("more than eight bytes")?;
+        Err(fmt::Error)
+    }
+}
+
+// The text so far is all that was printed, unless a push of it was refused.
+fn all_or_refused<A: Atomicity>(text: Result<StrTendril<A>, Refusal>) -> Result<(), Fail> {
+    match text {
+        Ok(text) => same(text.as_str(), "more than eight bytes"),
+        Err(refusal) => same(refusal, Refusal::Memory),
+    }
+}
+
+fn formatted<A: Atomicity>(alloc: Global) -> Result<(), Fail> {
+    refuse_request(alloc, 1)?;
+    all_or_refused(StrTendril::<A>::format(alloc, &Breaks))
+}
+
+fn printed<A: Atomicity>(alloc: Global) -> Result<(), Fail> {
+    refuse_request(alloc, 1)?;
+    let (text, answered) = StrTendril::<A>::print(alloc, &Breaks);
+    all_or_refused(text)?;
+    same(answered.is_err(), true)
+}
+
+#[test]
+fn cuts_where_the_first_request_is_refused(rt: HostRuntime) -> Result<(), Fail> {
+    long::<NonAtomic>(rt.alloc(), 1, CUTS)
+}
+
+#[test]
+fn cuts_where_the_first_request_is_refused_over_atomic(rt: HostRuntime) -> Result<(), Fail> {
+    long::<Atomic>(rt.alloc(), 1, CUTS)
+}
+
+#[test]
+fn cuts_where_the_second_request_is_refused(rt: HostRuntime) -> Result<(), Fail> {
+    long::<NonAtomic>(rt.alloc(), 2, CUTS)
+}
+
+#[test]
+fn cuts_where_the_second_request_is_refused_over_atomic(rt: HostRuntime) -> Result<(), Fail> {
+    long::<Atomic>(rt.alloc(), 2, CUTS)
+}
+
+#[test]
+fn cuts_where_the_third_request_is_refused(rt: HostRuntime) -> Result<(), Fail> {
+    long::<NonAtomic>(rt.alloc(), 3, CUTS)
+}
+
+#[test]
+fn cuts_where_the_third_request_is_refused_over_atomic(rt: HostRuntime) -> Result<(), Fail> {
+    long::<Atomic>(rt.alloc(), 3, CUTS)
+}
+
+#[test]
+fn cuts_where_the_fourth_request_is_refused(rt: HostRuntime) -> Result<(), Fail> {
+    long::<NonAtomic>(rt.alloc(), 4, CUTS)
+}
+
+#[test]
+fn cuts_where_the_fourth_request_is_refused_over_atomic(rt: HostRuntime) -> Result<(), Fail> {
+    long::<Atomic>(rt.alloc(), 4, CUTS)
+}
+
+#[test]
+fn a_byte_written_where_the_text_is_refused(rt: HostRuntime) -> Result<(), Fail> {
+    long::<NonAtomic>(rt.alloc(), 4, WRITTEN)
+}
+
+#[test]
+fn a_byte_written_where_the_text_is_refused_over_atomic(rt: HostRuntime) -> Result<(), Fail> {
+    long::<Atomic>(rt.alloc(), 4, WRITTEN)
+}
+
+#[test]
+fn a_text_sent_where_the_first_request_behind_it_is_refused(rt: HostRuntime) -> Result<(), Fail> {
+    long::<NonAtomic>(rt.alloc(), 5, SENT)
+}
+
+#[test]
+fn a_text_sent_where_the_first_request_behind_it_is_refused_over_atomic(
+    rt: HostRuntime,
+) -> Result<(), Fail> {
+    long::<Atomic>(rt.alloc(), 5, SENT)
+}
+
+#[test]
+fn the_string_is_refused(rt: HostRuntime) -> Result<(), Fail> {
+    take_string::<NonAtomic>(rt.alloc(), 1)
+}
+
+#[test]
+fn the_string_is_refused_over_atomic(rt: HostRuntime) -> Result<(), Fail> {
+    take_string::<Atomic>(rt.alloc(), 1)
+}
+
+#[test]
+fn the_node_is_refused(rt: HostRuntime) -> Result<(), Fail> {
+    take_string::<NonAtomic>(rt.alloc(), 2)
+}
+
+#[test]
+fn the_node_is_refused_over_atomic(rt: HostRuntime) -> Result<(), Fail> {
+    take_string::<Atomic>(rt.alloc(), 2)
+}
+
+#[test]
+fn a_push(rt: HostRuntime) -> Result<(), Fail> {
+    left::<NonAtomic>(rt.alloc(), PUSH_BEHIND)
+}
+
+#[test]
+fn a_push_over_atomic(rt: HostRuntime) -> Result<(), Fail> {
+    left::<Atomic>(rt.alloc(), PUSH_BEHIND)
+}
+
+#[test]
+fn zeros(rt: HostRuntime) -> Result<(), Fail> {
+    left::<NonAtomic>(rt.alloc(), ZEROS_BEHIND)
+}
+
+#[test]
+fn zeros_over_atomic(rt: HostRuntime) -> Result<(), Fail> {
+    left::<Atomic>(rt.alloc(), ZEROS_BEHIND)
+}
+
+#[test]
+fn room(rt: HostRuntime) -> Result<(), Fail> {
+    left::<NonAtomic>(rt.alloc(), ROOM_BEHIND)
+}
+
+#[test]
+fn room_over_atomic(rt: HostRuntime) -> Result<(), Fail> {
+    left::<Atomic>(rt.alloc(), ROOM_BEHIND)
+}
+
+#[test]
+fn bytes_written(rt: HostRuntime) -> Result<(), Fail> {
+    left::<NonAtomic>(rt.alloc(), WRITTEN_BEHIND)
+}
+
+#[test]
+fn bytes_written_over_atomic(rt: HostRuntime) -> Result<(), Fail> {
+    left::<Atomic>(rt.alloc(), WRITTEN_BEHIND)
+}
+
+#[test]
+fn into_a_text_that_is_refused(rt: HostRuntime) -> Result<(), Fail> {
+    formatted::<NonAtomic>(rt.alloc())
+}
+
+#[test]
+fn into_a_text_that_is_refused_over_atomic(rt: HostRuntime) -> Result<(), Fail> {
+    formatted::<Atomic>(rt.alloc())
+}
+
+#[test]
+fn into_a_text_that_is_refused_and_told(rt: HostRuntime) -> Result<(), Fail> {
+    printed::<NonAtomic>(rt.alloc())
+}
+
+#[test]
+fn into_a_text_that_is_refused_and_told_over_atomic(rt: HostRuntime) -> Result<(), Fail> {
+    printed::<Atomic>(rt.alloc())
+}

@@ -1,0 +1,217 @@
+//! Every list of at most four UTF-16 units out of four, in groups that are pushed in turn as WTF-8.
+
+use std::alloc::{AllocError, Global};
+use std::test::Fail;
+use tendril::fmt::WTF8;
+use tendril::{Atomic, Atomicity, NonAtomic, Tendril};
+use test_tools::same_at;
+
+type Wtf8Tendril<A> = Tendril<WTF8, A>;
+
+/// A character of one byte, one of two bytes, a lead surrogate and a trail surrogate.
+const UNITS: [u16; 4] = [0x0041, 0x0151, 0xD83D, 0xDCA9];
+
+/// How many units a list has, how many such lists there are, and in how many ways each is grouped.
+const SIZES: [(usize, u32, u32); 5] = [(0, 1, 1), (1, 4, 1), (2, 16, 2), (3, 64, 4), (4, 256, 8)];
+
+/// What stands before the units: nothing, and so much that the text is a long one.
+const FRONTS: [&[u8]; 2] = [b"", b"0123456789"];
+
+fn is_lead(unit: u16) -> bool {
+    0xD800 <= unit && unit <= 0xDBFF
+}
+
+fn is_trail(unit: u16) -> bool {
+    0xDC00 <= unit && unit <= 0xDFFF
+}
+
+// The scalar of a lead and a trail, each of which has ten of its bits.
+fn scalar_of(lead: u16, trail: u16) -> u32 {
+    0x10000 + (lead as u32 % 0x400) * 0x400 + trail as u32 % 0x400
+}
+
+// A byte behind the first one of a sequence has the six lowest bits.
+fn continuation(bits: u32) -> u8 {
+    (0x80 + bits % 0x40) as u8
+}
+
+// Puts a scalar or a lone surrogate behind bytes.
+fn push_number(bytes: &mut Vec<u8>, number: u32) -> Result<(), AllocError> {
+    match number {
+        0x0000..=0x007F => bytes.extend_from_slice(&[(number % 0x80) as u8])?,
+        0x0080..=0x07FF => bytes.extend_from_slice(&[
+            (0xC0 + number / 0x40 % 0x20) as u8,
+            continuation(number),
+        ])?,
+        0x0800..=0xFFFF => bytes.extend_from_slice(&[
+            (0xE0 + number / 0x1000 % 0x10) as u8,
+            continuation(number / 0x40),
+            continuation(number),
+        ])?,
+        _ => bytes.extend_from_slice(&[
+            (0xF0 + number / 0x40000 % 0x08) as u8,
+            continuation(number / 0x1000),
+            continuation(number / 0x40),
+            continuation(number),
+        ])?,
+    }
+    Ok(())
+}
+
+// The units as WTF-8: a lead that a trail follows is one character with it, any other surrogate stands alone.
+fn slow_wtf8(alloc: Global, units: &[u16]) -> Result<Vec<u8>, Fail> {
+    let mut bytes = Vec::new(alloc);
+    let mut rest = units;
+    for _ in 0..units.len() {
+        match rest {
+            [lead, trail, behind @ ..] if is_lead(*lead) && is_trail(*trail) => {
+                push_number(&mut bytes, scalar_of(*lead, *trail))?;
+                rest = behind;
+            }
+            [unit, behind @ ..] => {
+                push_number(&mut bytes, *unit as u32)?;
+                rest = behind;
+            }
+            [] => break,
+        }
+    }
+    Ok(bytes)
+}
+
+// The groups of units, each as WTF-8. The lowest bit of `cuts` says whether a group ends behind the first unit, and so
+// on.
+fn slow_groups(alloc: Global, units: &[u16], cuts: u32) -> Result<Vec<Vec<u8>>, Fail> {
+    let mut groups = Vec::new(alloc);
+    let mut group = Vec::new(alloc);
+    let mut left = cuts;
+    for unit in units.iter() {
+        group.push(*unit)?;
+        if left % 2 == 1 {
+            groups.push(slow_wtf8(alloc, &group)?)?;
+            group.clear();
+        }
+        left /= 2;
+    }
+    if !group.is_empty() {
+        groups.push(slow_wtf8(alloc, &group)?)?;
+    }
+    Ok(groups)
+}
+
+// Pushes the groups as bytes.
+fn joined_bytes<A: Atomicity>(
+    alloc: Global,
+    front: &[u8],
+    groups: &[Vec<u8>],
+) -> Result<Wtf8Tendril<A>, Fail> {
+    let mut text: Wtf8Tendril<A> = Tendril::try_from_byte_slice(alloc, front)?;
+    for group in groups.iter() {
+        text.try_push_bytes(group)?;
+    }
+    Ok(text)
+}
+
+// Pushes the groups as texts.
+fn joined_texts<A: Atomicity>(
+    alloc: Global,
+    front: &[u8],
+    groups: &[Vec<u8>],
+) -> Result<Wtf8Tendril<A>, Fail> {
+    let mut text: Wtf8Tendril<A> = Tendril::try_from_byte_slice(alloc, front)?;
+    for group in groups.iter() {
+        text.push_tendril(&Tendril::try_from_byte_slice(alloc, group)?)?;
+    }
+    Ok(text)
+}
+
+// Pushes the groups behind a front, in each way.
+fn check_joined<A: Atomicity>(
+    alloc: Global,
+    front: &[u8],
+    groups: &[Vec<u8>],
+    whole: &[u8],
+) -> Result<(), Fail> {
+    same_at(
+        0,
+        joined_bytes::<A>(alloc, front, groups)?.as_byte_slice(),
+        whole,
+    )?;
+    same_at(
+        1,
+        joined_texts::<A>(alloc, front, groups)?.as_byte_slice(),
+        whole,
+    )
+}
+
+// The first of two runs of bytes, and the second behind it.
+fn one_behind_the_other(alloc: Global, first: &[u8], second: &[u8]) -> Result<Vec<u8>, Fail> {
+    let mut whole = Vec::from_slice(alloc, first)?;
+    whole.extend_from_slice(second)?;
+    Ok(whole)
+}
+
+// Pushes the groups behind each front, over both kinds of block.
+fn check_groups(alloc: Global, groups: &[Vec<u8>], expected: &[u8]) -> Result<(), Fail> {
+    for front in FRONTS {
+        let whole = one_behind_the_other(alloc, front, expected)?;
+        check_joined::<NonAtomic>(alloc, front, groups, &whole)?;
+        check_joined::<Atomic>(alloc, front, groups, &whole)?;
+    }
+    Ok(())
+}
+
+// Groups the units in each way.
+fn check_groupings(alloc: Global, units: &[u16], groupings: u32) -> Result<(), Fail> {
+    let expected = slow_wtf8(alloc, units)?;
+    for cuts in 0..groupings {
+        let groups = slow_groups(alloc, units, cuts)?;
+        check_groups(alloc, &groups, &expected)?;
+    }
+    Ok(())
+}
+
+// Writes the units of the list with this number.
+fn write_units(units: &mut [u16], number: u32) {
+    let mut left = number;
+    for unit in units.iter_mut() {
+        *unit = UNITS[(left % 4) as usize];
+        left /= 4;
+    }
+}
+
+fn check_lists(alloc: Global, len: usize, lists: u32, groupings: u32) -> Result<(), Fail> {
+    for number in 0..lists {
+        let mut buffer = [0; 4];
+        match buffer.get_mut(..len) {
+            Some(units) => {
+                write_units(units, number);
+                check_groupings(alloc, units, groupings)?;
+            }
+            None => return Err(Fail::new("more than four units")),
+        }
+    }
+    Ok(())
+}
+
+#[test]
+fn units_as_bytes_by_hand(rt: HostRuntime) -> Result<(), Fail> {
+    let rows: [(&[u16], &[u8]); 5] = [
+        (&[0x0041, 0x0151], b"A\xC5\x91"),
+        (&[0xD83D, 0xDCA9], b"\xF0\x9F\x92\xA9"),
+        (&[0xDCA9, 0xD83D], b"\xED\xB2\xA9\xED\xA0\xBD"),
+        (&[0xD83D, 0xD83D, 0xDCA9], b"\xED\xA0\xBD\xF0\x9F\x92\xA9"),
+        (&[0xA66E], b"\xEA\x99\xAE"),
+    ];
+    for (row, (units, bytes)) in rows.iter().enumerate() {
+        same_at(row, slow_wtf8(rt.alloc(), units)?.as_slice(), *bytes)?;
+    }
+    Ok(())
+}
+
+#[test]
+fn short_lists_of_units_in_every_grouping(rt: HostRuntime) -> Result<(), Fail> {
+    for (len, lists, groupings) in SIZES {
+        check_lists(rt.alloc(), len, lists, groupings)?;
+    }
+    Ok(())
+}
