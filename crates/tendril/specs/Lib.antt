@@ -1,3 +1,4 @@
+-- The words that a caller's contracts and proofs name.
 pub use Rattle.tendril_text.specs.Texts
 pub use Rattle.tendril_text.specs.Edits
 pub use Rattle.tendril_text.specs.Errors

@@ -37,8 +37,11 @@ AreAscii-parts [] ds h = (tt, h)
 AreAscii-parts (c ∷ cs) ds h = let k = AreAscii-parts cs ds h.1 in ((h.0, k.0), k.1)
 
 pub IsDoubled-append : (l r : List ℕ) → IsDoubled l → IsDoubled r → IsDoubled (l ++ r)
-IsDoubled-append l r h k =
-    (h.0 ++ k.0, AreAscii-append h.0 k.0 h.1 k.1, flat_map-append twice h.0 k.0 ∙ ap (λ x. x ++ encodings twice k.0) h.2 ∙ ap (λ x. l ++ x) k.2)
+IsDoubled-append l r h k = (
+  h.0 ++ k.0,
+  AreAscii-append h.0 k.0 h.1 k.1,
+  flat_map-append twice h.0 k.0 ∙ ap (λ x. x ++ encodings twice k.0) h.2 ∙ ap (λ x. l ++ x) k.2,
+)
 
 AreBytes-encodings : (cs : List ℕ) → AreAscii cs → AreBytes (encodings twice cs)
 AreBytes-encodings [] h = AreBytes-nil
@@ -67,7 +70,8 @@ firsts-spell bytes w = sym w.2 ∙ ap (encodings twice) (sym (characters bytes w
 pub All-doubled : (bytes : List ℕ) → IsDoubled bytes → All (λ c. c < 128) (firsts bytes)
 All-doubled bytes w = All-from_recursion (λ c. c < 128) (firsts bytes) (subst AreAscii (sym (characters bytes w)) w.1)
 
-pub AreTextsOf-doubled : (bytes cs ds : List ℕ) → IsDoubled bytes → firsts bytes ≡ cs ++ ds → AreTextsOf IsDoubled firsts twice cs ds
+pub AreTextsOf-doubled : (bytes cs ds : List ℕ) → IsDoubled bytes → firsts bytes ≡ cs ++ ds
+    → AreTextsOf IsDoubled firsts twice cs ds
 AreTextsOf-doubled bytes cs ds w e =
     let k = AreAscii-parts cs ds (subst AreAscii (sym (characters bytes w) ∙ e) w.1) in
     record {

@@ -32,7 +32,7 @@ use Rattle.tendril_count.proofs.Made.{made, resumed, first_holder}
 use Rattle.tendril_block.specs.declared.node.Node.{Node}
 use Rattle.tendril_block.specs.contracts.node.Node as node
 use Rattle.tendril_count.specs.Rule.{IsTurn}
-use Rattle.tendril_block.specs.Held.{limit, whose, rule_kept, BodyRow, BodyIn, members, body_at, content, shown, Id, reader, writer, held_at}
+use Rattle.tendril_block.specs.Owned.{limit, whose, rule_kept, BodyRow, BodyIn, members, body_at, content, shown, Id, reader, writer, held_at}
 
 -- a thread takes the steps of its own rule
 pub own_turn : (y : Bool) (t : ℕ) → IsTurn (whose y t) t

@@ -43,7 +43,7 @@ use Rattle.core.specs.contracts.marker.PhantomData as marker
 use Rattle.tendril_block.specs.declared.node.kind.Kind.{Ghosts}
 use Rattle.tendril_block.specs.contracts.node.handle.Handle as block
 use Rattle.tendril_block.specs.Written.{with_body}
-use Rattle.tendril_block.specs.Held.{Crosses, limit, whose, BodyRow, BodyIn, body_at, content, Id, all_but_body, owed, freed, stands, reader, writer, held_at, block_owns, Stepper as Stepped, leaves_with, sees}
+use Rattle.tendril_block.specs.Owned.{Crosses, limit, whose, BodyRow, BodyIn, body_at, content, Id, all_but_body, owed, freed, stands, reader, writer, held_at, block_owns, Stepper as Stepped, leaves_with, sees}
 
 abbrev pub Z : RattleType
 Z = heap.the_row
@@ -71,20 +71,20 @@ module _ (K : RattleType) (k : Ghosts K.Denot) where
 
   module _ {M : Type 1} {𝓤 : Ura M} {𝓛 : Logic 𝓤} {W : Type 0} {Γ : List (Item 𝓤)} {G : Goal 𝓤 𝓛.H} where
     pub handle_out : W → (d : Self.Denot) (vs : List Val)
-        → ((b o : ℕ) (h : Val) → d.node ≡ block_ptr b o → vs ≡ handle_val (vptr b o) h ∷ [] → Good (layout Z) h → Seq W 𝓛 (‵ (held_at k.shared d.limit d.alloc d.inner b o) ∷ ‵ (Z.own_val d.alloc (h ∷ [])) ∷ Γ) G)
+        → ((b o : ℕ) (h : Val) → d.node ≡ block_ptr b o → vs ≡ handle_val (vptr b o) h ∷ [] → Good (layout Z) h → Seq W 𝓛 (‵ (held_at k.any_thread d.limit d.alloc d.inner b o) ∷ ‵ (Z.own_val d.alloc (h ∷ [])) ∷ Γ) G)
         → Seq W 𝓛 (‵ (Self.own_val d vs) ∷ Γ) G
     handle_out t d vs next =
         fsplit t $ fpick t (λ vss. fsplit t $ feq_l t (λ ev. fsplit t $ feq_l t (λ ep. fsplit t $ handle_tells al t d.alloc vss.1.0 (λ h ea fits. move t (1 ∷ []) $ fsplit t $
         fpick t (λ us. fsplit t $ feq_l t (λ em. drop t $ drop t $ move t (1 ∷ []) $
-        in_a_block t d.node (λ p. block_owns (Crosses K k.shared) k.shared d.limit p d.alloc d.inner) (id⊢ 𝓤 _) (λ b o e. fpick t (λ _. next b o h e
+        in_a_block t d.node (λ p. block_owns (Crosses K k.any_thread) k.any_thread d.limit p d.alloc d.inner) (id⊢ 𝓤 _) (λ b o e. fpick t (λ _. next b o h e
         (subst (λ (p : Ptr). vs ≡ vstruct (of_list (ptr_val p ∷ h ∷ mark_val ∷ [])) ∷ []) e
         (subst (λ (ms : List Val). vs ≡ vstruct (of_list (ptr_val d.node ∷ h ∷ (ms ++ []))) ∷ []) em
         (subst (λ (ws : List Val). vs ≡ vstruct (of_list (ptr_val d.node ∷ (ws ++ (vss.1.1.0 ++ [])))) ∷ []) ea (subst (λ (ps : List Val). vs ≡ vstruct (of_list (ps ++ (vss.1.0 ++ (vss.1.1.0 ++ [])))) ∷ []) ep ev)))) fits))))))))
 
-    pub handle_in : W → Crosses K k.shared → (l b o : ℕ) (h : Val) (a : Global) (x : BodyIn)
-        → Step W 𝓛 (‵ (Self.own_val (record { node = block_ptr b o; alloc = a; kind = record {}; limit = l; inner = x }) (handle_val (vptr b o) h ∷ [])) ∷ Γ) G (‵ (held_at k.shared l a x b o) ∷ ‵ (Z.own_val a (h ∷ [])) ∷ Γ) G
+    pub handle_in : W → Crosses K k.any_thread → (l b o : ℕ) (h : Val) (a : Global) (x : BodyIn)
+        → Step W 𝓛 (‵ (Self.own_val (record { node = block_ptr b o; alloc = a; kind = record {}; limit = l; inner = x }) (handle_val (vptr b o) h ∷ [])) ∷ Γ) G (‵ (held_at k.any_thread l a x b o) ∷ ‵ (Z.own_val a (h ∷ [])) ∷ Γ) G
     handle_in t c l b o h a x = step (λ s. let v : Val = handle_val (vptr b o) h in
-        fpack t (Crosses K k.shared) (λ _. held_at k.shared l a x b o) c $ nothing t $ nothing t $ feq_i t (List Val) (mark_val ∷ []) (mark_val ∷ []) refl $ fjoin t $ fpack t (Valss []) (within (declared.shape (marker.the_type K)) tt (mark_val ∷ [])) tt $ fjoin t $
+        fpack t (Crosses K k.any_thread) (λ _. held_at k.any_thread l a x b o) c $ nothing t $ nothing t $ feq_i t (List Val) (mark_val ∷ []) (mark_val ∷ []) refl $ fjoin t $ fpack t (Valss []) (within (declared.shape (marker.the_type K)) tt (mark_val ∷ [])) tt $ fjoin t $
         move t (2 ∷ 0 ∷ []) $ fjoin t $ feq_i t (List Val) (vptr b o ∷ []) (vptr b o ∷ []) refl $ fjoin t $ feq_i t (List Val) (v ∷ []) (v ∷ []) refl $ fjoin t $
         fpack t (Valss (RawPtr ∷ (heap.the_field).row ∷ (marker.the_field K).row ∷ [])) (within (shape (block.the_type K k)) (block_ptr b o, ((heap.the_field).into a, ((marker.the_field K).into (record {}), tt))) (v ∷ [])) (vptr b o ∷ [], (h ∷ [], (mark_val ∷ [], tt))) $ fjoin t $ s)
 
@@ -145,11 +145,11 @@ module _ {M : Type 1} {𝓤 : Ura M} (𝓛 : Logic 𝓤) where
       fpack ! Counted (λ t. fsep (roster role_coded.code i.1 0 (roles t.holders)) (fact (IsFreed (limit l) t))) (reached.freed s) $ fpack ! Id (freed l) i $ done !)))
 
   -- with any list in its place, what was lent is the handle again
-  pub back : (K : RattleType) (k : Ghosts K.Denot) (d : (Self K k).Denot) (b o nb na : ℕ) (h : Val) (i : Id) → d.node ≡ block_ptr nb na → Crosses K k.shared → (w : BodyIn)
-      → ent 𝓤 (sep 𝓤 (sem 𝓛 ((mem BodyRow).own_at w nb (na + body_at))) (sem 𝓛 (fsep (all_but_body k.shared d.limit d.alloc d.inner nb na i) (fsep (Z.own_val d.alloc (h ∷ [])) (cell_at full_share (Self K k).mir (handle_val (vptr nb na) h ∷ []) b o)))))
+  pub back : (K : RattleType) (k : Ghosts K.Denot) (d : (Self K k).Denot) (b o nb na : ℕ) (h : Val) (i : Id) → d.node ≡ block_ptr nb na → Crosses K k.any_thread → (w : BodyIn)
+      → ent 𝓤 (sep 𝓤 (sem 𝓛 ((mem BodyRow).own_at w nb (na + body_at))) (sem 𝓛 (fsep (all_but_body k.any_thread d.limit d.alloc d.inner nb na i) (fsep (Z.own_val d.alloc (h ∷ [])) (cell_at full_share (Self K k).mir (handle_val (vptr nb na) h ∷ []) b o)))))
       (sem 𝓛 ((mem (Self K k)).own_at (with_body d w) b o))
   unfolding part_of
-  back K k d b o nb na h i e c w = let v : Val = handle_val (vptr nb na) h in let y : Bool = k.shared in let R : RattleType = Self K k in
+  back K k d b o nb na h i e c w = let v : Val = handle_val (vptr nb na) h in let y : Bool = k.any_thread in let R : RattleType = Self K k in
       qed 𝓛 (‵ (part_at BodyRow full_share w nb (na + body_at)) ∷ ‵ (fsep (all_but_body y d.limit d.alloc d.inner nb na i) (fsep (Z.own_val d.alloc (h ∷ [])) (cell_at full_share R.mir (v ∷ []) b o))) ∷ []) ∵
       move ! (1 ∷ []) $ fsplit3 ! $ fsplit3 ! $ move ! (2 ∷ []) $ fsplit ! $
       -- [the machine; the right to free; the mark; the word; the handle; the cell; the list]

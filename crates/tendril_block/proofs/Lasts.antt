@@ -19,7 +19,7 @@ use Rattle.std.specs.contracts.alloc.Global as heap
 use Rattle.tendril_block.proofs.Values.{both}
 use Rattle.tendril_block.proofs.Handles.{Z, al}
 use Rattle.tendril_block.specs.contracts.node.last.Last as last
-use Rattle.tendril_block.specs.Held.{BodyIn, last_at, last_owns}
+use Rattle.tendril_block.specs.Owned.{BodyIn, last_at, last_owns}
 
 abbrev pub L : RattleType
 L = last.the_row

@@ -1,3 +1,4 @@
+-- The cells of a few bytes after their first bytes were written over.
 use Rattle.std.specs.Prelude.{ℕ, List, length}
 use Rattle.std.specs.List.{refill}
 use Rattle.tendril_block.specs.declared.few.Cells.{Cells}

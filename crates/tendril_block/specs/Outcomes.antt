@@ -1,7 +1,16 @@
+-- How a call ends: which refusal must come, which may, and what holds otherwise.
 use Rattle.std.specs.Prelude.{ℕ, ◌≡◌, ◌<◌, ◌≤◌, ◌+◌, ◌⊎◌, List, length, take, drop, Option, Some, None, Result, Ok, Err}
 use Rattle.tendril_block.specs.declared.atomicity.TheConstants.{MAX_LEN}
 use Rattle.tendril_block.specs.declared.refusal.Refusal.{Refusal}
-use Rattle.tendril_block.specs.declared.refusal.Refusal.TheVariants.{TooLong, Memory, Count, Invalid, OutOfBounds, ValidationFailed, NotInFormat}
+use Rattle.tendril_block.specs.declared.refusal.Refusal.TheVariants.{
+  TooLong,
+  Memory,
+  Count,
+  Invalid,
+  OutOfBounds,
+  ValidationFailed,
+  NotInFormat,
+}
 
 -- Which refusal must come, or none: a `must` says of each refusal when it comes, and of none what holds then.
 
@@ -60,11 +69,13 @@ abbrev pub Refused : (Option Refusal → Type 0) → (Refusal → Type 0) → Re
 Refused must may r = must (Some r) ⊎ (must None × may r)
 
 -- what a call answers that changes nothing
-abbrev pub Gives : {R : Type 0} → (Option Refusal → Type 0) → (Refusal → Type 0) → (R → Type 0) → Result R Refusal → Type 0
+abbrev pub Gives : {R : Type 0} → (Option Refusal → Type 0) → (Refusal → Type 0) → (R → Type 0) → Result R Refusal
+    → Type 0
 Gives must may effect (Ok r) = must None × effect r
 Gives must may effect (Err e) = Refused must may e
 
 -- what a call answers and leaves: it is refused and changes nothing, or has its effect
-abbrev pub Outcome : {R X : Type 0} → (Option Refusal → Type 0) → (Refusal → Type 0) → (R → X → Type 0) → X → Result R Refusal → X → Type 0
+abbrev pub Outcome : {R X : Type 0} → (Option Refusal → Type 0) → (Refusal → Type 0) → (R → X → Type 0) → X
+    → Result R Refusal → X → Type 0
 Outcome must may effect old (Ok r) new = must None × effect r new
 Outcome must may effect old (Err e) new = Refused must may e × (new ≡ old)

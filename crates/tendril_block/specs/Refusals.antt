@@ -1,6 +1,22 @@
+-- The numbers and the names of the refusals.
 use Rattle.std.specs.Prelude.{ℕ, List, codes}
 use Rattle.tendril_block.specs.declared.refusal.Refusal.{Refusal}
-use Rattle.tendril_block.specs.declared.refusal.Refusal.TheVariants.{TooLong, Memory, Count, Invalid, OutOfBounds, ValidationFailed, NotInFormat, TooManyReads, Io, SinkRefused, Failed, NotStarted, NoSuchSlot, WrongFormat}
+use Rattle.tendril_block.specs.declared.refusal.Refusal.TheVariants.{
+  TooLong,
+  Memory,
+  Count,
+  Invalid,
+  OutOfBounds,
+  ValidationFailed,
+  NotInFormat,
+  TooManyReads,
+  Io,
+  SinkRefused,
+  Failed,
+  NotStarted,
+  NoSuchSlot,
+  WrongFormat,
+}
 
 -- a refusal's number
 abbrev pub number_of : Refusal → ℕ

@@ -1,12 +1,12 @@
 //! Blocks whose holders may be in any threads.
 ghost use Rattle.std.specs.Prelude.{◌≡◌};
-ghost use Rattle.tendril_block.specs.Held.{limit};
+ghost use Rattle.tendril_block.specs.Owned.{limit};
 
 use crate::atomicity::MAX_HOLDERS;
 use crate::body::Body;
 use crate::holder::{Counted, CountedBy, Holder};
+use crate::node::any_thread::AnyThread;
 use crate::node::handle::Handle;
-use crate::node::shared::AnyThread;
 use crate::sole::Sole;
 use std::alloc::Global;
 

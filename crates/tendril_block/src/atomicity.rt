@@ -1,8 +1,10 @@
 //! What a block offers, whatever its holders are counted by.
-ghost use Rattle.std.specs.Prelude.{◌≡◌, ℕ, ◌+◌, ◌-◌, List, length, IfOk, IfErr, IfSome, ◌⊎◌};
+ghost use Rattle.std.specs.Prelude.{◌≡◌, ℕ, ◌+◌, ◌-◌, ◌≤◌, ◌++◌, List, length, take, drop, true, false, IfOk, IfErr, IfSome, ◌⊎◌};
 ghost use Rattle.std.specs.Borrow.{LendsSo, LendsSoOk, sem};
 ghost use Rattle.tendril_block.specs.contracts.body.Body.{the_row as body_row};
+ghost use Rattle.tendril_block.specs.Behind.{behind_bytes};
 
+use crate::behind::Behind;
 use crate::body::Body;
 use crate::refusal::Refusal;
 use crate::sole::Sole;
@@ -19,7 +21,7 @@ pub const MAX_HOLDERS: u64 = 4294967295;
 
 /// How the holders of a block are counted.
 ///
-/// Every call but `make`, `copy` and `make_mut` takes constant time.
+/// Every call but `make`, `copy`, `make_mut` and `compact` takes constant time.
 pub trait Atomicity {
     /// One holder of a block, as large as a pointer.
     type Block: Drop;
@@ -74,6 +76,18 @@ pub trait Atomicity {
             × ((copied n ≡ copied block.old) ⊎ (copied n ≡ length (bytes_of block.old))))) }
         ensures bytes { IfOk result (λ b. b.now.bytes ≡ bytes_of block.old) }
         ensures refusal { IfErr result (λ r. r ≡ Refusal.Memory) };
+
+    /// Keeps so many bytes from `start` on, moves them to the front of the block, and puts more behind them: where no
+    /// other holds the block, as many bytes stand before them, and there is room for all without a request for memory.
+    /// Whether it was done. As in a new block, each byte that stands there then counts as copied once. Takes time of
+    /// their number.
+    fn compact(block: &mut Self::Block, start: usize, keep: usize, behind: Behind) -> bool
+        requires { start + keep ≤ length (bytes_of block.old) }
+        ensures bytes { result ≡ true →
+            bytes_of block.new ≡ take keep (drop start (bytes_of block.old)) ++ behind_bytes behind.entry }
+        ensures copied { result ≡ true → copied block.new ≡ length (bytes_of block.new) }
+        ensures bytes_kept { result ≡ false → bytes_of block.new ≡ bytes_of block.old }
+        ensures copied_kept { result ≡ false → copied block.new ≡ copied block.old };
 
     /// The bytes alone, or the block back where others hold it.
     fn into_sole(block: Self::Block) -> Result<Sole, Self::Block>

@@ -1,6 +1,8 @@
 //! The bytes of a block, as the one holder that may change them sees them.
-ghost use Rattle.std.specs.Prelude.{◌≡◌, ◌+◌, ◌<◌, ◌++◌, [], length, take, replicate, slice_set, IfOk, IfErr, OnOk, OnErr};
+ghost use Rattle.std.specs.Prelude.{◌≡◌, ◌+◌, ◌<◌, ◌≤◌, ◌++◌, [], length, take, drop, replicate, slice_set, true, false, IfOk, IfErr, OnOk, OnErr};
+ghost use Rattle.tendril_block.specs.Behind.{behind_bytes};
 
+use crate::behind::Behind;
 use crate::copied::Copied;
 use crate::refusal::Refusal;
 use crate::stored::Stored;
@@ -142,6 +144,28 @@ impl Body {
         self.stored.replace_end(keep, middle, more);
         self.took = self.took.plus(&self.took, &self.took, extra);
         Ok(())
+    }
+
+    /// Keeps so many bytes from `start` on, moves them to the front, and puts more behind them: where as many stand before
+    /// them, and there is room for all without a request for memory. Whether it was done. Takes time of the bytes that
+    /// stand there then.
+    pub(crate) fn compact(&mut self, start: usize, keep: usize, behind: Behind) -> bool
+        requires { start + keep ≤ length self.old.bytes }
+        ensures bytes { result ≡ true →
+            self.new.bytes ≡ take keep (drop start self.old.bytes) ++ behind_bytes behind.entry }
+        ensures took { result ≡ true → self.new.took ≡ self.old.took + length self.new.bytes }
+        ensures unchanged { result ≡ false → self.new ≡ self.old }
+    {
+        let Some(total) = behind.total(keep) else {
+            return false;
+        };
+        if !self.stored.keep_part(start, keep, total) {
+            return false;
+        }
+        self.stored.put_behind(behind);
+        let len = self.stored.as_slice().len();
+        self.took = self.took.plus(&self.took, &self.took, len);
+        true
     }
 
     /// Cuts off all bytes from `len` on. Where there are no more than `len`, nothing is done.

@@ -1,5 +1,5 @@
 //! Few bytes, in the value itself, with their number in one byte.
-ghost use Rattle.std.specs.Prelude.{◌≡◌, ◌+◌, ◌≤◌, ◌++◌, [], length, take};
+ghost use Rattle.std.specs.Prelude.{◌≡◌, ◌+◌, ◌≤◌, ◌++◌, [], length, take, drop};
 ghost use Rattle.std.specs.List.{refill};
 ghost use Rattle.std.specs.Borrow.{Lends, Array, u8 as byte, sem};
 
@@ -111,6 +111,16 @@ impl Few {
         if len < self.len as usize {
             self.len = len as u8;
         }
+    }
+
+    /// Keeps so many bytes from `start` on, at the front.
+    pub(crate) fn keep_part(&mut self, start: usize, len: usize)
+        requires { start + len ≤ length self.old }
+        ensures { self.new ≡ take len (drop start self.old) }
+    {
+        let mut kept = Few::new(self.alloc);
+        kept.push(&self.as_slice()[start..start + len]);
+        *self = kept;
     }
 }
 

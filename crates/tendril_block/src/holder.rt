@@ -5,6 +5,7 @@ ghost use Rattle.tendril_block.specs.Filled.{Filled};
 ghost use Rattle.tendril_block.specs.contracts.body.Body.{the_row as body_row};
 
 use crate::atomicity::Atomicity;
+use crate::behind::Behind;
 use crate::body::Body;
 use crate::copied::Copied;
 use crate::refusal::Refusal;
@@ -117,6 +118,21 @@ impl<C: Counted> Atomicity for CountedBy<C> {
             Some(body) => Ok(body),
             None => Err(Refusal::Memory),
         }
+    }
+
+    fn compact(block: &mut Holder<C>, start: usize, keep: usize, behind: Behind) -> bool {
+        let none = Copied::zero();
+        let since = none.plus(&none, block.pointer.body().took(), 0);
+        let Some(body) = block.pointer.alone_mut() else {
+            return false;
+        };
+        if !body.compact(start, keep, behind) {
+            return false;
+        }
+        // As in a new block: what was copied for this holder before doesn't count any more.
+        block.since = since;
+        block.before = none;
+        true
     }
 
     fn into_sole(block: Holder<C>) -> Result<Sole, Holder<C>> {

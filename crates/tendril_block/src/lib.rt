@@ -6,6 +6,7 @@
 
 mod atomic;
 mod atomicity;
+mod behind;
 mod body;
 mod copied;
 mod few;
@@ -18,6 +19,7 @@ mod stored;
 
 pub use atomic::{Atomic, AtomicUpTo, SharedBlock, SharedPointer};
 pub use atomicity::{Atomicity, MAX_HOLDERS, MAX_LEN, MIN_CAP};
+pub use behind::Behind;
 pub use body::Body;
 pub use few::FEW;
 pub use holder::{Counted, CountedBy, Holder};

@@ -1,14 +1,14 @@
 //! The node of a block: one piece of the heap with the word that counts its holders, and the body.
 //!
-//! All functions with a raw pointer stand here. What a holder owns is said in `specs/Held`, by the machine of
+//! All functions with a raw pointer stand here. What a holder owns is said in `specs/Owned`, by the machine of
 //! `tendril_count` and the rule in which a node's word is kept.
 
+pub(crate) mod any_thread;
 pub(crate) mod handle;
 pub(crate) mod kind;
 pub(crate) mod last;
-pub(crate) mod local;
 pub(crate) mod loose;
-pub(crate) mod shared;
+pub(crate) mod one_thread;
 
 use crate::body::Body;
 

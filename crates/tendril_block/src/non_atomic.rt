@@ -5,7 +5,7 @@ use crate::atomicity::MAX_HOLDERS;
 use crate::body::Body;
 use crate::holder::{Counted, CountedBy, Holder};
 use crate::node::handle::Handle;
-use crate::node::local::OneThread;
+use crate::node::one_thread::OneThread;
 use crate::sole::Sole;
 use std::alloc::Global;
 

@@ -1,7 +1,9 @@
 //! Where the bytes of a block stand: few in the counted node itself, more in a vector.
-ghost use Rattle.std.specs.Prelude.{◌≡◌, ◌+◌, ◌≤◌, ◌++◌, length, take, replicate, min, IfOk, IfErr, OnOk, OnErr, vec_len, vec_capacity};
+ghost use Rattle.std.specs.Prelude.{◌≡◌, ◌+◌, ◌≤◌, ◌++◌, length, take, drop, replicate, min, true, false, IfOk, IfErr, OnOk, OnErr, vec_len, vec_capacity};
+ghost use Rattle.tendril_block.specs.Behind.{behind_bytes, behind_room};
 ghost use Rattle.tendril_block.specs.Stored.{stored_bytes, HasRoom};
 
+use crate::behind::Behind;
 use crate::few::{FEW, Few};
 use crate::refusal::Refusal;
 use std::alloc::Global;
@@ -103,10 +105,7 @@ impl Stored {
             .checked_add(count)
             .ok_or(Refusal::Memory)?;
         self.make_room(len)?;
-        match self {
-            Stored::Small(few) => few.push(&[0; FEW][..count]),
-            Stored::Large(bytes) => bytes.resize(len, 0)?,
-        }
+        self.fill(count);
         Ok(())
     }
 
@@ -137,6 +136,75 @@ impl Stored {
             Stored::Large(bytes) => bytes.truncate(len),
         }
     }
+
+    /// Keeps so many bytes from `start` on, at the front, where as many stand before them, and there is room for `room`
+    /// bytes in all; whether it is so.
+    pub(crate) fn keep_part(&mut self, start: usize, len: usize, room: usize) -> bool
+        requires { start + len ≤ length (stored_bytes self.old) }
+        ensures bytes { result ≡ true → stored_bytes self.new ≡ take len (drop start (stored_bytes self.old)) }
+        ensures room { result ≡ true → HasRoom self.new room }
+        ensures unchanged { result ≡ false → stored_bytes self.new ≡ stored_bytes self.old }
+    {
+        if start < len {
+            return false;
+        }
+        match self {
+            Stored::Small(few) if room <= FEW => few.keep_part(start, len),
+            Stored::Large(bytes) if room <= bytes.capacity() => keep_range(bytes, start, len),
+            _ => return false,
+        }
+        true
+    }
+
+    /// Puts these bytes at the end, where there is room for them.
+    pub(crate) fn put_behind(&mut self, behind: Behind)
+        requires { HasRoom self.old (length (stored_bytes self.old) + behind_room behind) }
+        ensures { stored_bytes self.new ≡ stored_bytes self.old ++ behind_bytes behind.entry }
+    {
+        match behind {
+            Behind::Parts(middle, more) => {
+                let len = self.as_slice().len();
+                self.replace_end(len, middle, more);
+            }
+            Behind::Zeros(count) => self.fill(count),
+            Behind::Room(_) => {}
+        }
+    }
+
+    // Puts so many zeros at the end, where there is room for them.
+    fn fill(&mut self, count: usize)
+        requires { HasRoom self.old (length (stored_bytes self.old) + count) }
+        ensures { stored_bytes self.new ≡ stored_bytes self.old ++ replicate count 0 }
+    {
+        match self {
+            Stored::Small(few) => few.push(&[0; FEW][..count]),
+            Stored::Large(bytes) => {
+                let filled = bytes.resize(bytes.len() + count, 0);
+                prove!(filled.is_ok());
+            }
+        }
+    }
+}
+
+// Keeps so many bytes from `start` on, at the front.
+fn keep_range(bytes: &mut Vec<u8>, start: usize, len: usize)
+    requires within { start + len ≤ length bytes.old.items }
+    requires apart { len ≤ start }
+    ensures items { bytes.new.items ≡ take len (drop start bytes.old.items) }
+    ensures capacity { vec_capacity bytes.new ≡ vec_capacity bytes.old }
+{
+    copy_to_front(bytes.as_mut_slice(), start, len);
+    bytes.truncate(len);
+}
+
+// Writes so many bytes from `start` on over the first ones. The two parts stand apart, so it is one plain copy.
+fn copy_to_front(bytes: &mut [u8], start: usize, len: usize)
+    requires within { start + len ≤ length bytes.old }
+    requires apart { len ≤ start }
+    ensures { take len bytes.new ≡ take len (drop start bytes.old) }
+{
+    let (front, back) = bytes.split_at_mut(start);
+    front[..len].copy_from_slice(&back[..len]);
 }
 
 // A vector of few bytes with room for so many.

@@ -29,6 +29,7 @@ behind_mark [] words = refl
 behind_mark (Char c ∷ told) words = behind_mark told words
 behind_mark (Mark other ∷ told) words = refl
 
-pub marked_after : (told : List Told) (was is : Bool) (e : Sent) → was ≡ is_marked told → is ≡ is_broken was e → is ≡ is_marked (told ++ told_of e)
+pub marked_after : (told : List Told) (was is : Bool) (e : Sent) → was ≡ is_marked told → is ≡ is_broken was e
+    → is ≡ is_marked (told ++ told_of e)
 marked_after told was is (Piece t) h call = call ∙ h ∙ sym (behind_text told (chars t.bytes))
 marked_after told was is (Fault words) h call = call ∙ sym (behind_mark told words)

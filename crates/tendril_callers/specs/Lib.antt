@@ -1,2 +1,3 @@
+-- The words of the callers' contracts.
 pub mod Breaks
 pub mod Decoded

@@ -165,13 +165,13 @@ module _ {D S : Type 0} (inner : D → S) (held : D → List ℕ) (failed : D �
   pub reads_more : (written b : List ℕ) (d next : D) (these : Reads) (r : Refusal) (handed : Option D) → Halts DecoderTakes DecoderRefuses DecoderEnds 1 d these r handed → (r ≡ TooManyReads) × (handed ≡ Some next) → failed d ≡ false → Stands has written (inner d) (held d) b
       → Stands has written (inner next) (held next) (b ++ these.given) × (failed next ≡ false) × ((these.reads ≡ 1) × (these.failed ≡ 0) × (these.empty ≡ 0))
   reads_more written b d next these r handed (inl h) is whole s =
-      let same : h.0 ≡ next = sym (same_Some next h.0 (sym is.1 ∙ h.2)) in
-      let counts : (these.reads ≡ 1) × (these.failed ≡ 0) = ⊎_elim (λ k. (k.1, k.2)) (λ k. ⊎_elim (λ i. absurd (none_left Io refl (sym is.0 ∙ i.0))) (λ m. absurd (none_left Memory refl (sym is.0 ∙ m.0))) k) h.3 in
+      let same : h.sink ≡ next = sym (same_Some next h.sink (sym is.1 ∙ h.back)) in
+      let counts : (these.reads ≡ 1) × (these.failed ≡ 0) = ⊎_elim (λ k. (k.1, k.2)) (λ k. ⊎_elim (λ i. absurd (none_left Io refl (sym is.0 ∙ i.0))) (λ m. absurd (none_left Memory refl (sym is.0 ∙ m.0))) k) h.stops in
       let on : Stands has written (inner next) (held next) (b ++ these.given) × (failed next ≡ false) = subst (λ n. Stands has written (inner n) (held n) (b ++ these.given) × (failed n ≡ false)) same
-      (subst (λ g. Stands has written (inner h.0) (held h.0) (b ++ g)) h.1.2 (stands_after has inner held failed written h.1.0 d h.0 b s h.1.1), unfailed failed _ h.1.0 d h.0 whole h.1.1) in
-      (on.0, on.1, (counts.0, counts.1, h.4))
-  reads_more written b d next these r handed (inr (inl h)) is whole s = absurd (process_clash _ _ _ _ _ _ h.2 r h.6.1 (inl is.0))
-  reads_more written b d next these r handed (inr (inr h)) is whole s = absurd (end_clash _ _ _ _ _ _ r h.2 (inl is.0))
+      (subst (λ g. Stands has written (inner h.sink) (held h.sink) (b ++ g)) h.receives.2 (stands_after has inner held failed written h.receives.0 d h.sink b s h.receives.1), unfailed failed _ h.receives.0 d h.sink whole h.receives.1) in
+      (on.0, on.1, (counts.0, counts.1, h.empty))
+  reads_more written b d next these r handed (inr (inl h)) is whole s = absurd (process_clash _ _ _ _ _ _ h.piece r h.refused.1 (inl is.0))
+  reads_more written b d next these r handed (inr (inr h)) is whole s = absurd (end_clash _ _ _ _ _ _ r h.refused (inl is.0))
 
   -- all is read, and the sink's end is accepted
   pub reads_to_end : {O : Type 0} (finishes : S → O → Type 0) (written b : List ℕ) (d : D) (these : Reads) (out : O) → ReadsAll DecoderTakes (λ d o. (failed d ≡ false) × Ends (Joins has) finishes (inner d) (held d) o) 1 d these out → Stands has written (inner d) (held d) b
@@ -222,15 +222,15 @@ module _ {D S : Type 0} (inner : D → S) (held : D → List ℕ) (failed : D �
     at_end mid new r (inr h) failed one = sink_refused r h.0 failed one
 
     pub halts_stops : (d : D) (r : Refusal) (handed : Option D) → Halts DecoderTakes DecoderRefuses DecoderEnds 1 d these r handed → failed d ≡ false → (r ≡ TooManyReads → handed ≡ None) → Stopped r
-    halts_stops d r handed (inl h) whole gone = between r (λ is. none≢some h.0 (sym h.2 ∙ gone is)) h.3 h.4
+    halts_stops d r handed (inl h) whole gone = between r (λ is. none≢some h.sink (sym h.back ∙ gone is)) h.stops h.empty
     halts_stops d r handed (inr (inl h)) whole gone = ⊎_elim
-        (λ k. absurd (true≢false (sym k.0 ∙ unfailed failed _ h.4.0 d h.0 whole h.4.1)))
-        (λ k. at_piece h.1 h.2 k.1.mid (inner h.3) r k.1.stop h.5 h.8 h.9 h.10)
-        h.6.1
+        (λ k. absurd (true≢false (sym k.0 ∙ unfailed failed _ h.receives.0 d h.sink whole h.receives.1)))
+        (λ k. at_piece h.before h.piece k.1.mid (inner h.last) r k.1.stop h.given h.none_failed h.empty h.within)
+        h.refused.1
     halts_stops d r handed (inr (inr h)) whole gone = ⊎_elim
-        (λ k. absurd (true≢false (sym k.0 ∙ unfailed failed _ h.1.0 d h.0 whole h.1.1)))
-        (λ k. ⊎_elim (λ v. at_end v.1.mid v.0 r v.1.stop h.4 h.6) (λ v. sink_refused r v.2 h.4 h.6) k.1)
-        h.2
+        (λ k. absurd (true≢false (sym k.0 ∙ unfailed failed _ h.receives.0 d h.sink whole h.receives.1)))
+        (λ k. ⊎_elim (λ v. at_end v.1.mid v.0 r v.1.stop h.none_failed h.within) (λ v. sink_refused r v.2 h.none_failed h.within) k.1)
+        h.refused
 
 -- a piece that is lost came by one read
 
@@ -262,15 +262,15 @@ module _ {R : Type 0} (history : R → Reads) (remaining : R → Option (List �
     pub halts_loses : (d : D) (these : Reads) (r : Refusal) (handed : Option D)
         → Halts (DecoderTakes inner held failed has refuses finish_refused) (DecoderRefuses inner held failed has refuses finish_refused) (DecoderEnds inner held failed has refuses finish_refused) 1 d these r handed
         → failed d ≡ false → MakesReads history remaining a these b → after ≡ before → Loses r
-    halts_loses d these r handed (inl h) whole makes same = ⊎_elim (λ k. subst Loses (sym k.0) tt) (λ k. ⊎_elim (λ i. subst Loses (sym i.0) tt) (λ m. subst Loses (sym m.0) tt) k) h.3
+    halts_loses d these r handed (inl h) whole makes same = ⊎_elim (λ k. subst Loses (sym k.0) tt) (λ k. ⊎_elim (λ i. subst Loses (sym i.0) tt) (λ m. subst Loses (sym m.0) tt) k) h.stops
     halts_loses d these r handed (inr (inl h)) whole makes same = ⊎_elim
-        (λ k. absurd (true≢false (sym k.0 ∙ unfailed failed _ h.4.0 d h.0 whole h.4.1)))
-        (λ k. stop_loses h.1 h.2 these k.1.mid (inner h.3) r makes same h.5 h.8 h.9 h.10 k.1.stop)
-        h.6.1
+        (λ k. absurd (true≢false (sym k.0 ∙ unfailed failed _ h.receives.0 d h.sink whole h.receives.1)))
+        (λ k. stop_loses h.before h.piece these k.1.mid (inner h.last) r makes same h.given h.none_failed h.empty h.within k.1.stop)
+        h.refused.1
     halts_loses d these r handed (inr (inr h)) whole makes same = ⊎_elim
-        (λ k. absurd (true≢false (sym k.0 ∙ unfailed failed _ h.1.0 d h.0 whole h.1.1)))
+        (λ k. absurd (true≢false (sym k.0 ∙ unfailed failed _ h.receives.0 d h.sink whole h.receives.1)))
         (λ k. ⊎_elim (λ v. end_loses v.1.mid v.0 r v.1.stop) (λ v. subst Loses (sym v.2) tt) k.1)
-        h.2
+        h.refused
 
   -- all that is due of what came before it is written
   pub loses_last : (first : R) (start : Option (List ℕ)) (read : List ℕ) (made : ℕ) (r : Refusal) → MakesReads history remaining first (going read made) a → WritesText (characters (due_open read)) start before → Loses r → LosesLastPiece history remaining first b start after r

@@ -9,7 +9,7 @@ use Rattle.tendril_block.specs.Refusals.{name_of, number_of}
 use Rattle.tendril_block.specs.declared.refusal.Refusal.{Refusal}
 use Rattle.tendril_block.specs.declared.refusal.Refusal.TheVariants.{Count, Io, Memory, SinkRefused, TooManyReads}
 use Rattle.tendril_cli.specs.Endings.{AppendsFront, WritesFrontOfLines, RunStops, EndsProgram, complaint}
-use Rattle.tendril_cli.specs.Held.{PrintsAll, PrintsSome}
+use Rattle.tendril_cli.specs.HeldBack.{PrintsAll, PrintsSome}
 use Rattle.tendril_cli.specs.Sessions.{WritesFromEmpty, lines as lines_of}
 use Rattle.tendril_cli.proofs.SessionLemmas.{appends_more, appends_none, no_lines}
 

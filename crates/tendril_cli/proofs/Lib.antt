@@ -1,5 +1,5 @@
 pub mod DecodingLemmas
 mod EndingLemmas
-mod HeldLemmas
+mod HeldBackLemmas
 mod SessionLemmas
 mod WordLemmas

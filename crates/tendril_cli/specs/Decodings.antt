@@ -55,28 +55,40 @@ WritesUpTo these left before after =
     WritesFrontOfText (characters (due_open these.given)) before after
     ⊎ (WritesFrontOfText (characters (due these.given)) before after × IsAtEnd left × (these.empty ≡ 1))
 
--- Where each refusal ends a decoding, and what is written then. No read was left; there was no memory for one that was left;
--- one failed; a piece could be shared no more; or the rest, of which no clause can say what was in the way.
+-- Where each refusal ends a decoding, and what is written then. No read was left; there was no memory for one that was
+-- left; one failed; a piece could be shared no more; or the rest, of which no clause can say what was in the way.
 abbrev pub DecodeStops : ℕ → Reads → Option (List ℕ) → Option (List ℕ) → Option (List ℕ) → Refusal → Type 0
-DecodeStops most these left before after TooManyReads = WritesAll these before after × (these.failed ≡ 0) × (these.reads ≡ most)
-DecodeStops most these left before after Memory = WritesAll these before after × (these.failed ≡ 0) × (these.reads < most)
+DecodeStops most these left before after TooManyReads =
+    WritesAll these before after × (these.failed ≡ 0) × (these.reads ≡ most)
+DecodeStops most these left before after Memory =
+    WritesAll these before after × (these.failed ≡ 0) × (these.reads < most)
 DecodeStops most these left before after Io = WritesAll these before after × (these.failed ≡ 1) × (these.reads ≤ most)
-DecodeStops most these left before after Count = WritesBefore these before after × (these.failed ≡ 0) × (these.reads ≤ most)
-DecodeStops most these left before after SinkRefused = WritesUpTo these left before after × (these.failed ≡ 0) × (these.reads ≤ most)
+DecodeStops most these left before after Count =
+    WritesBefore these before after × (these.failed ≡ 0) × (these.reads ≤ most)
+DecodeStops most these left before after SinkRefused =
+    WritesUpTo these left before after × (these.failed ≡ 0) × (these.reads ≤ most)
 DecodeStops most these left before after other = ⊥
 
 -- these reads, behind so many that gave b
 abbrev pub behind : List ℕ → ℕ → Reads → Reads
-behind b made these = record { given = b ++ these.given; reads = made + these.reads; failed = these.failed; empty = these.empty }
+behind b made these =
+    record { given = b ++ these.given; reads = made + these.reads; failed = these.failed; empty = these.empty }
 
 -- Of a piece that could be shared no more nothing is written: one read gave it, and it is long.
-abbrev pub LosesPiece : {R : Type 0} → (R → Reads) → (R → Option (List ℕ)) → R → R → Option (List ℕ) → Option (List ℕ) → Refusal → Type 0
-LosesPiece history remaining old new before after Count = (piece : List ℕ) × MakesReads history remaining old (giving piece) new × LongPieceMay piece Count × (after ≡ before)
+abbrev pub LosesPiece : {R : Type 0} → (R → Reads) → (R → Option (List ℕ)) → R → R → Option (List ℕ) → Option (List ℕ)
+    → Refusal → Type 0
+LosesPiece history remaining old new before after Count =
+    (piece : List ℕ) × MakesReads history remaining old (giving piece) new × LongPieceMay piece Count × (after ≡ before)
 LosesPiece history remaining old new before after other = Unit {0}
 
 -- And all that is due of what came before that read is written.
-abbrev pub LosesLastPiece : {R : Type 0} → (R → Reads) → (R → Option (List ℕ)) → R → R → Option (List ℕ) → Option (List ℕ) → Refusal → Type 0
-LosesLastPiece {R} history remaining old new before after Count = (mid : R) × (read : List ℕ) × (made : ℕ) × (piece : List ℕ) × MakesReads history remaining old (record { given = read; reads = made; failed = 0; empty = 0 }) mid × MakesReads history remaining mid (giving piece) new × LongPieceMay piece Count × WritesText (characters (due_open read)) before after
+abbrev pub LosesLastPiece : {R : Type 0} → (R → Reads) → (R → Option (List ℕ)) → R → R → Option (List ℕ)
+    → Option (List ℕ) → Refusal → Type 0
+LosesLastPiece {R} history remaining old new before after Count =
+    (mid : R) × (read : List ℕ) × (made : ℕ) × (piece : List ℕ)
+    × MakesReads history remaining old (record { given = read; reads = made; failed = 0; empty = 0 }) mid
+    × MakesReads history remaining mid (giving piece) new × LongPieceMay piece Count
+    × WritesText (characters (due_open read)) before after
 LosesLastPiece history remaining old new before after other = Unit {0}
 
 -- a decoder that hasn't failed and keeps what b leaves open, over a sink that has nothing to be written
@@ -87,10 +99,11 @@ pub record IsReady (b held : List ℕ) (failed : Bool) (unwritten : List ℕ) : 
 
 -- the refusals that end a decoding
 abbrev pub EndsDecoding : Refusal → Type 0
-EndsDecoding refusal = (refusal ≡ Memory) ⊎ ((refusal ≡ Count) ⊎ ((refusal ≡ TooManyReads) ⊎ ((refusal ≡ Io) ⊎ (refusal ≡ SinkRefused))))
+EndsDecoding refusal =
+    (refusal ≡ Memory) ⊎ ((refusal ≡ Count) ⊎ ((refusal ≡ TooManyReads) ⊎ ((refusal ≡ Io) ⊎ (refusal ≡ SinkRefused))))
 
--- A refusal ended the program: standard error has taken its line or a front of that, and what was written before stands. Some
--- reads gave what the reader gave; how many those were, the reader of a program can't tell.
+-- A refusal ended the program: standard error has taken its line or a front of that, and what was written before
+-- stands. Some reads gave what the reader gave; how many those were, the reader of a program can't tell.
 pub record DecodingEnded (most : ℕ) (input before after told told' : Option (List ℕ)) : Type 0 where
   pub refusal : Refusal
   pub these : Reads

@@ -1,5 +1,6 @@
+-- The words of the program's contracts.
 pub mod Decodings
 pub mod Endings
-pub mod Held
+pub mod HeldBack
 pub mod Sessions
 pub mod Words

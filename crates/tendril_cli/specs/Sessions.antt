@@ -1,3 +1,4 @@
+-- A session: the lines of a script, one after another, on one table, and what is written for them.
 use Rattle.std.specs.Prelude.{ℕ, ◌≡◌, ◌==◌, ◌⊎◌, if◌then◌else◌, List, [], ◌∷◌, ◌++◌, codes, Option, IfSome}
 use Rattle.std.specs.Char.{is_whitespace}
 use Rattle.std.specs.List.{slice_split}
@@ -43,21 +44,27 @@ Answers old line text new = IsAnswered old line text new ⊎ IsMalformed old lin
 -- what is written for a line: its answer and a line feed, nothing for an empty one
 abbrev pub LinePrints : List Cell → List ℕ → List ℕ → List Cell → Type 0
 LinePrints old [] bytes new = (bytes ≡ []) × (new ≡ old)
-LinePrints old (byte ∷ line) bytes new = (text : List ℕ) × (Answers old (byte ∷ line) text new × (bytes ≡ text ++ 10 ∷ []))
+LinePrints old (byte ∷ line) bytes new =
+    (text : List ℕ) × (Answers old (byte ∷ line) text new × (bytes ≡ text ++ 10 ∷ []))
 
 -- what is written for lines, one after another
 abbrev pub Session : List Cell → List (List ℕ) → List ℕ → List Cell → Type 0
 Session old [] bytes new = (bytes ≡ []) × (new ≡ old)
-Session old (line ∷ lines) bytes new = (mid : List Cell) × ((first : List ℕ) × ((rest : List ℕ) × (LinePrints old line first mid × (Session mid lines rest new × (bytes ≡ first ++ rest)))))
+Session old (line ∷ lines) bytes new =
+    (mid : List Cell)
+    × ((first : List ℕ)
+    × ((rest : List ℕ) × (LinePrints old line first mid × (Session mid lines rest new × (bytes ≡ first ++ rest)))))
 
 -- a writer that tells its bytes has taken what is written for a line
-pub record WritesLine (old : List Cell) (line : List ℕ) (new : List Cell) (before after : Option (List ℕ)) : Type 0 where
+pub record WritesLine (old : List Cell) (line : List ℕ) (new : List Cell)
+    (before after : Option (List ℕ)) : Type 0 where
   pub bytes : List ℕ
   pub writes : LinePrints old line bytes new
   pub appends : Appends before after bytes
 
 -- and what is written for lines
-pub record WritesLines (old : List Cell) (lines : List (List ℕ)) (new : List Cell) (before after : Option (List ℕ)) : Type 0 where
+pub record WritesLines (old : List Cell) (lines : List (List ℕ)) (new : List Cell)
+    (before after : Option (List ℕ)) : Type 0 where
   pub bytes : List ℕ
   pub session : Session old lines bytes new
   pub appends : Appends before after bytes

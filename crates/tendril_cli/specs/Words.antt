@@ -1,3 +1,4 @@
+-- What the program's words ask it for.
 use Rattle.std.specs.Prelude.{ℕ, ◌≡◌, List, [], ◌∷◌, codes}
 
 -- the words that ask for a run: none, or `run`

@@ -1,4 +1,4 @@
-//! Writing of which something is known after a failed write too.
+//! Writing that says what a failed write has written.
 ghost use Rattle.std.specs.Prelude.{◌≡◌, OnOk, OnErr, IfErr};
 ghost use Rattle.std.specs.Io.KnownBytes.{Appends, Keeps};
 ghost use Rattle.tendril_cli.specs.Endings.{AppendsFront};

@@ -2,7 +2,7 @@
 ghost use Rattle.std.specs.Prelude.{◌≡◌, Some, IfOk, IfErr, OnOk, OnErr, [], ◌∷◌, ◌++◌, map, string_bytes};
 ghost use Rattle.std.specs.Io.KnownBytes.{Appends};
 ghost use Rattle.tendril_cli.specs.Endings.{RunStops, AppendsFront};
-ghost use Rattle.tendril_cli.specs.Held.{Passes, PrintsAll, PrintsSome};
+ghost use Rattle.tendril_cli.specs.HeldBack.{Passes, PrintsAll, PrintsSome};
 ghost use Rattle.tendril_cli.specs.Sessions.{Answers, Replies, WritesLine, WritesScript, lines};
 
 use crate::output::{flush, write_bytes};

@@ -1,6 +1,29 @@
 -- A counted block as a machine. A step of a holder is one exchange or load on the block's word of 64 bits. Holders are
 -- numbered in the order in which they were made, and a number is never used again. Only holders read.
-use Rattle.std.specs.Prelude.{◌≡◌, ◌⊎◌, ℕ, zero, suc, ◌+◌, ◌-◌, ◌*◌, ◌%◌, ◌^◌, ◌<◌, ◌≤◌, Bool, true, false, List, [], ◌∷◌, ◌++◌, length, if◌then◌else◌, ◌==◌}
+use Rattle.std.specs.Prelude.{
+  ◌≡◌,
+  ◌⊎◌,
+  ℕ,
+  zero,
+  suc,
+  ◌+◌,
+  ◌-◌,
+  ◌*◌,
+  ◌%◌,
+  ◌^◌,
+  ◌<◌,
+  ◌≤◌,
+  Bool,
+  true,
+  false,
+  List,
+  [],
+  ◌∷◌,
+  ◌++◌,
+  length,
+  if◌then◌else◌,
+  ◌==◌,
+}
 use lib.Dec.{ltb}
 
 -- what a number stands for: a holder that has ended, or a holder of this thread

@@ -1,5 +1,5 @@
--- What an invariant holds of a counted block's word, and what a holder owns.
--- The word lies at b, o. The holders share P for the lifetime a, and each has one part in 2 ^ 63 of a's token. The name γ has each holder's role.
+-- What an invariant holds of a counted block's word, and what a holder owns. The word lies at b, o. The holders share P
+-- for the lifetime a, and each has one part in 2 ^ 63 of a's token. The name γ has each holder's role.
 use mathlib.Core.Path.{sym, ap, ◌∙◌}
 use Rattle.std.specs.Prelude.{◌≡◌, ◌≢◌, refl, ℕ, zero, suc, ◌<◌, Bool, true, false, if◌then◌else◌, ⊤, List, [], ◌∷◌}
 use base.Stored.{Gv, Coded, coded_ℕ, coded_via}
@@ -7,7 +7,25 @@ use base.Share.{three_quarters}
 use base.Fml.{Fml, fsep, fex, fdead, flent}
 use types.RcWeak.{part, rest}
 use Rattle.atomic_table.specs.Seated.{word, fact, seen, roster}
-use Rattle.tendril_count.specs.Machine.{Holder, Ended, Reads, Writes, Surplus, Block, CountStep, Make, Add, Alone, Done, Subtract, Free, Pass, held, after, holder_at}
+use Rattle.tendril_count.specs.Machine.{
+  Holder,
+  Ended,
+  Reads,
+  Writes,
+  Surplus,
+  Block,
+  CountStep,
+  Make,
+  Add,
+  Alone,
+  Done,
+  Subtract,
+  Free,
+  Pass,
+  held,
+  after,
+  holder_at,
+}
 
 -- what a mark says of a holder: what it does, on whatever thread
 pub data Role : Type 0 where
@@ -85,7 +103,8 @@ module _ (c : Role → Gv) where
 
   module _ (whose : Threads) (limit : ℕ) (P : Fml) (b o a γ : ℕ) where
     abbrev pub beside : Block → Fml
-    beside s = fsep (roster c γ 0 (roles s.holders)) (fsep (fact (IsReached whose limit s × (0 < held s))) (fsep (rest 63 a (held s)) (flent (a ∷ []) P)))
+    beside s = fsep (roster c γ 0 (roles s.holders))
+        (fsep (fact (IsReached whose limit s × (0 < held s))) (fsep (rest 63 a (held s)) (flent (a ∷ []) P)))
 
     abbrev pub live : Block → Fml
     live s = fsep (word b o s.word) (beside s)
@@ -100,7 +119,11 @@ module _ (c : Role → Gv) where
 
     -- what who leaves with the word has: the word and P, and the machine as it stands
     abbrev pub out : (Block → Type 0) → ℕ → Fml
-    out Is n = fsep (word b o n) (fsep (fdead (a ∷ [])) (fsep (flent (a ∷ []) P) (fex Block (λ s. fsep (roster c γ 0 (roles s.holders)) (fact (IsReached whose limit s × (s.word ≡ n) × Is s))))))
+    out Is n = fsep (word b o n)
+        (fsep (fdead (a ∷ []))
+        (fsep (flent (a ∷ []) P)
+        (fex Block (λ s. fsep (roster c γ 0 (roles s.holders))
+        (fact (IsReached whose limit s × (s.word ≡ n) × Is s))))))
 
     -- what an add gives that goes on only where the word is still old: a new holder where it found that
     abbrev pub join_gives : ℕ → ℕ → Bool → Fml
@@ -109,7 +132,8 @@ module _ (c : Role → Gv) where
 
     -- what a load that found n gives: alone at 1, else nothing new
     abbrev pub alone_gives : ℕ → ℕ → ℕ → Bool → Fml
-    alone_gives k t n true = fsep (fact (n ≡ 1)) (fsep (mark γ k Writer) (out (λ s. holder_at s.holders k ≡ Writes t) 1))
+    alone_gives k t n true =
+        fsep (fact (n ≡ 1)) (fsep (mark γ k Writer) (out (λ s. holder_at s.holders k ≡ Writes t) 1))
     alone_gives k t n false = fsep (fact (n ≢ 1)) (fsep (mark γ k Reader) (part 63 a))
 
     -- what a subtract that found n gives: at 1 the duty to free, and all that is freed

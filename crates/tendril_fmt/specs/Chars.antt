@@ -1,5 +1,22 @@
 -- The characters of a text: their encodings one after another, and the place of each.
-use Rattle.std.specs.Prelude.{◌≡◌, ℕ, ◌+◌, ◌-◌, ◌^◌, ◌<◌, ◌≤◌, List, [], ◌∷◌, ◌++◌, length, take, drop, replicate, IsUtf8}
+use Rattle.std.specs.Prelude.{
+  ◌≡◌,
+  ℕ,
+  ◌+◌,
+  ◌-◌,
+  ◌^◌,
+  ◌<◌,
+  ◌≤◌,
+  List,
+  [],
+  ◌∷◌,
+  ◌++◌,
+  length,
+  take,
+  drop,
+  replicate,
+  IsUtf8,
+}
 use Rattle.std.specs.List.{flat_map}
 
 -- the encodings of characters, one after another
@@ -17,7 +34,8 @@ places_from encoding at (c ∷ cs) = (at, c) ∷ places_from encoding (at + leng
 
 -- the bytes begin with the encoding of their first character, c, which takes n of them, and the parts before and after
 -- that place are valid
-pub record IsFirstChar (valid : List ℕ → Type 0) (chars : List ℕ → List ℕ) (encodes : ℕ → Type 0) (encoding : ℕ → List ℕ) (bytes : List ℕ) (c n : ℕ) : Type 0 where
+pub record IsFirstChar (valid : List ℕ → Type 0) (chars : List ℕ → List ℕ) (encodes : ℕ → Type 0)
+    (encoding : ℕ → List ℕ) (bytes : List ℕ) (c n : ℕ) : Type 0 where
   pub encoded : encodes c
   pub len : n ≡ length (encoding c)
   pub within : n ≤ length bytes
@@ -27,7 +45,8 @@ pub record IsFirstChar (valid : List ℕ → Type 0) (chars : List ℕ → List 
   pub rest_valid : valid (drop n bytes)
 
 -- the texts of the characters cs and of the characters ds are valid, and have these characters
-pub record AreTextsOf (valid : List ℕ → Type 0) (chars : List ℕ → List ℕ) (encoding : ℕ → List ℕ) (cs ds : List ℕ) : Type 0 where
+pub record AreTextsOf (valid : List ℕ → Type 0) (chars : List ℕ → List ℕ) (encoding : ℕ → List ℕ)
+    (cs ds : List ℕ) : Type 0 where
   pub front_valid : valid (encodings encoding cs)
   pub rest_valid : valid (encodings encoding ds)
   pub front_chars : chars (encodings encoding cs) ≡ cs
@@ -49,7 +68,8 @@ pub record IsAtUtf8 (at : ℕ) (rest : List ℕ) : Type 0 where
   pub fits : at + length rest < 2 ^ 64
 
 -- the first n bytes of a text are the encodings of its first characters, cs, and a text of its other characters is left
-pub record IsSplitAfter (valid : List ℕ → Type 0) (chars : List ℕ → List ℕ) (encoding : ℕ → List ℕ) (bytes cs : List ℕ) (n : ℕ) : Type 0 where
+pub record IsSplitAfter (valid : List ℕ → Type 0) (chars : List ℕ → List ℕ) (encoding : ℕ → List ℕ) (bytes cs : List ℕ)
+    (n : ℕ) : Type 0 where
   pub within : n ≤ length bytes
   pub front : take n bytes ≡ encodings encoding cs
   pub characters : chars bytes ≡ cs ++ chars (drop n bytes)

@@ -12,7 +12,9 @@ abbrev pub Means : List ℕ → ℕ → ℕ → ℕ → Meaning → Type 0
 Means bytes idx s n (Whole c) = IsScalar c × (slice_range bytes s (s + n) ≡ encode_utf8 c)
 Means bytes idx s n (LeadSurrogate i) = (i < 0x400) × (slice_range bytes s (s + n) ≡ encode_utf8 (0xD800 + i))
 Means bytes idx s n (TrailSurrogate i) = (i < 0x400) × (slice_range bytes s (s + n) ≡ encode_utf8 (0xDC00 + i))
-Means bytes idx s n (Prefix k) = (0 < k) × (sequence_len (slice_index bytes s) ≡ n + k) × (s + n ≡ length bytes) × AreContinuations bytes (s + 1) (idx + 1)
+Means bytes idx s n (Prefix k) =
+    (0 < k) × (sequence_len (slice_index bytes s) ≡ n + k) × (s + n ≡ length bytes)
+    × AreContinuations bytes (s + 1) (idx + 1)
 Means bytes idx s n Suffix = (s ≡ 0) × (n ≡ idx + 1) × (n ≤ 3) × AreContinuations bytes 0 n
 
 -- a sequence of n bytes at s with this meaning has the byte at idx among its own
@@ -34,4 +36,5 @@ pub record IsSequenceRound (bytes : List ℕ) (idx : ℕ) (found : Codepoint) : 
 
 -- one sequence at most, with one meaning, stands round a byte
 abbrev pub OneStands : Type 0
-OneStands = (bytes : List ℕ) (idx s n t r : ℕ) (m k : Meaning) → Stands bytes idx s n m → Stands bytes idx t r k → (s ≡ t) × (n ≡ r) × (m ≡ k)
+OneStands = (bytes : List ℕ) (idx s n t r : ℕ) (m k : Meaning) → Stands bytes idx s n m → Stands bytes idx t r k
+    → (s ≡ t) × (n ≡ r) × (m ≡ k)

@@ -1,5 +1,20 @@
 -- Code points and the bytes of their encodings, by `encode_utf8`, which covers the surrogates too.
-use Rattle.std.specs.Prelude.{◌≡◌, ◌≢◌, ℕ, ◌+◌, ◌<◌, ◌≤◌, List, ◌++◌, Option, MatchOption, slice_index, nat_lt, if◌then◌else◌, encode_utf8}
+use Rattle.std.specs.Prelude.{
+  ◌≡◌,
+  ◌≢◌,
+  ℕ,
+  ◌+◌,
+  ◌<◌,
+  ◌≤◌,
+  List,
+  ◌++◌,
+  Option,
+  MatchOption,
+  slice_index,
+  nat_lt,
+  if◌then◌else◌,
+  encode_utf8,
+}
 use Rattle.std.specs.Char.{IsScalar}
 use Rattle.tendril_fmt.specs.declared.futf.Meaning.{Meaning}
 use Rattle.tendril_fmt.specs.declared.futf.Meaning.TheVariants.{Whole, LeadSurrogate, TrailSurrogate, Prefix, Suffix}

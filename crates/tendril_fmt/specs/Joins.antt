@@ -1,3 +1,4 @@
+-- Two texts joined by a fixup.
 use Rattle.std.specs.Prelude.{ℕ, ◌-◌, List, ◌++◌, length, take, drop}
 use Rattle.tendril_fmt.specs.declared.fmt.fixup.Fixup.{Fixup}
 

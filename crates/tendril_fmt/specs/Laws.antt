@@ -36,8 +36,11 @@ JoinAppendsUnits = (l r : List ℕ) → IsWtf8 l → IsWtf8 r → units (wtf8_jo
 
 -- characters that have an encoding, in any order, spell a text, and it has these characters
 abbrev pub SpellText : (List ℕ → Type 0) → (List ℕ → List ℕ) → (ℕ → Type 0) → (ℕ → List ℕ) → Type 0
-SpellText valid chars encodes encoding = (cs : List ℕ) → AllByRecursion encodes cs → valid (encodings encoding cs) × (chars (encodings encoding cs) ≡ cs)
+SpellText valid chars encodes encoding =
+    (cs : List ℕ) → AllByRecursion encodes cs → valid (encodings encoding cs) × (chars (encodings encoding cs) ≡ cs)
 
 -- the place of a character is the number of bytes of those before it
 abbrev pub PlaceIsLengthBefore : Type 0
-PlaceIsLengthBefore = (encoding : ℕ → List ℕ) (cs ds : List ℕ) (c : ℕ) → slice_get (places_from encoding 0 (cs ++ c ∷ ds)) (length cs) ≡ Some (length (encodings encoding cs), c)
+PlaceIsLengthBefore =
+    (encoding : ℕ → List ℕ) (cs ds : List ℕ) (c : ℕ)
+    → slice_get (places_from encoding 0 (cs ++ c ∷ ds)) (length cs) ≡ Some (length (encodings encoding cs), c)

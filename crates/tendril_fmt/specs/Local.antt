@@ -35,15 +35,19 @@ PassesAsEnd accepted bytes = (length bytes ≡ 0) ⊎ StandsAccepted accepted by
 
 -- of each front of a valid list the local test is the test of the whole
 abbrev pub FrontTestIsWhole : (List ℕ → Type 0) → (Meaning → Type 0) → Type 0
-FrontTestIsWhole valid accepted = (part whole : List ℕ) → valid whole → IsFrontOf part whole → (valid part ↔ PassesAsFront accepted part)
+FrontTestIsWhole valid accepted =
+    (part whole : List ℕ) → valid whole → IsFrontOf part whole → (valid part ↔ PassesAsFront accepted part)
 
 -- and so of each end
 abbrev pub EndTestIsWhole : (List ℕ → Type 0) → (Meaning → Type 0) → Type 0
-EndTestIsWhole valid accepted = (part whole : List ℕ) → valid whole → IsEndOf part whole → (valid part ↔ PassesAsEnd accepted part)
+EndTestIsWhole valid accepted =
+    (part whole : List ℕ) → valid whole → IsEndOf part whole → (valid part ↔ PassesAsEnd accepted part)
 
 -- and of each slice, with both local tests
 abbrev pub SliceTestIsWhole : (List ℕ → Type 0) → (Meaning → Type 0) → Type 0
-SliceTestIsWhole valid accepted = (part whole : List ℕ) → valid whole → IsSliceOf part whole → (valid part ↔ (PassesAsEnd accepted part × PassesAsFront accepted part))
+SliceTestIsWhole valid accepted =
+    (part whole : List ℕ) → valid whole → IsSliceOf part whole
+    → (valid part ↔ (PassesAsEnd accepted part × PassesAsFront accepted part))
 
 -- the first four bytes, or all where there are fewer
 abbrev pub first_four : List ℕ → List ℕ
@@ -55,4 +59,7 @@ last_four bytes = drop (length bytes - 4) bytes
 
 -- the local tests rest on four bytes at each end
 abbrev pub RestsOnFourBytes : (Meaning → Type 0) → Type 0
-RestsOnFourBytes accepted = (bytes : List ℕ) → (PassesAsFront accepted bytes ↔ PassesAsFront accepted (last_four bytes)) × (PassesAsEnd accepted bytes ↔ PassesAsEnd accepted (first_four bytes))
+RestsOnFourBytes accepted =
+    (bytes : List ℕ)
+    → (PassesAsFront accepted bytes ↔ PassesAsFront accepted (last_four bytes))
+    × (PassesAsEnd accepted bytes ↔ PassesAsEnd accepted (first_four bytes))

@@ -12,7 +12,9 @@ IsUnit u = u < 0x1_0000
 abbrev pub code_points : List ℕ → List ℕ
 code_points [] = []
 code_points (u ∷ []) = u ∷ []
-code_points (u ∷ v ∷ us) = if is_high_surrogate u && is_low_surrogate v then surrogate_pair_char u v ∷ code_points us else u ∷ code_points (v ∷ us)
+code_points (u ∷ v ∷ us) =
+    if is_high_surrogate u && is_low_surrogate v then surrogate_pair_char u v ∷ code_points us
+    else u ∷ code_points (v ∷ us)
 
 -- the bytes of units: those of their code points, one after another
 abbrev pub wtf8 : List ℕ → List ℕ

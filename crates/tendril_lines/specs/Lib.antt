@@ -1,3 +1,4 @@
+-- The words of the contracts on lines.
 pub mod Names
 pub mod Lines
 pub mod Verbs

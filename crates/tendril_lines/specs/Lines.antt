@@ -1,8 +1,32 @@
+-- Lines of commands: the words of each command, and which words stand for them.
 use Rattle.std.specs.Prelude.{ℕ, ◌≡◌, List, [], ◌∷◌, codes}
 use Rattle.tendril_lines.specs.Names.{kind_name}
 use Rattle.tendril_lines.specs.declared.command.Kind.{Kind}
 use Rattle.tendril_lines.specs.declared.command.Command.{Command}
-use Rattle.tendril_lines.specs.declared.command.Command.TheVariants.{New, FromBytes, PushBytes, PushTendril, PushChar, PushZeros, Slice, PopFront, PopBack, PopChar, PopRun, Clone, Clear, Reserve, Reinterpret, ToSuperset, ToSubset, WriteByte, Compare, Text, ThroughSend, Drop}
+use Rattle.tendril_lines.specs.declared.command.Command.TheVariants.{
+  New,
+  FromBytes,
+  PushBytes,
+  PushTendril,
+  PushChar,
+  PushZeros,
+  Slice,
+  PopFront,
+  PopBack,
+  PopChar,
+  PopRun,
+  Clone,
+  Clear,
+  Reserve,
+  Reinterpret,
+  ToSuperset,
+  ToSubset,
+  WriteByte,
+  Compare,
+  Text,
+  ThroughSend,
+  Drop,
+}
 use Rattle.tendril_words.specs.Words.{words, IsNumber, IsCharWord, IsHex, IsByteWord}
 
 -- what a word of a line stands for

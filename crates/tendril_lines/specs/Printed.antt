@@ -1,3 +1,4 @@
+-- The lines of replies.
 use Rattle.std.specs.Prelude.{ℕ, List, ◌++◌, codes, Some, None}
 use Rattle.std.specs.Fmt.{decimal}
 use Rattle.tendril_block.specs.Refusals.{number_of, name_of}

@@ -66,7 +66,7 @@ pub enum Command {
     Compare(usize, usize),
     /// The slot's bytes.
     Text(usize),
-    /// A clone of the slot's text is made ready for another thread, and what comes back takes the slot.
+    /// A clone of the slot's text is made sendable and taken back, and takes the slot. No thread is started.
     ThroughSend(usize),
     /// The slot is gone for good. Its number isn't used again.
     Drop(usize),

@@ -7,7 +7,8 @@ use Rattle.std.proofs.lemmas.Bool.{cases_lt, and_parts}
 use Rattle.std.proofs.lemmas.List.{nil_from_length, take-take, length-take, drop-append-le, append_cancel_left, take_all}
 use Rattle.std.proofs.lemmas.Str.{IsCharBoundary-from_take, IsUtf8-drop, length-encode, len_utf8_bounds}
 use Rattle.tendril_lossy.specs.Completions.{IsLongestText, CompletesTo, BreaksAt, StillOpen}
-use Rattle.tendril_lossy.specs.Lossy.{Keep, lossy, items_after, IsOpen, IsLossy, IsMaximalSubpart}
+use Rattle.tendril_lossy.specs.AfterText.{items_after}
+use Rattle.tendril_lossy.specs.Lossy.{Keep, lossy, IsOpen, IsLossy, IsMaximalSubpart}
 use Rattle.tendril_lossy.specs.declared.search.Ending.{Ending}
 use Rattle.tendril_lossy.specs.declared.search.Ending.TheVariants.{Whole, Broken, Open}
 use Rattle.tendril_lossy.proofs.Fronts.{text_front, past_kept}

@@ -6,7 +6,8 @@ use Rattle.std.specs.Str.Lossy.{utf8_error_len}
 use Rattle.std.proofs.lemmas.Bool.{cases_lt, and_parts}
 use Rattle.std.proofs.lemmas.List.{take-append-le}
 use Rattle.std.proofs.lemmas.Str.{chars_from_encodes, length-encode, len_utf8_bounds}
-use Rattle.tendril_lossy.specs.Lossy.{EndsWithin, Item, Keep, Bad, lossy, items_after, IsLossy, IsOpen}
+use Rattle.tendril_lossy.specs.AfterText.{EndsWithin, items_after}
+use Rattle.tendril_lossy.specs.Lossy.{Item, Keep, Bad, lossy, IsLossy, IsOpen}
 use Rattle.tendril_lossy.specs.declared.search.Ending.TheVariants.{Broken}
 use Rattle.tendril_lossy.proofs.Lossy.{lossy-front, lossy-bad}
 use Rattle.tendril_lossy.proofs.Faults.{error-append, no_char-append}

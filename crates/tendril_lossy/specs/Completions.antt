@@ -11,8 +11,8 @@ pub record IsLongestText (bs t : List ℕ) : Type 0 where
   pub text : IsUtf8 t
   pub longest : (m : ℕ) → length t < m → m ≤ length bs → IsUtf8 (take m bs) → ⊥
 
--- The kept bytes, filled to at most four from the input, begin with the text t, and no longer one. The rest of the input
--- is left. Only where there are no bytes at all the text is empty.
+-- The kept bytes, filled to at most four from the input, begin with the text t, and no longer one. The rest of the
+-- input is left. Only where there are no bytes at all the text is empty.
 pub record CompletesTo (kept input t rest : List ℕ) : Type 0 where
   pub all : kept ++ input ≡ t ++ rest
   pub longest : IsLongestText (take 4 (kept ++ input)) t

@@ -1,17 +1,64 @@
--- Lossy decoding of a whole stream, one replacement for each maximal subpart.
-use Rattle.std.specs.Prelude.{◌≡◌, ℕ, zero, suc, ◌+◌, ◌<◌, ◌≤◌, ◌⊎◌, ◌&&◌, Bool, List, [], ◌∷◌, ◌++◌, length, take, drop, flat_map, Option, Some, None, if◌then◌else◌, encode_utf8, chars, codes, bytes_eq, slice_index}
+-- Lossy decoding of a stream: Unicode's practice of one replacement for each maximal subpart, as a relation, and the
+-- function that it is.
+use Rattle.std.specs.Prelude.{
+  ◌≡◌,
+  ℕ,
+  zero,
+  suc,
+  ◌<◌,
+  ◌≤◌,
+  ◌⊎◌,
+  ◌&&◌,
+  Bool,
+  List,
+  [],
+  ◌∷◌,
+  ◌++◌,
+  length,
+  take,
+  drop,
+  flat_map,
+  Option,
+  Some,
+  None,
+  if◌then◌else◌,
+  encode_utf8,
+  chars,
+  codes,
+  bytes_eq,
+  slice_index,
+}
 use Rattle.std.specs.Char.{IsScalar, len_utf8}
 use Rattle.std.specs.Str.{StartsWithNoChar}
 use Rattle.std.specs.Str.Lossy.{utf8_error_len}
 use lib.Utf8.{scalar}
-use Rattle.tendril_lossy.specs.declared.search.Ending.{Ending}
-use Rattle.tendril_lossy.specs.declared.search.Ending.TheVariants.{Whole, Broken, Open}
 
--- an item of a stream: a character, a broken sequence of n bytes, or the bytes at the end that begin a character and end within it
+-- an item of a stream: a character, a broken sequence of n bytes, or the bytes at the end that begin a character and
+-- end within it
 pub data Item : Type 0 where
   Keep : ℕ → Item
   Bad : ℕ → Item
   Cut : List ℕ → Item
+
+-- a front of some character's bytes, but not all of them; so is the empty list
+abbrev pub IsOpen : List ℕ → Type 0
+IsOpen xs = (c : ℕ) × (more : List ℕ) × IsScalar c × (0 < length more) × (xs ++ more ≡ encode_utf8 c)
+
+-- where no character begins the bytes: n is the length of the longest front that could begin one, or 1
+pub record IsMaximalSubpart (bs : List ℕ) (n : ℕ) : Type 0 where
+  pub some : 0 < n
+  pub within : n ≤ length bs
+  pub front : (n ≡ 1) ⊎ IsOpen (take n bs)
+  pub longest : (m : ℕ) → n < m → m ≤ length bs → ¬ (IsOpen (take m bs))
+
+-- the items are those of the bytes, from the front
+abbrev pub IsLossy : List ℕ → List Item → Type 0
+IsLossy bs [] = bs ≡ []
+IsLossy bs (Keep c ∷ items) = (rest : List ℕ) × IsScalar c × (bs ≡ encode_utf8 c ++ rest) × IsLossy rest items
+IsLossy bs (Bad n ∷ items) = StartsWithNoChar bs × ¬ (IsOpen bs) × IsMaximalSubpart bs n × IsLossy (drop n bs) items
+IsLossy bs (Cut xs ∷ items) = (0 < length bs) × (xs ≡ bs) × IsOpen bs × (items ≡ [])
+
+-- The same as a function, which contracts cite.
 
 -- how many bytes an item takes
 abbrev pub item_len : Item → ℕ
@@ -87,35 +134,3 @@ cut_bytes (Cut xs ∷ items) = xs
 -- the same of a stream
 abbrev pub kept : List ℕ → List ℕ
 kept bs = cut_bytes (lossy bs)
-
--- The same in the words of Unicode's practice of maximal subparts, as a relation.
-
--- a front of some character's bytes, but not all of them; so is the empty list
-abbrev pub IsOpen : List ℕ → Type 0
-IsOpen xs = (c : ℕ) × (more : List ℕ) × IsScalar c × (0 < length more) × (xs ++ more ≡ encode_utf8 c)
-
--- where no character begins the bytes: n is the length of the longest front that could begin one, or 1
-pub record IsMaximalSubpart (bs : List ℕ) (n : ℕ) : Type 0 where
-  pub some : 0 < n
-  pub within : n ≤ length bs
-  pub front : (n ≡ 1) ⊎ IsOpen (take n bs)
-  pub longest : (m : ℕ) → n < m → m ≤ length bs → ¬ (IsOpen (take m bs))
-
--- the items are those of the bytes, from the front
-abbrev pub IsLossy : List ℕ → List Item → Type 0
-IsLossy bs [] = bs ≡ []
-IsLossy bs (Keep c ∷ items) = (rest : List ℕ) × IsScalar c × (bs ≡ encode_utf8 c ++ rest) × IsLossy rest items
-IsLossy bs (Bad n ∷ items) = StartsWithNoChar bs × ¬ (IsOpen bs) × IsMaximalSubpart bs n × IsLossy (drop n bs) items
-IsLossy bs (Cut xs ∷ items) = (0 < length bs) × (xs ≡ bs) × IsOpen bs × (items ≡ [])
-
--- what follows n bytes of text
-abbrev pub items_after : List ℕ → ℕ → Ending → List Item
-items_after bs n Whole = []
-items_after bs n (Broken k) = Bad k ∷ lossy (drop (n + k) bs)
-items_after bs n Open = Cut (drop n bs) ∷ []
-
--- what stands after n bytes: what breaks them has a byte or more, all of them there, and so has what is cut off
-abbrev pub EndsWithin : List ℕ → ℕ → Ending → Type 0
-EndsWithin bs n Whole = Unit {0}
-EndsWithin bs n (Broken k) = (0 < k) × (n + k ≤ length bs)
-EndsWithin bs n Open = (n < length bs) × IsOpen (drop n bs)

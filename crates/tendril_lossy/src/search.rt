@@ -1,6 +1,7 @@
 //! The search for what breaks a stream of UTF-8.
 ghost use Rattle.std.specs.Prelude.{◌≡◌, ◌+◌, ◌<◌, ◌≤◌, ◌++◌, length, map, take, chars, IsUtf8};
-ghost use Rattle.tendril_lossy.specs.Lossy.{EndsWithin, Keep, lossy, items_after};
+ghost use Rattle.tendril_lossy.specs.AfterText.{EndsWithin, items_after};
+ghost use Rattle.tendril_lossy.specs.Lossy.{Keep, lossy};
 
 /// What follows a valid front: nothing, a broken sequence of some bytes, or a character that is cut off.
 #[derive(Clone, Copy, Debug, PartialEq, Eq)]

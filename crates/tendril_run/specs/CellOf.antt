@@ -1,3 +1,4 @@
+-- The cell that a slot is.
 use Rattle.tendril_run.specs.Cells.{Cell, gone, text}
 use Rattle.tendril_lines.specs.declared.command.Kind.TheVariants as kind
 use Rattle.tendril_run.specs.declared.slot.Slot.{Slot}

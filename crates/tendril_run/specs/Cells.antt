@@ -1,3 +1,4 @@
+-- Cells and tables: a cell is gone, or a text in a format.
 use Rattle.std.specs.Prelude.{ℕ, ◌++◌, ◌≤◌, List, length, get_or, IsAscii, IsUtf8}
 use Rattle.tendril_block.specs.declared.atomicity.TheConstants.{MAX_LEN}
 use Rattle.tendril_fmt.specs.Bytes.{AreBytes}

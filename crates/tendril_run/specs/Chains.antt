@@ -1,3 +1,4 @@
+-- Commands one after another, each from the cells that the one before it leaves.
 use Rattle.std.specs.Prelude.{ℕ, ◌≡◌, List, [], ◌∷◌}
 use Rattle.tendril_run.specs.Cells.{Cell}
 use Rattle.tendril_run.specs.Steps.{Step}
@@ -7,6 +8,7 @@ use Rattle.tendril_lines.specs.declared.command.Reply.{Reply}
 -- a chain of steps, one reply a command
 abbrev pub Chain : (ℕ → ℕ) → List Cell → List Command → List Reply → List Cell → Type 0
 Chain class old [] [] new = new ≡ old
-Chain class old (command ∷ commands) (reply ∷ replies) new = (mid : List Cell) × (Step class old command reply mid × Chain class mid commands replies new)
+Chain class old (command ∷ commands) (reply ∷ replies) new =
+    (mid : List Cell) × (Step class old command reply mid × Chain class mid commands replies new)
 Chain class old [] (reply ∷ replies) new = ⊥
 Chain class old (command ∷ commands) [] new = ⊥

@@ -1,4 +1,22 @@
-use Rattle.std.specs.Prelude.{ℕ, ◌≡◌, ◌<◌, ◌==◌, List, [], ◌∷◌, length, drop, chars, encode_utf8, Option, Some, None, MatchOption, Result}
+-- The characters of a cell's text, and the run of one class at its front.
+use Rattle.std.specs.Prelude.{
+  ℕ,
+  ◌≡◌,
+  ◌<◌,
+  ◌==◌,
+  List,
+  [],
+  ◌∷◌,
+  length,
+  drop,
+  chars,
+  encode_utf8,
+  Option,
+  Some,
+  None,
+  MatchOption,
+  Result,
+}
 use Rattle.tendril_block.specs.Outcomes.{NoneMust, CountMay, Outcome}
 use Rattle.tendril_block.specs.declared.refusal.Refusal.{Refusal}
 use Rattle.std.specs.Char.{IsScalar}
@@ -52,13 +70,19 @@ run_bytes encoding class cs = encodings encoding (first_run class cs)
 
 -- b is parted into the run at its front, whose class is k, and the rest
 abbrev pub IsFirstRun : (List ℕ → List ℕ) → (ℕ → List ℕ) → (ℕ → ℕ) → List ℕ → ℕ → List ℕ → List ℕ → Type 0
-IsFirstRun chars encoding class b k run rest = (c : ℕ) × (first_of (chars b) ≡ Some c) × (k ≡ class c) × (run ≡ run_bytes encoding class (chars b)) × (rest ≡ drop (length run) b)
+IsFirstRun chars encoding class b k run rest =
+    (c : ℕ) × (first_of (chars b) ≡ Some c) × (k ≡ class c) × (run ≡ run_bytes encoding class (chars b))
+    × (rest ≡ drop (length run) b)
 
 -- the refusals of a pop of that run that no state rules out: it is shared with the rest, where both are long
 abbrev pub FirstRunMay : (ℕ → List ℕ) → (ℕ → ℕ) → List ℕ → List ℕ → Refusal → Type 0
-FirstRunMay encoding class cs b r = CountMay (length (run_bytes encoding class cs)) r × CountMay (length (drop (length (run_bytes encoding class cs)) b)) r
+FirstRunMay encoding class cs b r =
+    CountMay (length (run_bytes encoding class cs)) r
+    × CountMay (length (drop (length (run_bytes encoding class cs)) b)) r
 
 -- the run at the front of b is given as a text, with its class, and the rest is left; nothing is given where b is empty
-abbrev pub TakesFirstRun : {T : Type 0} → (T → List ℕ) → (List ℕ → List ℕ) → (ℕ → List ℕ) → (ℕ → ℕ) → List ℕ → Result (Option (T × ℕ)) Refusal → List ℕ → Type 0
+abbrev pub TakesFirstRun : {T : Type 0} → (T → List ℕ) → (List ℕ → List ℕ) → (ℕ → List ℕ) → (ℕ → ℕ) → List ℕ
+    → Result (Option (T × ℕ)) Refusal → List ℕ → Type 0
 TakesFirstRun bytes_of chars encoding class b result new = Outcome NoneMust (FirstRunMay encoding class (chars b) b)
-    (λ found rest. MatchOption found ((chars b ≡ []) × (rest ≡ b)) (λ run. IsFirstRun chars encoding class b run.1 (bytes_of run.0) rest)) b result new
+    (λ found rest. MatchOption found ((chars b ≡ []) × (rest ≡ b))
+    (λ run. IsFirstRun chars encoding class b run.1 (bytes_of run.0) rest)) b result new

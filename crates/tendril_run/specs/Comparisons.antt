@@ -1,3 +1,4 @@
+-- How two cells compare, and what is answered to that.
 use Rattle.std.specs.Prelude.{ℕ, ◌≡◌, List, Option, Some, nat_eq, if◌then◌else◌}
 use Rattle.std.specs.Cmp.Lexicographic.{pointwise, slice_cmp}
 use Rattle.std.specs.Ordering.{nat_cmp}
@@ -40,4 +41,5 @@ TellsComparison cell other reply = ⊥
 
 -- what is answered to a question how two cells compare
 abbrev pub CellsCompared : Cell → Cell → Reply → Type 0
-CellsCompared cell other reply = Replied (CompareMust cell other) NoneMay (λ reply new. TellsComparison cell other reply) cell reply cell
+CellsCompared cell other reply =
+    Replied (CompareMust cell other) NoneMay (λ reply new. TellsComparison cell other reply) cell reply cell

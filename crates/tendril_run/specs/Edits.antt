@@ -1,6 +1,7 @@
+-- Edits of a cell's text, which keep its format.
 use Rattle.std.specs.Prelude.{ℕ, ◌≡◌, ◌<◌, ◌+◌, ◌-◌, ◌++◌, List, [], length, take, drop, replicate, slice_set, Option}
 use Rattle.tendril_block.specs.declared.refusal.Refusal.{Refusal}
-use Rattle.tendril_block.specs.declared.refusal.Refusal.TheVariants.{Memory, OutOfBounds}
+use Rattle.tendril_block.specs.declared.refusal.Refusal.TheVariants.{OutOfBounds}
 use Rattle.tendril_block.specs.Outcomes.{NoneMust, First, LengthMust, PopMust, MemoryMay}
 use Rattle.tendril_run.specs.Rules.{Changed}
 use Rattle.tendril_run.specs.declared.change.ByteEdit.{ByteEdit}
@@ -23,16 +24,16 @@ EditMust valid b (PopBack count) must = PopMust valid b count (take (length b - 
 EditMust valid b Clear must = NoneMust must
 EditMust valid b (Reserve more) must = LengthMust (length b + more) must
 
--- the refusals of an edit that no state rules out
-abbrev pub EditMay : Edit → Refusal → Type 0
-EditMay (PopFront count) r = ⊥
-EditMay (PopBack count) r = ⊥
-EditMay Clear r = ⊥
-EditMay (Reserve more) r = r ≡ Memory
+-- the refusals of an edit of b that no state rules out
+abbrev pub EditMay : List ℕ → Edit → Refusal → Type 0
+EditMay b (PopFront count) r = ⊥
+EditMay b (PopBack count) r = ⊥
+EditMay b Clear r = ⊥
+EditMay b (Reserve more) r = MemoryMay (length b + more) r
 
 -- an edit of b
 abbrev pub TextEdited : (List ℕ → Type 0) → Edit → List ℕ → Reply → List ℕ → Type 0
-TextEdited valid edit b reply new = Changed (EditMust valid b edit) (EditMay edit) (edited b edit) b reply new
+TextEdited valid edit b reply new = Changed (EditMust valid b edit) (EditMay b edit) (edited b edit) b reply new
 
 -- the bytes b after an edit of bytes
 abbrev pub byte_edited : List ℕ → ByteEdit → List ℕ

@@ -1,3 +1,4 @@
+-- How the jobs of workers end.
 use Rattle.std.specs.Prelude.{ℕ, ◌≡◌, List, Result, Ok, Err}
 use Rattle.tendril_block.specs.declared.refusal.Refusal.{Refusal}
 use Rattle.tendril_block.specs.declared.refusal.Refusal.TheVariants.{Memory}
@@ -9,7 +10,8 @@ use Rattle.tendril_run.specs.declared.workers.Outcome.{Outcome}
 use Rattle.tendril_run.specs.declared.workers.Outcome.TheVariants.{Done, Refused, NotStarted}
 
 -- what a worker hands back of a table and its commands: the chain's replies, or the table as it was
-abbrev pub Worked : {V : Type 0} → (V → List Reply) → (ℕ → ℕ) → List Cell → List Command → List Cell → Result V Refusal → Type 0
+abbrev pub Worked : {V : Type 0} → (V → List Reply) → (ℕ → ℕ) → List Cell → List Command → List Cell → Result V Refusal
+    → Type 0
 Worked items_of class old commands new (Ok replies) = Chain class old commands (items_of replies) new
 Worked items_of class old commands new (Err refusal) = (refusal ≡ Memory) × (new ≡ old)
 

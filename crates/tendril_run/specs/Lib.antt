@@ -1,3 +1,4 @@
+-- The words of the contracts on tables.
 pub mod Cells
 pub mod CellOf
 pub mod Rules

@@ -1,10 +1,30 @@
+-- What a command does to one cell.
 use Rattle.std.specs.Prelude.{ℕ, ◌≡◌, ◌⊎◌, List, [], length, take, drop, Option, Some, None, Result, MatchResult, IfOk}
 use Rattle.tendril_block.specs.declared.refusal.Refusal.{Refusal}
 use Rattle.tendril_block.specs.declared.refusal.Refusal.TheVariants.{Memory, NoSuchSlot, WrongFormat}
 use Rattle.tendril_run.specs.Cells.{Cell, IsCell, gone, text, valid_in, join_in, IsPartOf}
-use Rattle.tendril_run.specs.Characters.{HasChars, IsCharIn, chars_in, encoding_in, first_of, without_first, run_bytes, FirstRunMay}
+use Rattle.tendril_run.specs.Characters.{
+  HasChars,
+  IsCharIn,
+  chars_in,
+  encoding_in,
+  first_of,
+  without_first,
+  run_bytes,
+  FirstRunMay,
+}
 use Rattle.tendril_run.specs.Edits.{EditMust, EditMay, edited, ByteEditMust, ByteEditMay, byte_edited}
-use Rattle.tendril_block.specs.Outcomes.{NoneMust, First, LengthMust, ValidMust, BytesMust, MemoryMay, SliceMust, CharMust, CountMay}
+use Rattle.tendril_block.specs.Outcomes.{
+  NoneMust,
+  First,
+  LengthMust,
+  ValidMust,
+  BytesMust,
+  MemoryMay,
+  SliceMust,
+  CharMust,
+  CountMay,
+}
 use Rattle.tendril_run.specs.Rules.{Replied, Answered, Changed}
 use Rattle.tendril_run.specs.declared.change.Change.{Change}
 use Rattle.tendril_run.specs.declared.change.Change.TheVariants as change
@@ -17,7 +37,7 @@ use Rattle.tendril_lines.specs.declared.command.Kind.TheVariants.{Bytes}
 use Rattle.tendril_lines.specs.declared.command.Reply.{Reply}
 use Rattle.tendril_lines.specs.declared.command.Reply.TheVariants.{Char, Done, Text}
 
--- the refusals of so many bytes on the way through another thread that no state rules out
+-- the refusals that no state rules out where so many bytes are made sendable and taken back
 abbrev pub SendMay : ℕ → Refusal → Type 0
 SendMay n r = MemoryMay n r ⊎ CountMay n r
 
@@ -41,7 +61,7 @@ abbrev pub CellCloneMay : Cell → Refusal → Type 0
 CellCloneMay gone r = ⊥
 CellCloneMay (text kind b) r = CountMay (length b) r
 
--- the refusals of a text's way through another thread that no state rules out: it is shared first, and then copied
+-- the same of a cell's text: it is shared first, and then copied
 abbrev pub CellSendMay : Cell → Refusal → Type 0
 CellSendMay gone r = ⊥
 CellSendMay (text kind b) r = SendMay (length b) r
@@ -64,7 +84,8 @@ pushed (text kind b) y = text kind (join_in kind b y)
 -- the first refusal of a push of the character c onto a cell
 abbrev pub PushCharMust : Cell → ℕ → Option Refusal → Type 0
 PushCharMust gone c must = must ≡ Some NoSuchSlot
-PushCharMust (text kind b) c must = First (HasChars kind) WrongFormat (CharMust (IsCharIn kind) c (length (join_in kind b (encoding_in kind c)))) must
+PushCharMust (text kind b) c must =
+    First (HasChars kind) WrongFormat (CharMust (IsCharIn kind) c (length (join_in kind b (encoding_in kind c)))) must
 
 -- the bytes of a character in a cell's format
 abbrev pub encoding_of : Cell → ℕ → List ℕ
@@ -103,17 +124,20 @@ RunMay class (text kind b) r = FirstRunMay (encoding_in kind) class (chars_in ki
 
 -- a cell is parted into the run at its front, whose class is k, and the rest
 abbrev pub IsRunOf : (ℕ → ℕ) → Cell → ℕ → Cell → Cell → Type 0
-IsRunOf class cell k run rest = (c : ℕ) × (char_of cell ≡ Some c) × (k ≡ class c) × (run ≡ run_of class cell) × (rest ≡ run_popped class cell)
+IsRunOf class cell k run rest =
+    (c : ℕ) × (char_of cell ≡ Some c) × (k ≡ class c) × (run ≡ run_of class cell) × (rest ≡ run_popped class cell)
 
 -- the first refusal of a push of one cell onto another
 abbrev pub JoinMust : Cell → Cell → Option Refusal → Type 0
 JoinMust gone other must = must ≡ Some NoSuchSlot
 JoinMust (text kind b) gone must = must ≡ Some NoSuchSlot
-JoinMust (text kind b) (text format y) must = First (kind ≡ format) WrongFormat (LengthMust (length (join_in kind b y))) must
+JoinMust (text kind b) (text format y) must =
+    First (kind ≡ format) WrongFormat (LengthMust (length (join_in kind b y))) must
 
 -- the refusals of it that no state rules out: a slot that is pushed onto itself is shared first
 abbrev pub JoinMay : ℕ → ℕ → Cell → Cell → Refusal → Type 0
-JoinMay to from (text kind b) (text format y) r = MemoryMay (length (join_in kind b y)) r ⊎ ((to ≡ from) × CountMay (length b) r)
+JoinMay to from (text kind b) (text format y) r =
+    MemoryMay (length (join_in kind b y)) r ⊎ ((to ≡ from) × CountMay (length b) r)
 JoinMay to from cell other r = ⊥
 
 -- the cell with the other's text at its end
@@ -125,6 +149,11 @@ joined_cell cell other = cell
 abbrev pub CellEditMust : Cell → Edit → Option Refusal → Type 0
 CellEditMust gone edit must = must ≡ Some NoSuchSlot
 CellEditMust (text kind b) edit must = EditMust (valid_in kind) b edit must
+
+-- the refusals of it that no state rules out
+abbrev pub CellEditMay : Cell → Edit → Refusal → Type 0
+CellEditMay gone edit r = ⊥
+CellEditMay (text kind b) edit r = EditMay b edit r
 
 -- the cell after an edit
 abbrev pub edited_cell : Cell → Edit → Cell
@@ -151,7 +180,8 @@ abbrev pub ConversionMust : Cell → Conversion → Option Refusal → Type 0
 ConversionMust gone conversion must = must ≡ Some NoSuchSlot
 ConversionMust (text kind b) (Reinterpret other) must = ValidMust (valid_in other) b must
 ConversionMust (text kind b) (ToSuperset other) must = First (IsPartOf kind other) WrongFormat NoneMust must
-ConversionMust (text kind b) (ToSubset other) must = First (IsPartOf other kind) WrongFormat (ValidMust (valid_in other) b) must
+ConversionMust (text kind b) (ToSubset other) must =
+    First (IsPartOf other kind) WrongFormat (ValidMust (valid_in other) b) must
 
 -- the format that is asked for
 abbrev pub target : Conversion → Kind
@@ -165,7 +195,8 @@ converted gone conversion = gone
 converted (text kind b) conversion = text (target conversion) b
 
 -- a slot of this cell changes its format, or is handed back with what refuses that
-pub record Converts {S : Type 0} (cell_of : S → Cell) (cell : Cell) (conversion : Conversion) (result : Result S (Refusal × S)) : Type 0 where
+pub record Converts {S : Type 0} (cell_of : S → Cell) (cell : Cell) (conversion : Conversion)
+    (result : Result S (Refusal × S)) : Type 0 where
   pub outcome : MatchResult result
       (λ s. ConversionMust cell conversion None × (cell_of s ≡ converted cell conversion))
       (λ e. ConversionMust cell conversion (Some e.0) × (cell_of e.1 ≡ cell))
@@ -182,7 +213,8 @@ CellPushed cell y reply new = Changed (PushMust cell y) (PushMay cell y) (pushed
 
 -- a push of the cell of one slot onto that of another
 abbrev pub CellJoined : ℕ → ℕ → Cell → Cell → Reply → Cell → Type 0
-CellJoined to from cell other reply new = Changed (JoinMust cell other) (JoinMay to from cell other) (joined_cell cell other) cell reply new
+CellJoined to from cell other reply new =
+    Changed (JoinMust cell other) (JoinMay to from cell other) (joined_cell cell other) cell reply new
 
 -- the first refusal of a change of a cell
 abbrev pub ChangeMust : Cell → Change → Option Refusal → Type 0
@@ -197,7 +229,7 @@ ChangeMust cell change.Drop must = CellMust cell must
 -- the refusals of it that no state rules out
 abbrev pub ChangeMay : Cell → Change → Refusal → Type 0
 ChangeMay cell (change.PushChar c) r = PushMay cell (encoding_of cell c) r
-ChangeMay cell (change.Edit edit) r = EditMay edit r
+ChangeMay cell (change.Edit edit) r = CellEditMay cell edit r
 ChangeMay cell (change.EditBytes edit) r = CellByteEditMay cell edit r
 ChangeMay cell change.ThroughSend r = CellSendMay cell r
 ChangeMay cell other r = ⊥
@@ -219,7 +251,9 @@ change_reply cell other = Done
 
 -- a change of a cell
 abbrev pub CellChanged : Cell → Change → Reply → Cell → Type 0
-CellChanged cell change reply new = Answered (ChangeMust cell change) (ChangeMay cell change) (change_reply cell change) (changed cell change) cell reply new
+CellChanged cell change reply new =
+    Answered (ChangeMust cell change) (ChangeMay cell change) (change_reply cell change)
+    (changed cell change) cell reply new
 
 -- what is answered to a question for the cell's text
 abbrev pub CellTold : Cell → Reply → Type 0

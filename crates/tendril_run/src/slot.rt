@@ -243,7 +243,7 @@ impl<A: Atomicity> Slot<A> {
         }
     }
 
-    // Puts in the text's place what comes back of it from another thread.
+    // Makes a clone of the text sendable, takes it back, and puts it in the text's place.
     fn through_send(&mut self) -> Reply
         ensures changed { CellChanged (cell_of self.old) Change.ThroughSend result (cell_of self.new) }
         ensures kept { IsCell (cell_of self.old) → IsCell (cell_of self.new) }

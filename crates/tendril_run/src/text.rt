@@ -209,7 +209,7 @@ pub(crate) fn reinterpreted<F: Format, A: Atomicity>(
     }
 }
 
-/// Puts in the text's place what comes back of a clone of it from another thread.
+/// Makes a clone of the text sendable, takes it back, and puts it in the text's place.
 pub(crate) fn through_send<F: Format, A: Atomicity>(text: &mut Tendril<F, A>) -> Reply
     ensures done { Changed NoneMust (SendMay (length text.old.bytes))
         text.old.bytes text.old.bytes result text.new.bytes }

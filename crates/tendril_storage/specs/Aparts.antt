@@ -1,3 +1,4 @@
+-- Stored bytes that no other text shares.
 use Rattle.std.specs.Prelude.{ℕ, List, ◌<◌, ◌≤◌, length, take}
 use Rattle.tendril_block.specs.declared.atomicity.TheConstants.{MAX_LEN}
 use Rattle.tendril_storage.specs.declared.apart.Kept.{Kept}

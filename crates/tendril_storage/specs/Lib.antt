@@ -1,3 +1,4 @@
+-- The words of the contracts on stored bytes.
 pub mod Aparts
 pub mod Texts
 pub mod Partings

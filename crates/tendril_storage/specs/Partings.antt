@@ -1,3 +1,4 @@
+-- A text parted in two.
 use Rattle.std.specs.Prelude.{ℕ, ◌≡◌, ◌<◌, ◌+◌, length, take, drop, Result}
 use Rattle.tendril_block.specs.declared.refusal.Refusal.{Refusal}
 use Rattle.tendril_block.specs.declared.refusal.Refusal.TheVariants.{Count}
@@ -15,4 +16,5 @@ pub record IsParted (count : ℕ) (old front rest : Text) : Type 0 where
   pub copied : Parts old front rest
 
 abbrev pub TakesFront : ℕ → Text → Result Text Refusal → Text → Type 0
-TakesFront count old result new = Outcome NoneMust (BothLong count (length old.bytes)) (IsParted count old) old result new
+TakesFront count old result new =
+    Outcome NoneMust (BothLong count (length old.bytes)) (IsParted count old) old result new

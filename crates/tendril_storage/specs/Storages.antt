@@ -1,3 +1,4 @@
+-- Bytes that are held inline or in a view of a block.
 use Rattle.std.specs.Prelude.{◌≡◌, ℕ, List, ◌+◌, ◌≤◌, ◌<◌, ◌^◌, length, take, drop}
 use Rattle.tendril_storage.specs.declared.storage.Held.{Held}
 use Rattle.tendril_storage.specs.declared.storage.Held.TheVariants.{Inline, View}

@@ -1,3 +1,4 @@
+-- Texts as contracts see them, and how many bytes the parts of a text may have copied.
 use Rattle.std.specs.Prelude.{ℕ, ◌≡◌, ◌<◌, ◌≤◌, ◌+◌, ◌⊎◌, List, length}
 
 -- a text: its bytes, and how many bytes were copied for it
@@ -13,9 +14,11 @@ Shares t = (8 < length t.bytes → t.copied ≡ 0) × (length t.bytes ≤ 8 → 
 abbrev pub Keeps : Text → Text → Type 0
 Keeps old new = (8 < length new.bytes → new.copied ≡ old.copied) × (length new.bytes ≤ 8 → new.copied ≤ 8)
 
--- one of the texts into which a text was parted: a long one shares or keeps what was copied, a short one copied at most 8
+-- one of the texts into which a text was parted: a long one shares or keeps what was copied, a short one copied at most
+-- 8
 abbrev pub IsPart : Text → Text → Type 0
-IsPart old part = (8 < length part.bytes → (part.copied ≡ 0) ⊎ (part.copied ≡ old.copied)) × (length part.bytes ≤ 8 → part.copied ≤ 8)
+IsPart old part =
+    (8 < length part.bytes → (part.copied ≡ 0) ⊎ (part.copied ≡ old.copied)) × (length part.bytes ≤ 8 → part.copied ≤ 8)
 
 -- the two texts into which a text was parted
 abbrev pub Parts : Text → Text → Text → Type 0

@@ -111,20 +111,20 @@ module _ {R : Type 0} (history : R → Reads) (remaining : R → Option (List �
       pub halts_at_most : (made : ℕ) (now : S) (at : R) → Fed made now at → made ≡ most → Halted at TooManyReads (Some now)
       halts_at_most made now at f is =
           let bytes = bytes_of f.pieces in
-          (going bytes made, f.makes, inl (now, received made now at f, refl, inl (refl, is, refl), refl))
+          (going bytes made, f.makes, inl (record { sink = now; receives = received made now at f; back = refl; stops = inl (refl, is, refl); empty = refl }))
 
       -- there was no memory for a read
       pub halts_without_memory : (made : ℕ) (now : S) (at next : R) → Fed made now at → next ≡ at → made < most → Halted next Memory (Some now)
       halts_without_memory made now at next f same left =
           let bytes = bytes_of f.pieces in
-          (going bytes made, subst (λ r. MakesReads history remaining reader (going bytes made) r) (sym same) f.makes, inl (now, received made now at f, refl, inr (inr (refl, refl, left)), refl))
+          (going bytes made, subst (λ r. MakesReads history remaining reader (going bytes made) r) (sym same) f.makes, inl (record { sink = now; receives = received made now at f; back = refl; stops = inr (inr (refl, refl, left)); empty = refl }))
 
       pub halts_at_failure : (made : ℕ) (now : S) (at next : R) → Fed made now at → MakesReads history remaining at failure next → made + 1 ≤ most → Halted next Io (Some now)
       halts_at_failure made now at next f read within =
           let bytes = bytes_of f.pieces in (
             record { given = bytes; reads = made + 1; failed = 1; empty = 0 },
             MakesReads-on reader at next bytes bytes made failure f.makes read (append-nil bytes),
-            inl (now, received made now at f, refl, inr (inl (refl, refl, within)), refl),
+            inl (record { sink = now; receives = received made now at f; back = refl; stops = inr (inl (refl, refl, within)); empty = refl }),
           )
 
       -- a read gave bytes that the sink refused
@@ -133,7 +133,19 @@ module _ {R : Type 0} (history : R → Reads) (remaining : R → Option (List �
           let bytes = bytes_of f.pieces in (
             record { given = bytes ++ t.bytes; reads = made + 1; failed = 0; empty = 0 },
             MakesReads-on reader at next bytes (bytes ++ t.bytes) made (giving t.bytes) f.makes read refl,
-            inr (inl (now, bytes, t, last, received made now at f, refl, refused, refl, refl, refl, within)),
+            inr (inl (record {
+              sink = now;
+              before = bytes;
+              piece = t;
+              last = last;
+              receives = received made now at f;
+              given = refl;
+              refused = refused;
+              back = refl;
+              none_failed = refl;
+              empty = refl;
+              within = within;
+            })),
           )
 
       -- the sink refused its end
@@ -142,5 +154,13 @@ module _ {R : Type 0} (history : R → Reads) (remaining : R → Option (List �
           let bytes = bytes_of f.pieces in (
             record { given = bytes; reads = made + 1; failed = 0; empty = 1 },
             MakesReads-on reader at next bytes bytes made end f.makes read (append-nil bytes),
-            inr (inr (now, received made now at f, refused, refl, refl, refl, within)),
+            inr (inr (record {
+              sink = now;
+              receives = received made now at f;
+              refused = refused;
+              gone = refl;
+              none_failed = refl;
+              empty = refl;
+              within = within;
+            })),
           )

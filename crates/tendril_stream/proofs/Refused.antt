@@ -42,12 +42,35 @@ module _ {S D : Type 0} (takes : S → Sent → S → Type 0) (refuses : S → S
       (λ d r. ((failed d ≡ true) × (r ≡ Failed)) ⊎ ((failed d ≡ false) × EndStops takes refuses ends (inner d) (held d) r))
       most d these r handed
       → IsOfReading r ⊎ StreamStops takes refuses ends after inner failed most these r handed
-  stream_stops ends after goes sink d most these r handed is none alive new (inl k) = inl (between_is_of_reading most these r k.3)
-  stream_stops ends after goes sink d most these r handed is none alive new (inr (inl k)) =
-      let at = subst (StandsAt after (inner k.0) (held k.0)) k.4.2 (stands_from_nothing takes after goes inner held failed k.4.0 d k.0 sink is none new k.4.1) in
-      let running = unfailed failed _ k.4.0 d k.0 alive k.4.1 in
-      inr (inl (k.1, k.2, inner k.0, k.3, k.5, at.tells, stops_at_piece k.0 k.2 r k.3 k.1 running at.keeps k.6, k.6.0, k.7, k.8, k.9, k.10))
-  stream_stops ends after goes sink d most these r handed is none alive new (inr (inr k)) =
-      let at = subst (StandsAt after (inner k.0) (held k.0)) k.1.2 (stands_from_nothing takes after goes inner held failed k.1.0 d k.0 sink is none new k.1.1) in
-      let running = unfailed failed _ k.1.0 d k.0 alive k.1.1 in
-      inr (inr (inner k.0, at.tells, stops_at_end ends k.0 r these.given running at.keeps k.2, k.3, k.4, k.5, k.6))
+  stream_stops ends after goes sink d most these r handed is none alive new (inl h) = inl (between_is_of_reading most these r h.stops)
+  stream_stops ends after goes sink d most these r handed is none alive new (inr (inl h)) =
+      let pieces = h.receives.0 in
+      let at = subst (StandsAt after (inner h.sink) (held h.sink)) h.receives.2 (stands_from_nothing takes after goes inner held failed pieces d h.sink sink is none new h.receives.1) in
+      let running = unfailed failed _ pieces d h.sink alive h.receives.1 in
+      inr (inl (record {
+        before = h.before;
+        piece = h.piece;
+        sink = inner h.sink;
+        decoder = h.last;
+        given = h.given;
+        tells = at.tells;
+        stops = stops_at_piece h.sink h.piece r h.last h.before running at.keeps h.refused;
+        has_failed = h.refused.0;
+        back = h.back;
+        none_failed = h.none_failed;
+        empty = h.empty;
+        within = h.within;
+      }))
+  stream_stops ends after goes sink d most these r handed is none alive new (inr (inr h)) =
+      let pieces = h.receives.0 in
+      let at = subst (StandsAt after (inner h.sink) (held h.sink)) h.receives.2 (stands_from_nothing takes after goes inner held failed pieces d h.sink sink is none new h.receives.1) in
+      let running = unfailed failed _ pieces d h.sink alive h.receives.1 in
+      inr (inr (record {
+        sink = inner h.sink;
+        tells = at.tells;
+        stops = stops_at_end ends h.sink r these.given running at.keeps h.refused;
+        gone = h.gone;
+        none_failed = h.none_failed;
+        empty = h.empty;
+        within = h.within;
+      }))

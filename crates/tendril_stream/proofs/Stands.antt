@@ -1,4 +1,4 @@
--- A decoder over a sink of which something is known by what it was told.
+-- A decoder over a sink whose state is known by what it was told.
 use Rattle.std.proofs.Common.{◌≡◌, ℕ, Bool, false, List, [], ◌∷◌, ◌++◌, flat_map, sym, ap, subst, ◌∙◌, append_assoc, append-nil}
 use Rattle.std.specs.List.{FoldsTo}
 use Rattle.tendril_text.specs.Texts.{Text}

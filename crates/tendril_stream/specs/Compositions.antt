@@ -1,4 +1,4 @@
--- A decoder over a sink of which something is known by what it was told.
+-- A decoder over a sink whose state is known by what it was told.
 use Rattle.std.specs.Prelude.{◌≡◌, ◌≤◌, ℕ, Bool, true, ◌⊎◌, List, [], ◌++◌, flat_map, Option, Some, None}
 use Rattle.std.specs.Iterator.{YieldsThen}
 use Rattle.tendril_block.specs.declared.refusal.Refusal.{Refusal}
@@ -8,36 +8,76 @@ use Rattle.tendril_stream.specs.Decoders.{Decodes, Ends, EndStops}
 use Rattle.tendril_stream.specs.Reads.{Reads}
 use Rattle.tendril_stream.specs.Sinks.{Sent, Piece, Stops, told_of}
 
--- what is known of a sink after it was told a list is known of it after an accepted call too, with what that tells behind
+-- if `after a told` and the sink accepts e, then `after b (told ++ told_of e)`
 abbrev pub FollowsCalls : {S : Type 0} → (S → Sent → S → Type 0) → (S → List Told → Type 0) → Type 0
-FollowsCalls {S} takes after = (told : List Told) (a : S) (e : Sent) (b : S) → after a told → takes a e b → after b (told ++ told_of e)
+FollowsCalls {S} takes after =
+    (told : List Told) (a : S) (e : Sent) (b : S) → after a told → takes a e b → after b (told ++ told_of e)
 
 -- a decoder that keeps k, over a sink that was told what is due of b, where k is the cut end of b
 pub record StandsAt {S : Type 0} (after : S → List Told → Type 0) (sink : S) (k b : List ℕ) : Type 0 where
   pub tells : after sink (due_open b)
   pub keeps : k ≡ kept b
 
--- However a stream is cut: a new decoder stands at nothing, each piece leads on from where it stands, and at the end the
--- sink was told what is due of all.
-pub record Composes {S O : Type 0} (takes : S → Sent → S → Type 0) (finishes : S → O → Type 0) (after : S → List Told → Type 0) : Type 0 where
+-- However a stream is cut: a new decoder stands at nothing, each piece leads on from where it stands, and at the end
+-- the sink was told what is due of all.
+pub record Composes {S O : Type 0} (takes : S → Sent → S → Type 0) (finishes : S → O → Type 0)
+    (after : S → List Told → Type 0) : Type 0 where
   pub begins : (sink : S) → after sink [] → StandsAt after sink [] []
-  pub goes_on : (sink next : S) (k l b : List ℕ) (piece : Text) → StandsAt after sink k b → Decodes takes sink k (Piece piece) next l → StandsAt after next l (b ++ piece.bytes)
-  pub ends : (sink : S) (k b : List ℕ) (out : O) → StandsAt after sink k b → Ends takes finishes sink k out → (last : S) × after last (due b) × finishes last out
+  pub goes_on : (sink next : S) (k l b : List ℕ) (piece : Text) → StandsAt after sink k b
+      → Decodes takes sink k (Piece piece) next l → StandsAt after next l (b ++ piece.bytes)
+  pub ends : (sink : S) (k b : List ℕ) (out : O) → StandsAt after sink k b → Ends takes finishes sink k out
+      → (last : S) × after last (due b) × finishes last out
 
--- The pieces of an iterator were decoded from the stream's beginning, up to the one of which the rest was refused, or up to
--- the end, which was. By then the sink was told what is due of those before, and of that one or of the end a beginning.
-pub record PiecesStop {I It S : Type 0} (becomes : I → It → Type 0) (steps : It → Option Text → It → Type 0) (takes : S → Sent → S → Type 0) (refuses : S → Sent → Refusal → S → Type 0) (ends : S → Refusal → Type 0) (after : S → List Told → Type 0) (pieces : I) (refusal : Refusal) : Type 0 where
+-- The pieces of an iterator were decoded from the stream's beginning, up to the one of which the rest was refused, or
+-- up to the end, which was. By then the sink was told what is due of those before, and of that one or of the end a
+-- beginning.
+pub record PiecesStop {I It S : Type 0} (becomes : I → It → Type 0) (steps : It → Option Text → It → Type 0)
+    (takes : S → Sent → S → Type 0) (refuses : S → Sent → Refusal → S → Type 0) (ends : S → Refusal → Type 0)
+    (after : S → List Told → Type 0) (pieces : I) (refusal : Refusal) : Type 0 where
   pub iterator : It
   pub made : becomes pieces iterator
   pub read : List Text
   pub last : It
   pub sink : S
   pub tells : after sink (due_open (flat_map (λ p. p.bytes) read))
-  pub stop : ((p : Text) × YieldsThen steps iterator read (Some p) last × (s : S) × Stops takes refuses p sink (due_open (kept (flat_map (λ p. p.bytes) read) ++ p.bytes)) refusal s) ⊎ (YieldsThen steps iterator read None last × EndStops takes refuses ends sink (kept (flat_map (λ p. p.bytes) read)) refusal)
+  pub stop : ((p : Text) × YieldsThen steps iterator read (Some p) last × (s : S)
+      × Stops takes refuses p sink (due_open (kept (flat_map (λ p. p.bytes) read) ++ p.bytes)) refusal s)
+      ⊎ (YieldsThen steps iterator read None last
+      × EndStops takes refuses ends sink (kept (flat_map (λ p. p.bytes) read)) refusal)
 
--- A stream was read through a new decoder, which refused a piece, and comes back failed, or the end. By then its sink was told
--- what is due of what was read before, and of that piece or of the end a beginning.
-abbrev pub StreamStops : {S D : Type 0} → (S → Sent → S → Type 0) → (S → Sent → Refusal → S → Type 0) → (S → Refusal → Type 0) → (S → List Told → Type 0) → (D → S) → (D → Bool) → ℕ → Reads → Refusal → Option D → Type 0
-StreamStops {S} {D} takes refuses ends after inner failed most these refusal handed =
-    ((before : List ℕ) × (p : Text) × (sink : S) × (d : D) × (these.given ≡ before ++ p.bytes) × after sink (due_open before) × Stops takes refuses p sink (due_open (kept before ++ p.bytes)) refusal (inner d) × (failed d ≡ true) × (handed ≡ Some d) × (these.failed ≡ 0) × (these.empty ≡ 0) × (these.reads ≤ most))
-    ⊎ ((sink : S) × after sink (due_open these.given) × EndStops takes refuses ends sink (kept these.given) refusal × (handed ≡ None) × (these.failed ≡ 0) × (these.empty ≡ 1) × (these.reads ≤ most))
+-- A new decoder refused the last piece of a stream that was read through it, and comes back failed. By then its sink
+-- was told what is due of what was read before, and of that piece a beginning.
+pub record StreamStopsAtPiece {S D : Type 0} (takes : S → Sent → S → Type 0) (refuses : S → Sent → Refusal → S → Type 0)
+    (after : S → List Told → Type 0) (inner : D → S) (failed : D → Bool) (most : ℕ) (these : Reads) (refusal : Refusal)
+    (handed : Option D) : Type 0 where
+  pub before : List ℕ
+  pub piece : Text
+  pub sink : S
+  pub decoder : D
+  pub given : these.given ≡ before ++ piece.bytes
+  pub tells : after sink (due_open before)
+  pub stops : Stops takes refuses piece sink (due_open (kept before ++ piece.bytes)) refusal (inner decoder)
+  pub has_failed : failed decoder ≡ true
+  pub back : handed ≡ Some decoder
+  pub none_failed : these.failed ≡ 0
+  pub empty : these.empty ≡ 0
+  pub within : these.reads ≤ most
+
+-- It refused the end, and is gone. By then its sink was told what is due of what was read, and of the end a beginning.
+pub record StreamStopsAtEnd {S D : Type 0} (takes : S → Sent → S → Type 0) (refuses : S → Sent → Refusal → S → Type 0)
+    (ends : S → Refusal → Type 0) (after : S → List Told → Type 0) (most : ℕ) (these : Reads) (refusal : Refusal)
+    (handed : Option D) : Type 0 where
+  pub sink : S
+  pub tells : after sink (due_open these.given)
+  pub stops : EndStops takes refuses ends sink (kept these.given) refusal
+  pub gone : handed ≡ None
+  pub none_failed : these.failed ≡ 0
+  pub empty : these.empty ≡ 1
+  pub within : these.reads ≤ most
+
+-- where a new decoder stopped the stream that was read through it
+abbrev pub StreamStops : {S D : Type 0} → (S → Sent → S → Type 0) → (S → Sent → Refusal → S → Type 0)
+    → (S → Refusal → Type 0) → (S → List Told → Type 0) → (D → S) → (D → Bool) → ℕ → Reads → Refusal → Option D → Type 0
+StreamStops takes refuses ends after inner failed most these refusal handed =
+    StreamStopsAtPiece takes refuses after inner failed most these refusal handed
+    ⊎ StreamStopsAtEnd takes refuses ends after most these refusal handed

@@ -14,8 +14,12 @@ no_piece = record { bytes = []; copied = 0 }
 -- What is told of the kept bytes k and the piece, after they were completed or more is kept. Where they were completed,
 -- the rest of the piece is left, and nothing is kept.
 abbrev pub ResumesPiece : {S : Type 0} → (S → Sent → S → Type 0) → S → List ℕ → Text → Bool → S → List ℕ → Text → Type 0
-ResumesPiece takes old k piece true new next rest = (told : List Told) × Feeds takes piece old told new × (due_open (k ++ piece.bytes) ≡ told ++ due_open rest.bytes) × (kept (k ++ piece.bytes) ≡ kept rest.bytes) × (next ≡ []) × IsRest piece rest × ((n : ℕ) × (rest.bytes ≡ drop n piece.bytes))
-ResumesPiece takes old k piece false new next rest = (new ≡ old) × (due_open (k ++ piece.bytes) ≡ []) × (next ≡ kept (k ++ piece.bytes))
+ResumesPiece takes old k piece true new next rest =
+    (told : List Told) × Feeds takes piece old told new × (due_open (k ++ piece.bytes) ≡ told ++ due_open rest.bytes)
+    × (kept (k ++ piece.bytes) ≡ kept rest.bytes) × (next ≡ []) × IsRest piece rest
+    × ((n : ℕ) × (rest.bytes ≡ drop n piece.bytes))
+ResumesPiece takes old k piece false new next rest =
+    (new ≡ old) × (due_open (k ++ piece.bytes) ≡ []) × (next ≡ kept (k ++ piece.bytes))
 
 -- an accepted call of a decoder that kept k
 abbrev pub Decodes : {S : Type 0} → (S → Sent → S → Type 0) → S → List ℕ → Sent → S → List ℕ → Type 0
@@ -23,16 +27,20 @@ Decodes takes old k (Piece p) new next = Feeds takes p old (due_open (k ++ p.byt
 Decodes takes old k (Fault words) new next = takes old (Fault words) new × (next ≡ k)
 
 -- a refused call of a decoder that kept k, and hadn't failed
-abbrev pub DecodingStops : {S : Type 0} → (S → Sent → S → Type 0) → (S → Sent → Refusal → S → Type 0) → S → List ℕ → Sent → Refusal → S → Type 0
-DecodingStops takes refuses old k (Piece p) refusal new = Stops takes refuses p old (due_open (k ++ p.bytes)) refusal new
-DecodingStops takes refuses old k (Fault words) refusal new = (refusal ≡ SinkRefused) × ((r : Refusal) × refuses old (Fault words) r new)
+abbrev pub DecodingStops : {S : Type 0} → (S → Sent → S → Type 0) → (S → Sent → Refusal → S → Type 0) → S → List ℕ
+    → Sent → Refusal → S → Type 0
+DecodingStops takes refuses old k (Piece p) refusal new =
+    Stops takes refuses p old (due_open (k ++ p.bytes)) refusal new
+DecodingStops takes refuses old k (Fault words) refusal new =
+    (refusal ≡ SinkRefused) × ((r : Refusal) × refuses old (Fault words) r new)
 
 -- an accepted end
 abbrev pub Ends : {S O : Type 0} → (S → Sent → S → Type 0) → (S → O → Type 0) → S → List ℕ → O → Type 0
 Ends {S} takes finishes old k out = (last : S) × Feeds takes no_piece old (due k) last × finishes last out
 
 -- a refused end: of a call before the sink's own, or of that
-abbrev pub EndStops : {S : Type 0} → (S → Sent → S → Type 0) → (S → Sent → Refusal → S → Type 0) → (S → Refusal → Type 0) → S → List ℕ → Refusal → Type 0
+abbrev pub EndStops : {S : Type 0} → (S → Sent → S → Type 0) → (S → Sent → Refusal → S → Type 0)
+    → (S → Refusal → Type 0) → S → List ℕ → Refusal → Type 0
 EndStops {S} takes refuses ends old k refusal =
     ((last : S) × Stops takes refuses no_piece old (due k) refusal last)
     ⊎ ((last : S) × Feeds takes no_piece old (due k) last × (refusal ≡ SinkRefused) × ((r : Refusal) × ends last r))

@@ -1,3 +1,4 @@
+-- The words of the contracts on streams.
 pub mod Sinks
 pub mod Events
 pub mod Decoders

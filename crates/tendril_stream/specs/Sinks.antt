@@ -21,13 +21,15 @@ told_of (Fault words) = Mark words ∷ []
 abbrev pub told : List Sent → List Told
 told sent = flat_map told_of sent
 
--- what is sent of a piece: an error, or a text that isn't empty and copied no bytes but those that the piece had, or few
+-- what is sent of a piece: an error, or a text that isn't empty and copied no bytes but those that the piece had, or
+-- few
 abbrev pub IsSentOf : Text → Sent → Type 0
 IsSentOf piece (Piece t) = IsHandedOn piece t
 IsSentOf piece (Fault words) = Unit {0}
 
 -- a sink accepted calls, one after another, that tell these
-pub record Feeds {S : Type 0} (takes : S → Sent → S → Type 0) (piece : Text) (old : S) (due : List Told) (new : S) : Type 0 where
+pub record Feeds {S : Type 0} (takes : S → Sent → S → Type 0) (piece : Text) (old : S) (due : List Told)
+    (new : S) : Type 0 where
   pub sent : List Sent
   pub each : All (IsSentOf piece) sent
   pub calls : FoldsTo takes old sent new
@@ -39,10 +41,12 @@ SinkRefuses refuses mid refusal new = (refusal ≡ SinkRefused) × (e : Sent) ×
 
 -- or wasn't made, since no text could be taken out of a long piece
 abbrev pub IsStop : {S : Type 0} → (S → Sent → Refusal → S → Type 0) → Text → S → Refusal → S → Type 0
-IsStop refuses piece mid refusal new = (LongPieceMay piece.bytes refusal × (new ≡ mid)) ⊎ SinkRefuses refuses mid refusal new
+IsStop refuses piece mid refusal new =
+    (LongPieceMay piece.bytes refusal × (new ≡ mid)) ⊎ SinkRefuses refuses mid refusal new
 
 -- a sink accepted calls that tell a beginning of these, and then there was a refusal
-pub record Stops {S : Type 0} (takes : S → Sent → S → Type 0) (refuses : S → Sent → Refusal → S → Type 0) (piece : Text) (old : S) (due : List Told) (refusal : Refusal) (new : S) : Type 0 where
+pub record Stops {S : Type 0} (takes : S → Sent → S → Type 0) (refuses : S → Sent → Refusal → S → Type 0)
+    (piece : Text) (old : S) (due : List Told) (refusal : Refusal) (new : S) : Type 0 where
   pub sent : List Sent
   pub each : All (IsSentOf piece) sent
   pub mid : S
@@ -52,7 +56,8 @@ pub record Stops {S : Type 0} (takes : S → Sent → S → Type 0) (refuses : S
   pub stop : IsStop refuses piece mid refusal new
 
 -- The texts of an iterator, sent one after another.
-module _ {I It T S : Type 0} (becomes : I → It → Type 0) (steps : It → Option T → It → Type 0) (text : T → Text) (takes : S → Sent → S → Type 0) where
+module _ {I It T S : Type 0} (becomes : I → It → Type 0) (steps : It → Option T → It → Type 0) (text : T → Text)
+    (takes : S → Sent → S → Type 0) where
   -- each of them is accepted, and so is the end
   pub record SendsAll {O : Type 0} (finishes : S → O → Type 0) (sink : S) (texts : I) (out : O) : Type 0 where
     pub iterator : It
@@ -65,11 +70,13 @@ module _ {I It T S : Type 0} (becomes : I → It → Type 0) (steps : It → Opt
     pub ends : finishes sunk out
 
   -- some are accepted, and then one is refused, or the end
-  pub record SendsSome (refuses : S → Sent → Refusal → S → Type 0) (ends : S → Refusal → Type 0) (sink : S) (texts : I) (refusal : Refusal) : Type 0 where
+  pub record SendsSome (refuses : S → Sent → Refusal → S → Type 0) (ends : S → Refusal → Type 0) (sink : S) (texts : I)
+      (refusal : Refusal) : Type 0 where
     pub iterator : It
     pub made : becomes texts iterator
     pub sent : List T
     pub last : It
     pub sunk : S
     pub calls : FoldsTo (λ s x t. takes s (Piece (text x)) t) sink sent sunk
-    pub stop : ((x : T) × YieldsThen steps iterator sent (Some x) last × (s : S) × refuses sunk (Piece (text x)) refusal s) ⊎ (YieldsThen steps iterator sent None last × ends sunk refusal)
+    pub stop : ((x : T) × YieldsThen steps iterator sent (Some x) last × (s : S)
+        × refuses sunk (Piece (text x)) refusal s) ⊎ (YieldsThen steps iterator sent None last × ends sunk refusal)

@@ -4,8 +4,8 @@ ghost use Rattle.tendril_stream.specs.Compositions.{Composes};
 use crate::tracks::Tracks;
 use tendril_text::{Atomicity, StrTendril};
 
-/// However a stream is cut, a sink was told at its end what is due of the joined bytes, one error before each replacement
-/// made, and what is known of it then is known.
+/// However a stream is cut: if the end answers Ok, the sink was told `due b`, b being all pieces joined, with one error
+/// before each replacement made, and `after` holds of it with that list.
 pub fn laws<S: Tracks<StrTendril<A>>, A: Atomicity>()
     ensures { Composes S.takes S.finishes S.after }
 {}

@@ -1,16 +1,16 @@
-//! Sinks of which something is known by what they were told.
+//! Sinks whose state is known by what they were told.
 
 use crate::sink::{Streamed, TendrilSink};
 
-/// A sink of which something is known after it was told a list of characters and marks, whatever that is.
+/// A sink whose state is known by the characters and marks that it was told.
 pub trait Tracks<T: Streamed>: TendrilSink<T> {
     ghost use Rattle.std.specs.Prelude.{List};
     ghost use Rattle.tendril_lossy.specs.Lossy.{Told};
     ghost use Rattle.tendril_stream.specs.Compositions.{FollowsCalls};
 
-    /// What is known of it then.
+    /// `after sink told`: what holds of a sink that was told this list.
     ghost after: { Self → List Told → Type 0 };
 
-    /// An accepted call goes on with that.
+    /// If `after a told` and the sink accepts e, then `after b (told ++ told_of e)`.
     ghost goes_on: { FollowsCalls Self.takes after };
 }

@@ -14,7 +14,8 @@ use Rattle.tendril_lossy.proofs.Completions.{IsFirstPart, rest_items, open_len}
 use Rattle.tendril_lossy.proofs.Resume.{closed-keeps, cut-keeps}
 use Rattle.tendril_lossy.proofs.Streams.{IsLossy-lossy, only_lossy}
 use Rattle.tendril_lossy.specs.Completions.{BreaksAt, CompletesTo}
-use Rattle.tendril_lossy.specs.Lossy.{EndsWithin, Item, Told, Keep, Bad, Cut, Char, Mark, IsLossy, IsOpen, lossy, items_after, closed_of, characters, due_open, cut_bytes, kept}
+use Rattle.tendril_lossy.specs.AfterText.{EndsWithin, items_after}
+use Rattle.tendril_lossy.specs.Lossy.{Item, Told, Keep, Bad, Cut, Char, Mark, IsLossy, IsOpen, lossy, closed_of, characters, due_open, cut_bytes, kept}
 use Rattle.tendril_lossy.specs.declared.search.Ending.{Ending}
 use Rattle.tendril_lossy.specs.declared.search.Ending.TheVariants.{Whole, Broken, Open}
 use Rattle.tendril_text.specs.Decoding.{BothShare, LongPieceMay, DecodesPiece, IsHandedOn, IsRest, HandsOn, HandsOnUpTo, Hands, Leaves, PopsText, broken_len, bytes_of, listed}

@@ -1,3 +1,4 @@
+-- Characters popped off a text, and what a classifier was asked and answered meanwhile.
 use Rattle.std.specs.Prelude.{ℕ, ◌≡◌, ◌≤◌, ◌<◌, ◌+◌, List, [], ◌∷◌, ◌++◌, length, take, drop, Bool, true, false}
 use Rattle.std.specs.List.{FoldsTo}
 
@@ -13,9 +14,9 @@ module _ {F R : Type 0} (step : F → ℕ → R → F → Type 0) (eq : R → R 
   SaysOther class f [] f' = f' ≡ f
   SaysOther class f (c ∷ cs) f' = (r : R) × step f c r f' × (eq class r ≡ false)
 
-  -- the classifier was asked for the characters of the run in turn, and for the first one of the rest, each once and for
-  -- no other, and is `after` then: the class is its first answer, the other answers in the run equal it, and that in
-  -- the rest doesn't
+  -- the classifier was asked for the characters of the run in turn, and for the first one of the rest, each once and
+  -- for no other, and is `after` then: the class is its first answer, the other answers in the run equal it, and that
+  -- in the rest doesn't
   pub record IsAsked (classify : F) (class : R) (run rest : List ℕ) (after : F) : Type 0 where
     pub first : ℕ
     pub others : List ℕ
@@ -27,7 +28,8 @@ module _ {F R : Type 0} (step : F → ℕ → R → F → Type 0) (eq : R → R 
     pub asked_next : SaysOther class last rest after
 
   -- a text is a run of characters of one class, and the rest
-  pub record IsRun (valid : List ℕ → Type 0) (chars : List ℕ → List ℕ) (classify : F) (class : R) (text run rest : List ℕ) : Type 0 where
+  pub record IsRun (valid : List ℕ → Type 0) (chars : List ℕ → List ℕ) (classify : F) (class : R)
+      (text run rest : List ℕ) : Type 0 where
     pub bytes : text ≡ run ++ rest
     pub run_valid : valid run
     pub rest_valid : valid rest
@@ -36,7 +38,8 @@ module _ {F R : Type 0} (step : F → ℕ → R → F → Type 0) (eq : R → R 
     pub asked : IsAsked classify class (chars run) (chars rest) after
 
   -- the first n bytes of a text are such a run, and both parts are valid
-  pub record EndsRun (valid : List ℕ → Type 0) (chars : List ℕ → List ℕ) (classify : F) (class : R) (text : List ℕ) (n : ℕ) (after : F) : Type 0 where
+  pub record EndsRun (valid : List ℕ → Type 0) (chars : List ℕ → List ℕ) (classify : F) (class : R) (text : List ℕ)
+      (n : ℕ) (after : F) : Type 0 where
     pub within : n ≤ length text
     pub run_valid : valid (take n text)
     pub rest_valid : valid (drop n text)
@@ -44,7 +47,8 @@ module _ {F R : Type 0} (step : F → ℕ → R → F → Type 0) (eq : R → R 
     pub asked : IsAsked classify class (chars (take n text)) (chars (drop n text)) after
 
   -- such a run and the rest have more than 8 bytes each
-  pub record HasLongParts (valid : List ℕ → Type 0) (chars : List ℕ → List ℕ) (classify : F) (text : List ℕ) : Type 0 where
+  pub record HasLongParts (valid : List ℕ → Type 0) (chars : List ℕ → List ℕ) (classify : F)
+      (text : List ℕ) : Type 0 where
     pub class : R
     pub end : ℕ
     pub after : F

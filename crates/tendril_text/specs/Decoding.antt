@@ -1,5 +1,30 @@
 -- The lossy decoding of pieces of a stream.
-use Rattle.std.specs.Prelude.{ℕ, ◌≡◌, ◌<◌, ◌≤◌, ◌+◌, ◌⊎◌, List, [], ◌∷◌, ◌++◌, length, take, drop, map, flat_map, chars, encode_utf8, All, Option, Some, None, IfSome, MatchOption, IsUtf8}
+use Rattle.std.specs.Prelude.{
+  ℕ,
+  ◌≡◌,
+  ◌<◌,
+  ◌≤◌,
+  ◌+◌,
+  ◌⊎◌,
+  List,
+  [],
+  ◌∷◌,
+  ◌++◌,
+  length,
+  take,
+  drop,
+  map,
+  flat_map,
+  chars,
+  encode_utf8,
+  All,
+  Option,
+  Some,
+  None,
+  IfSome,
+  MatchOption,
+  IsUtf8,
+}
 use Rattle.std.specs.List.{FoldsTo}
 use Rattle.tendril_block.specs.declared.refusal.Refusal.{Refusal}
 use Rattle.tendril_block.specs.declared.refusal.Refusal.TheVariants.{Count}
@@ -98,6 +123,7 @@ module _ {P : Type 0} (step : P → Text → Unit {0} → P → Type 0) where
   pub record HandsCompleted (push : P) (k : List ℕ) (input rest : Text) (last : P) : Type 0 where
     pub text : Text
     pub hands : step push text tt last
-    pub says : CompletesTo k input.bytes text.bytes rest.bytes ⊎ ((text.bytes ≡ encode_utf8 0xFFFD) × (b : List ℕ) × BreaksAt k input.bytes b rest.bytes)
+    pub says : CompletesTo k input.bytes text.bytes rest.bytes
+        ⊎ ((text.bytes ≡ encode_utf8 0xFFFD) × (b : List ℕ) × BreaksAt k input.bytes b rest.bytes)
     pub short : text.copied ≤ 4
     pub copied : Keeps input rest

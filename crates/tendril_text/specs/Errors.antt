@@ -1,3 +1,4 @@
+-- The refusals that slices and pops are refused with.
 use Rattle.tendril_block.specs.declared.refusal.Refusal.{Refusal}
 use Rattle.tendril_block.specs.declared.refusal.Refusal.TheVariants as refusal
 use Rattle.tendril_text.specs.declared.error.SubtendrilError.{SubtendrilError}

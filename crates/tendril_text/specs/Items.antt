@@ -1,4 +1,27 @@
-use Rattle.std.specs.Prelude.{ℕ, ◌≡◌, ◌≤◌, ◌<◌, ◌+◌, List, [], ◌∷◌, ◌++◌, Option, Some, None, Result, IfOk, MatchResult, flat_map, fold, length, max, sum_by, take}
+-- Texts made of the items of an iterator, or grown by them.
+use Rattle.std.specs.Prelude.{
+  ℕ,
+  ◌≡◌,
+  ◌≤◌,
+  ◌<◌,
+  ◌+◌,
+  List,
+  [],
+  ◌∷◌,
+  ◌++◌,
+  Option,
+  Some,
+  None,
+  Result,
+  IfOk,
+  MatchResult,
+  flat_map,
+  fold,
+  length,
+  max,
+  sum_by,
+  take,
+}
 use Rattle.std.specs.Iterator.{YieldsThen}
 use Rattle.tendril_block.specs.declared.atomicity.TheConstants.{MAX_LEN}
 use Rattle.tendril_block.specs.declared.refusal.Refusal.{Refusal}
@@ -22,26 +45,31 @@ module _ {A : Type 0} (bytes_of : A → List ℕ) where
   abbrev pub cost : List A → ℕ
   cost xs = sum_by (λ x. length (bytes_of x) + 4) xs
 
--- The calls of an iterator give what `steps` says. An item has the bytes `bytes_of x`, and a text of the bytes b has the
--- bytes `after b xs` once the items xs are in it.
-module _ {S A : Type 0} (steps : S → Option A → S → Type 0) (bytes_of : A → List ℕ) (after : List ℕ → List A → List ℕ) where
+-- The calls of an iterator give what `steps` says. An item has the bytes `bytes_of x`, and a text of the bytes b has
+-- the bytes `after b xs` once the items xs are in it.
+module _ {S A : Type 0} (steps : S → Option A → S → Type 0) (bytes_of : A → List ℕ)
+    (after : List ℕ → List A → List ℕ) where
   -- The items that go into a text of the bytes b. After each of them it is short enough, and then the iterator gave no
   -- other, or one more, with which the text is refused. It was asked for nothing after that, and is left as `last`.
-  pub record Takes {R : Type 0} (iterator : S) (b : List ℕ) (taken : List A) (result : Result R Refusal) (last : S) : Type 0 where
+  pub record Takes {R : Type 0} (iterator : S) (b : List ℕ) (taken : List A) (result : Result R Refusal)
+      (last : S) : Type 0 where
     pub fits : (n : ℕ) → n < length taken → length (after b (take (n + 1) taken)) ≤ MAX_LEN
     pub ends : MatchResult result
         (λ _. YieldsThen steps iterator taken None last)
-        (λ r. (x : A) × YieldsThen steps iterator taken (Some x) last × LengthRefused (length (after b (taken ++ x ∷ []))) r)
+        (λ r. (x : A) × YieldsThen steps iterator taken (Some x) last
+        × LengthRefused (length (after b (taken ++ x ∷ []))) r)
 
   -- a text has what it had, and then all items or exactly those before the one that is refused
-  pub record TakesItems (iterator : S) (old : Text) (result : Result (Unit {0}) Refusal) (new : Text) (last : S) : Type 0 where
+  pub record TakesItems (iterator : S) (old : Text) (result : Result (Unit {0}) Refusal) (new : Text)
+      (last : S) : Type 0 where
     pub taken : List A
     pub takes : Takes iterator old.bytes taken result last
     pub bytes : new.bytes ≡ after old.bytes taken
     pub copied : new.copied ≤ max old.copied (length old.bytes) + cost bytes_of taken
 
 -- the same, where the iterator of some items is one that `becomes` ties to them
-module _ {I S A : Type 0} (becomes : I → S → Type 0) (steps : S → Option A → S → Type 0) (bytes_of : A → List ℕ) (after : List ℕ → List A → List ℕ) where
+module _ {I S A : Type 0} (becomes : I → S → Type 0) (steps : S → Option A → S → Type 0) (bytes_of : A → List ℕ)
+    (after : List ℕ → List A → List ℕ) where
   pub record Extends (items : I) (old new : Text) (result : Result (Unit {0}) Refusal) : Type 0 where
     pub iterator : S
     pub made : becomes items iterator

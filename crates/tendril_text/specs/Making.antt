@@ -1,3 +1,4 @@
+-- Texts made of bytes.
 use Rattle.std.specs.Prelude.{ℕ, ◌≡◌, List, length, Result}
 use Rattle.tendril_block.specs.declared.refusal.Refusal.{Refusal}
 use Rattle.tendril_block.specs.Outcomes.{LengthMust, BytesMust, MemoryMay, Gives}

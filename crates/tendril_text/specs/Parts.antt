@@ -1,3 +1,4 @@
+-- Parts of a text: clones, slices and pops.
 use Rattle.std.specs.Prelude.{ℕ, ◌≡◌, List, length, take, drop, Result, Ok, Err}
 use Rattle.tendril_block.specs.declared.refusal.Refusal.{Refusal}
 use Rattle.tendril_text.specs.declared.error.SubtendrilError.{SubtendrilError}
@@ -25,7 +26,8 @@ Slices b offset count result = Gives NoneMust (CountMay count) (IsShareOf (take 
 
 -- the part of b of so many bytes from the offset on is given, where it is there and valid
 abbrev pub SlicesValid : (List ℕ → Type 0) → List ℕ → ℕ → ℕ → Result Text SubtendrilError → Type 0
-SlicesValid valid b offset count result = Gives (SliceMust valid b offset count) (CountMay count) (IsShareOf (take count (drop offset b))) (by_name result)
+SlicesValid valid b offset count result =
+    Gives (SliceMust valid b offset count) (CountMay count) (IsShareOf (take count (drop offset b))) (by_name result)
 
 -- a text from which bytes were dropped, so that b is left of it
 pub record IsRestOf (old : Text) (b : List ℕ) (new : Text) : Type 0 where
@@ -34,4 +36,5 @@ pub record IsRestOf (old : Text) (b : List ℕ) (new : Text) : Type 0 where
 
 -- a text loses so many bytes, where they are there and the rest is valid
 abbrev pub PopsValid : (List ℕ → Type 0) → ℕ → List ℕ → Text → Result (Unit {0}) SubtendrilError → Text → Type 0
-PopsValid valid count rest old result new = Outcome (PopMust valid old.bytes count rest) NoneMay (λ _ t. IsRestOf old rest t) old (by_name result) new
+PopsValid valid count rest old result new =
+    Outcome (PopMust valid old.bytes count rest) NoneMay (λ _ t. IsRestOf old rest t) old (by_name result) new

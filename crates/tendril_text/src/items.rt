@@ -6,9 +6,9 @@ ghost use Rattle.std.specs.Iterator.{IsFinite, IsFiniteIterable};
 ghost use Rattle.tendril_fmt.specs.Chars.{one_byte};
 ghost use Rattle.tendril_text.specs.Items.{Extends, Makes, TakesItems, appended, joined};
 
-mod piece;
+mod pushable;
 
-use crate::items::piece::Piece;
+use crate::items::pushable::Pushable;
 use crate::tendril::Tendril;
 use std::alloc::Global;
 use tendril_block::{Atomicity, Refusal};
@@ -49,7 +49,7 @@ impl<F: Format, A: Atomicity> Tendril<F, A> {
 
     fn extend_with<I: IntoIterator>(&mut self, items: I) -> Result<(), Refusal>
     where
-        I::Item: Piece<F, A>,
+        I::Item: Pushable<F, A>,
         requires { IsFiniteIterable I.into_iter_gives I.IntoIter.can_next I.IntoIter.remaining items }
         ensures { Extends I.into_iter_gives I.IntoIter.next_gives
             I.Item.bytes (joined I.Item.bytes F.join) items self.old self.new result }
@@ -61,7 +61,7 @@ impl<F: Format, A: Atomicity> Tendril<F, A> {
     // loop ends: it was asked for no item after the one that is refused.
     fn take_items<I: Iterator>(&mut self, source: &mut I) -> Result<(), Refusal>
     where
-        I::Item: Piece<F, A>,
+        I::Item: Pushable<F, A>,
         requires can { I.can_next source.old }
         requires finite { IsFinite (I.remaining source.old) }
         ensures { TakesItems I.next_gives I.Item.bytes (joined I.Item.bytes F.join)
@@ -75,7 +75,7 @@ impl<F: Format, A: Atomicity> Tendril<F, A> {
 
     fn from_items<I: IntoIterator>(alloc: Global, items: I) -> Result<Self, Refusal>
     where
-        I::Item: Piece<F, A>,
+        I::Item: Pushable<F, A>,
         requires { IsFiniteIterable I.into_iter_gives I.IntoIter.can_next I.IntoIter.remaining items }
         ensures { Makes I.into_iter_gives I.IntoIter.next_gives I.Item.bytes (joined I.Item.bytes F.join) items result }
     {

@@ -1,7 +1,7 @@
 //! One holder of a node, whose kind says in which threads the others may be.
 ghost use Rattle.std.specs.Prelude.{◌≡◌, ℕ, ◌+◌, ◌<◌, MatchResult, IfSome, IfOk};
 ghost use Rattle.std.specs.Borrow.{sem};
-ghost use Rattle.tendril_block.specs.Held.{Crosses, block_owns, block_shares, BodyIn, body_coded, limit};
+ghost use Rattle.tendril_block.specs.Owned.{Crosses, block_owns, block_shares, BodyIn, body_coded, limit};
 
 use crate::body::Body;
 use crate::node::Node;
@@ -21,14 +21,14 @@ pub(crate) struct Handle<K: Kind> {
 }
 
 impl<K: Kind> Model for Handle<K> {
-    ghost also_owns = { λ b. block_owns (Crosses K.row K.shared) K.shared b.limit b.node b.alloc b.inner };
+    ghost also_owns = { λ b. block_owns (Crosses K.row K.any_thread) K.any_thread b.limit b.node b.alloc b.inner };
 
-    ghost also_shares = { λ b _ κ. block_shares K.shared b.limit b.node b.alloc b.inner κ };
+    ghost also_shares = { λ b _ κ. block_shares K.any_thread b.limit b.node b.alloc b.inner κ };
 }
 
 impl<K: Kind> Handle<K> {
     ghost use Rattle.tendril_block.specs.contracts.node.handle.Handle.{the_row};
-    ghost use Rattle.tendril_block.specs.Held.{BodyRow};
+    ghost use Rattle.tendril_block.specs.Owned.{BodyRow};
     ghost use Rattle.std.specs.Borrow.{LendsIf};
     ghost use Rattle.tendril_block.specs.Written.{with_body};
 

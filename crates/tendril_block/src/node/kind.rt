@@ -1,30 +1,30 @@
 //! In which threads the holders of a node may be, and how each of them steps on the node's word.
 ghost use Rattle.std.specs.Prelude.{◌≡◌, ◌+◌, ◌<◌, Bool};
 ghost use Rattle.std.specs.Borrow.{sem};
-ghost use Rattle.tendril_block.specs.Held.{Stepper, holds, left, seen_by, peeks, token_of, joins, joined_to, Joining, limit, Crosses};
+ghost use Rattle.tendril_block.specs.Owned.{Stepper, holds, left, seen_by, peeks, token_of, joins, joined_to, Joining, limit, Crosses};
 ghost use base.Fml.{Share};
 
 /// A kind of holders: a type of which no value is made. Each function is one step on the word of a node.
 pub(crate) trait Kind {
     /// Whether the holders may be in any threads, or are all in one.
-    ghost shared: { Bool };
+    ghost any_thread: { Bool };
 
     /// The machine's subtract. Who finds 1 has all that the rule had, and the duty.
     unsafe fn subtract(word: *mut u64) -> u64
         ghost g: { Stepper }
-        requires* { sem 𝓛 (holds shared g word) }
-        ensures* { sem 𝓛 (left shared g word result) };
+        requires* { sem 𝓛 (holds any_thread g word) }
+        ensures* { sem 𝓛 (left any_thread g word result) };
 
     /// The machine's alone, where it finds 1: the holder has all that the rule had.
     unsafe fn alone(word: *mut u64) -> u64
         ghost g: { Stepper }
-        requires* { sem 𝓛 (holds shared g word) }
-        ensures* { sem 𝓛 (seen_by shared g word result) };
+        requires* { sem 𝓛 (holds any_thread g word) }
+        ensures* { sem 𝓛 (seen_by any_thread g word result) };
 
     /// A load that is no step: another thread may change the word at once.
     unsafe fn peek(word: *mut u64) -> u64
         ghost g: { Stepper × Share }
-        requires* { sem 𝓛 (peeks shared g word) }
+        requires* { sem 𝓛 (peeks any_thread g word) }
         ensures* { sem 𝓛 (token_of g) };
 
     /// The machine's add, where the word is still the one that was seen.
@@ -32,9 +32,9 @@ pub(crate) trait Kind {
         ghost g: { Joining }
         requires below { seen < limit g.0.0 }
         requires next { next ≡ seen + 1 }
-        requires* holder { sem 𝓛 (joins shared g word) }
-        ensures* { sem 𝓛 (joined_to shared g seen word result) };
+        requires* holder { sem 𝓛 (joins any_thread g word) }
+        ensures* { sem 𝓛 (joined_to any_thread g seen word result) };
 
     /// A kind whose values any thread may own is one whose holders may be in any threads.
-    ghost crosses: { Crosses Self.row shared };
+    ghost crosses: { Crosses Self.row any_thread };
 }

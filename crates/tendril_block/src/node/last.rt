@@ -1,7 +1,7 @@
 //! The node of a block that has no holder any more.
 ghost use Rattle.std.specs.Prelude.{◌≡◌, ℕ};
 ghost use Rattle.std.specs.Borrow.{sem};
-ghost use Rattle.tendril_block.specs.Held.{BodyIn, Id, body_coded, freed, last_owns};
+ghost use Rattle.tendril_block.specs.Owned.{BodyIn, Id, body_coded, freed, last_owns};
 ghost use base.Fml.{fex};
 
 use crate::node::Node;

@@ -1,5 +1,31 @@
 -- What is made of bytes below 256 is below 256, and so are parts of it.
-use Rattle.std.proofs.Common.{ℕ, zero, suc, ◌+◌, ◌<◌, List, [], ◌∷◌, ◌++◌, length, take, drop, IsAscii, refl, sym, ap, subst, ◌∙◌, arith, ⊎_elim, length-take, get_or-take, get_or-drop, take_at, drop_at}
+use Rattle.std.proofs.Common.{
+  ℕ,
+  zero,
+  suc,
+  ◌+◌,
+  ◌<◌,
+  List,
+  [],
+  ◌∷◌,
+  ◌++◌,
+  length,
+  take,
+  drop,
+  IsAscii,
+  refl,
+  sym,
+  ap,
+  subst,
+  ◌∙◌,
+  arith,
+  ⊎_elim,
+  length-take,
+  get_or-take,
+  get_or-drop,
+  take_at,
+  drop_at,
+}
 use Rattle.std.specs.List.{All, AllByRecursion}
 use Rattle.std.specs.Str.{encode_utf8_all}
 use Rattle.std.specs.Char.{encode_utf8}
@@ -37,10 +63,14 @@ All-from_bytes bytes h = All-from_get_or (λ b. b < 256) bytes 0 (λ i _. h i)
 -- Parts
 
 pub AreBytes-front : (part whole : List ℕ) → AreBytes whole → IsFrontOf part whole → AreBytes part
-AreBytes-front part whole h f = subst AreBytes (ap (take (length part)) f.1 ∙ take_at part f.0 (length part) refl) (AreBytes-take whole (length part) h)
+AreBytes-front part whole h f =
+    subst AreBytes (ap (take (length part)) f.1 ∙ take_at part f.0 (length part) refl)
+    (AreBytes-take whole (length part) h)
 
 pub AreBytes-end : (part whole : List ℕ) → AreBytes whole → IsEndOf part whole → AreBytes part
-AreBytes-end part whole h f = subst AreBytes (ap (drop (length f.0)) f.1 ∙ drop_at f.0 part (length f.0) refl) (AreBytes-drop whole (length f.0) h)
+AreBytes-end part whole h f =
+    subst AreBytes (ap (drop (length f.0)) f.1 ∙ drop_at f.0 part (length f.0) refl)
+    (AreBytes-drop whole (length f.0) h)
 
 -- Encodings
 
@@ -53,14 +83,20 @@ one b h = AreBytes-cons b [] h AreBytes-nil
 
 of_shape : (c : ℕ) → Shape c → AreBytes (encode_utf8 c)
 of_shape c (of1 h e) = subst AreBytes (sym e) (one c (omega arith))
-of_shape c (of2 a b l h f s e) = subst AreBytes (sym e) (AreBytes-cons a (b ∷ []) (omega arith) (one b (omega (arith, f.1))))
+of_shape c (of2 a b l h f s e) =
+    subst AreBytes (sym e) (AreBytes-cons a (b ∷ []) (omega arith) (one b (omega (arith, f.1))))
 of_shape c (of3 a b d l h f g s m e) =
-    subst AreBytes (sym e) (AreBytes-cons a (b ∷ d ∷ []) (omega arith) (AreBytes-cons b (d ∷ []) (omega (arith, f.1)) (one d (omega (arith, g.1)))))
+    subst AreBytes (sym e)
+    (AreBytes-cons a (b ∷ d ∷ []) (omega arith)
+    (AreBytes-cons b (d ∷ []) (omega (arith, f.1)) (one d (omega (arith, g.1)))))
 of_shape c (of4 a b d x l h f g k s m e) =
     let last : AreBytes (d ∷ x ∷ []) = AreBytes-cons d (x ∷ []) (omega (arith, g.1)) (one x (omega (arith, k.1))) in
-    subst AreBytes (sym e) (AreBytes-cons a (b ∷ d ∷ x ∷ []) (omega arith) (AreBytes-cons b (d ∷ x ∷ []) (omega (arith, f.1)) last))
+    subst AreBytes (sym e)
+    (AreBytes-cons a (b ∷ d ∷ x ∷ []) (omega arith) (AreBytes-cons b (d ∷ x ∷ []) (omega (arith, f.1)) last))
 
 -- the encodings of code points, surrogates too
 pub AreBytes-encode_utf8_all : (cs : List ℕ) → AllByRecursion IsCodePoint cs → AreBytes (encode_utf8_all cs)
 AreBytes-encode_utf8_all [] h = AreBytes-nil
-AreBytes-encode_utf8_all (c ∷ cs) h = AreBytes-append (encode_utf8 c) (encode_utf8_all cs) (of_shape c (point_shape c h.0)) (AreBytes-encode_utf8_all cs h.1)
+AreBytes-encode_utf8_all (c ∷ cs) h =
+    AreBytes-append (encode_utf8 c) (encode_utf8_all cs) (of_shape c (point_shape c h.0))
+    (AreBytes-encode_utf8_all cs h.1)

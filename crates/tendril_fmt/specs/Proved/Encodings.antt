@@ -1,5 +1,32 @@
 -- Every code point, surrogates too, has its bytes, and the bytes say the code point.
-use Rattle.std.proofs.Common.{◌≡◌, ◌⊎◌, ℕ, zero, suc, ◌+◌, ◌-◌, ◌*◌, ◌/◌, ◌%◌, ◌<◌, ◌≤◌, List, [], ◌∷◌, ◌++◌, refl, sym, ap, ◌∙◌, arith, inl, inr, ⊎_elim, append_assoc, append-nil}
+use Rattle.std.proofs.Common.{
+  ◌≡◌,
+  ◌⊎◌,
+  ℕ,
+  zero,
+  suc,
+  ◌+◌,
+  ◌-◌,
+  ◌*◌,
+  ◌/◌,
+  ◌%◌,
+  ◌<◌,
+  ◌≤◌,
+  List,
+  [],
+  ◌∷◌,
+  ◌++◌,
+  refl,
+  sym,
+  ap,
+  ◌∙◌,
+  arith,
+  inl,
+  inr,
+  ⊎_elim,
+  append_assoc,
+  append-nil,
+}
 use Rattle.std.specs.List.{AllByRecursion}
 use Rattle.std.specs.Str.{chars, chars_after, continuation_len, lead_bits, encode_utf8_all}
 use Rattle.std.specs.Char.{encode_utf8, IsScalar}
@@ -21,24 +48,34 @@ encode_utf8_1 c h = cond-true _ _ _ (by (nat_lt c 128 ≡ true) (grind (arith, n
 
 pub encode_utf8_2 : (c : ℕ) → 128 ≤ c → c < 2048 → encode_utf8 c ≡ (192 + c / 64) ∷ (128 + c % 64) ∷ []
 unfolding encode_utf8
-encode_utf8_2 c l h = cond-false _ _ _ (by (nat_lt c 128 ≡ false) (grind (arith, nat_tests))) ∙ cond-true _ _ _ (by (nat_lt c 2048 ≡ true) (grind (arith, nat_tests)))
+encode_utf8_2 c l h =
+    cond-false _ _ _ (by (nat_lt c 128 ≡ false) (grind (arith, nat_tests))) ∙ cond-true _ _ _
+    (by (nat_lt c 2048 ≡ true) (grind (arith, nat_tests)))
 
-pub encode_utf8_3 : (c : ℕ) → 2048 ≤ c → c < 65536 → encode_utf8 c ≡ (224 + c / 4096) ∷ (128 + (c / 64) % 64) ∷ (128 + c % 64) ∷ []
+pub encode_utf8_3 : (c : ℕ) → 2048 ≤ c → c < 65536
+    → encode_utf8 c ≡ (224 + c / 4096) ∷ (128 + (c / 64) % 64) ∷ (128 + c % 64) ∷ []
 unfolding encode_utf8
-encode_utf8_3 c l h = cond-false _ _ _ (by (nat_lt c 128 ≡ false) (grind (arith, nat_tests))) ∙ cond-false _ _ _ (by (nat_lt c 2048 ≡ false) (grind (arith, nat_tests)))
+encode_utf8_3 c l h =
+    cond-false _ _ _ (by (nat_lt c 128 ≡ false) (grind (arith, nat_tests))) ∙ cond-false _ _ _
+    (by (nat_lt c 2048 ≡ false) (grind (arith, nat_tests)))
     ∙ cond-true _ _ _ (by (nat_lt c 65536 ≡ true) (grind (arith, nat_tests)))
 
-pub encode_utf8_4 : (c : ℕ) → 65536 ≤ c → encode_utf8 c ≡ (240 + c / 262144) ∷ (128 + (c / 4096) % 64) ∷ (128 + (c / 64) % 64) ∷ (128 + c % 64) ∷ []
+pub encode_utf8_4 : (c : ℕ) → 65536 ≤ c
+    → encode_utf8 c ≡ (240 + c / 262144) ∷ (128 + (c / 4096) % 64) ∷ (128 + (c / 64) % 64) ∷ (128 + c % 64) ∷ []
 unfolding encode_utf8
-encode_utf8_4 c l = cond-false _ _ _ (by (nat_lt c 128 ≡ false) (grind (arith, nat_tests))) ∙ cond-false _ _ _ (by (nat_lt c 2048 ≡ false) (grind (arith, nat_tests)))
+encode_utf8_4 c l =
+    cond-false _ _ _ (by (nat_lt c 128 ≡ false) (grind (arith, nat_tests))) ∙ cond-false _ _ _
+    (by (nat_lt c 2048 ≡ false) (grind (arith, nat_tests)))
     ∙ cond-false _ _ _ (by (nat_lt c 65536 ≡ false) (grind (arith, nat_tests)))
 
 -- the bytes of a code point, and what they say of it
 pub data Shape (c : ℕ) : Type 0 where
   of1 : c < 128 → encode_utf8 c ≡ c ∷ [] → Shape c
   of2 : (a b : ℕ) → 194 ≤ a → a < 224 → IsContinuation b → c + 12416 ≡ a * 64 + b → encode_utf8 c ≡ a ∷ b ∷ [] → Shape c
-  of3 : (a b d : ℕ) → 224 ≤ a → a < 240 → IsContinuation b → IsContinuation d → c + 925824 ≡ a * 4096 + b * 64 + d → 2048 ≤ c → encode_utf8 c ≡ a ∷ b ∷ d ∷ [] → Shape c
-  of4 : (a b d e : ℕ) → 240 ≤ a → a < 245 → IsContinuation b → IsContinuation d → IsContinuation e → c + 63447168 ≡ a * 262144 + b * 4096 + d * 64 + e → 65536 ≤ c → encode_utf8 c ≡ a ∷ b ∷ d ∷ e ∷ [] → Shape c
+  of3 : (a b d : ℕ) → 224 ≤ a → a < 240 → IsContinuation b → IsContinuation d → c + 925824 ≡ a * 4096 + b * 64 + d
+      → 2048 ≤ c → encode_utf8 c ≡ a ∷ b ∷ d ∷ [] → Shape c
+  of4 : (a b d e : ℕ) → 240 ≤ a → a < 245 → IsContinuation b → IsContinuation d → IsContinuation e
+      → c + 63447168 ≡ a * 262144 + b * 4096 + d * 64 + e → 65536 ≤ c → encode_utf8 c ≡ a ∷ b ∷ d ∷ e ∷ [] → Shape c
 
 -- each code point is of one of these four
 pub point_shape : (c : ℕ) → IsCodePoint c → Shape c
@@ -46,9 +83,14 @@ point_shape c top = cases (cases_lt c 128) (cases_lt c 2048) (cases_lt c 65536)
   where
     cases : (c < 128) ⊎ (128 ≤ c) → (c < 2048) ⊎ (2048 ≤ c) → (c < 65536) ⊎ (65536 ≤ c) → Shape c
     cases (inl h) _ _ = of1 h (encode_utf8_1 c h)
-    cases (inr l) (inl h) _ = of2 _ _ (omega arith) (omega arith) (omega arith, omega arith) (omega arith) (encode_utf8_2 c l h)
-    cases (inr _) (inr l) (inl h) = of3 _ _ _ (omega arith) (omega arith) (omega arith, omega arith) (omega arith, omega arith) (omega arith) l (encode_utf8_3 c l h)
-    cases (inr _) (inr _) (inr l) = of4 _ _ _ _ (omega arith) (omega arith) (omega arith, omega arith) (omega arith, omega arith) (omega arith, omega arith) (omega arith) l (encode_utf8_4 c l)
+    cases (inr l) (inl h) _ =
+        of2 _ _ (omega arith) (omega arith) (omega arith, omega arith) (omega arith) (encode_utf8_2 c l h)
+    cases (inr _) (inr l) (inl h) =
+        of3 _ _ _ (omega arith) (omega arith) (omega arith, omega arith) (omega arith, omega arith) (omega arith) l
+        (encode_utf8_3 c l h)
+    cases (inr _) (inr _) (inr l) =
+        of4 _ _ _ _ (omega arith) (omega arith) (omega arith, omega arith) (omega arith, omega arith)
+        (omega arith, omega arith) (omega arith) l (encode_utf8_4 c l)
 
 whole : (c : ℕ) (bs : List ℕ) → chars_after zero c bs ≡ c ∷ chars bs
 unfolding chars
@@ -78,18 +120,22 @@ reads c rest (of4 a b d x l h f g k s m e) =
     ∙ whole _ rest ∙ ap (λ y. y ∷ chars rest) is
 
 -- `chars` reads code points at the front, whatever follows
-pub chars-front : (cs rest : List ℕ) → AllByRecursion IsCodePoint cs → chars (encode_utf8_all cs ++ rest) ≡ cs ++ chars rest
+pub chars-front : (cs rest : List ℕ) → AllByRecursion IsCodePoint cs
+    → chars (encode_utf8_all cs ++ rest) ≡ cs ++ chars rest
 chars-front [] rest h = refl
 chars-front (c ∷ cs) rest h =
-    ap chars (append_assoc (encode_utf8 c) (encode_utf8_all cs) rest) ∙ reads c (encode_utf8_all cs ++ rest) (point_shape c h.0) ∙ ap (λ l. c ∷ l) (chars-front cs rest h.1)
+    ap chars (append_assoc (encode_utf8 c) (encode_utf8_all cs) rest) ∙ reads c (encode_utf8_all cs ++ rest)
+    (point_shape c h.0) ∙ ap (λ l. c ∷ l) (chars-front cs rest h.1)
 
 -- `chars` reads back what was encoded
 pub chars-code_points : (cs : List ℕ) → AllByRecursion IsCodePoint cs → chars (encode_utf8_all cs) ≡ cs
-chars-code_points cs h = ap chars (sym (append-nil (encode_utf8_all cs))) ∙ chars-front cs [] h ∙ ap (λ l. cs ++ l) chars-nil ∙ append-nil cs
+chars-code_points cs h =
+    ap chars (sym (append-nil (encode_utf8_all cs))) ∙ chars-front cs [] h ∙ ap (λ l. cs ++ l) chars-nil ∙ append-nil cs
 
 -- a code point that is no surrogate is a scalar, and a scalar is a code point
 pub IsScalar-from_bounds : (c : ℕ) → (c < 0xD800) ⊎ ((0xE000 ≤ c) × (c < 0x11_0000)) → IsScalar c
-IsScalar-from_bounds c r = ⊎_elim (λ p. grind (arith, nat_tests)) (λ p. let q = p.0 in let t = p.1 in grind (arith, nat_tests)) r
+IsScalar-from_bounds c r =
+    ⊎_elim (λ p. grind (arith, nat_tests)) (λ p. let q = p.0 in let t = p.1 in grind (arith, nat_tests)) r
 
 pub IsCodePoint-scalar : (c : ℕ) → IsScalar c → IsCodePoint c
 IsCodePoint-scalar c s = ⊎_elim (λ h. omega arith) (λ h. omega (arith, h.1)) (scalar_cases c s)

@@ -1,5 +1,34 @@
 -- The units of WTF-8 are unique, and joining units joins texts.
-use Rattle.std.proofs.Common.{◌≡◌, ℕ, ◌+◌, ◌-◌, ◌/◌, ◌%◌, ◌<◌, ◌≤◌, Bool, true, false, ◌&&◌, List, [], ◌∷◌, ◌++◌, flat_map, slice_index, nat_lt, refl, sym, ap, ap₂, subst, ◌∙◌, arith, ⊎_elim, append_assoc}
+use Rattle.std.proofs.Common.{
+  ◌≡◌,
+  ℕ,
+  ◌+◌,
+  ◌-◌,
+  ◌/◌,
+  ◌%◌,
+  ◌<◌,
+  ◌≤◌,
+  Bool,
+  true,
+  false,
+  ◌&&◌,
+  List,
+  [],
+  ◌∷◌,
+  ◌++◌,
+  flat_map,
+  slice_index,
+  nat_lt,
+  refl,
+  sym,
+  ap,
+  ap₂,
+  subst,
+  ◌∙◌,
+  arith,
+  ⊎_elim,
+  append_assoc,
+}
 use Rattle.std.specs.List.{AllByRecursion}
 use Rattle.std.specs.Str.{IsUtf8, encode_utf8_all, all_scalars}
 use lib.Utf8.{scalar_cases}
@@ -22,7 +51,8 @@ by A a = a
 pub one_unit : (c : ℕ) → c < 0x1_0000 → encode_utf16 c ≡ c ∷ []
 one_unit c h = cond-true _ _ _ (by (nat_lt c 0x1_0000 ≡ true) (grind (arith, nat_tests)))
 
-two_units : (c : ℕ) → 0x1_0000 ≤ c → encode_utf16 c ≡ (0xD800 + (c - 0x1_0000) / 0x400) ∷ (0xDC00 + (c - 0x1_0000) % 0x400) ∷ []
+two_units : (c : ℕ) → 0x1_0000 ≤ c
+    → encode_utf16 c ≡ (0xD800 + (c - 0x1_0000) / 0x400) ∷ (0xDC00 + (c - 0x1_0000) % 0x400) ∷ []
 two_units c h = cond-false _ _ _ (by (nat_lt c 0x1_0000 ≡ false) (grind (arith, nat_tests)))
 
 -- a lead and a trail
@@ -30,7 +60,8 @@ abbrev pub pairs : ℕ → ℕ → Bool
 pairs u v = is_high_surrogate u && is_low_surrogate v
 
 pair_bounds : (u v : ℕ) → pairs u v ≡ true → (0xD800 ≤ u) × (u < 0xDC00) × (0xDC00 ≤ v) × (v < 0xE000)
-pair_bounds u v e = (grind (arith, nat_tests), grind (arith, nat_tests), grind (arith, nat_tests), grind (arith, nat_tests))
+pair_bounds u v e =
+    (grind (arith, nat_tests), grind (arith, nat_tests), grind (arith, nat_tests), grind (arith, nat_tests))
 
 -- the character of a pair has its two units
 pub pair_units : (u v : ℕ) → pairs u v ≡ true → encode_utf16 (surrogate_pair_char u v) ≡ u ∷ v ∷ []
@@ -59,13 +90,16 @@ bounded-code_points (u ∷ []) h = (omega (arith, h.0), tt)
 bounded-code_points (u ∷ v ∷ us) h = ⊎_elim
     (λ yes.
     let b = pair_bounds u v yes in
-    subst (AllByRecursion IsCodePoint) (sym (cond-true (pairs u v) _ _ yes)) (omega arith, bounded-code_points us h.1.1))
-    (λ no. subst (AllByRecursion IsCodePoint) (sym (cond-false (pairs u v) _ _ no)) (omega (arith, h.0), bounded-code_points (v ∷ us) h.1))
+    subst (AllByRecursion IsCodePoint) (sym (cond-true (pairs u v) _ _ yes))
+    (omega arith, bounded-code_points us h.1.1))
+    (λ no. subst (AllByRecursion IsCodePoint) (sym (cond-false (pairs u v) _ _ no))
+    (omega (arith, h.0), bounded-code_points (v ∷ us) h.1))
     (cases_Bool (pairs u v))
 
 -- the units of an encoding are those that it encodes
 pub units-wtf8 : (us : List ℕ) → AllByRecursion IsUnit us → units (wtf8 us) ≡ us
-units-wtf8 us h = ap (flat_map encode_utf16) (chars-code_points (code_points us) (bounded-code_points us h)) ∙ units-code_points us h
+units-wtf8 us h =
+    ap (flat_map encode_utf16) (chars-code_points (code_points us) (bounded-code_points us h)) ∙ units-code_points us h
 
 -- valid bytes spell units
 pub IsUnit-units : (bs : List ℕ) → IsWtf8 bs → AllByRecursion IsUnit (units bs)
@@ -88,9 +122,11 @@ pub units-join : (l r : List ℕ) → IsWtf8 l → IsWtf8 r → units (wtf8_join
 units-join l r h k = units-wtf8 _ (both_units _ _ (IsUnit-units l h) (IsUnit-units r k))
 
 -- of three texts it does not matter which two are joined first
-pub join_assoc : (a b c : List ℕ) → IsWtf8 a → IsWtf8 b → IsWtf8 c → wtf8_join (wtf8_join a b) c ≡ wtf8_join a (wtf8_join b c)
+pub join_assoc : (a b c : List ℕ) → IsWtf8 a → IsWtf8 b → IsWtf8 c
+    → wtf8_join (wtf8_join a b) c ≡ wtf8_join a (wtf8_join b c)
 join_assoc a b c h k l =
-    ap (λ us. wtf8 (us ++ units c)) (units-join a b h k) ∙ ap wtf8 (append_assoc (units a) (units b) (units c)) ∙ ap (λ us. wtf8 (units a ++ us)) (sym (units-join b c k l))
+    ap (λ us. wtf8 (us ++ units c)) (units-join a b h k) ∙ ap wtf8 (append_assoc (units a) (units b) (units c)) ∙ ap
+    (λ us. wtf8 (units a ++ us)) (sym (units-join b c k l))
 
 -- The same by code points
 
@@ -103,9 +139,11 @@ low_head v [] = refl
 low_head v (w ∷ us) = ⊎_elim
     (λ yes.
     let b = pair_bounds v w yes in
-    ap (λ l. is_low_surrogate (slice_index l 0)) (cond-true (pairs v w) (surrogate_pair_char v w ∷ code_points us) (v ∷ code_points (w ∷ us)) yes)
+    ap (λ l. is_low_surrogate (slice_index l 0))
+    (cond-true (pairs v w) (surrogate_pair_char v w ∷ code_points us) (v ∷ code_points (w ∷ us)) yes)
     ∙ grind (arith, nat_tests))
-    (λ no. ap (λ l. is_low_surrogate (slice_index l 0)) (cond-false (pairs v w) (surrogate_pair_char v w ∷ code_points us) (v ∷ code_points (w ∷ us)) no))
+    (λ no. ap (λ l. is_low_surrogate (slice_index l 0))
+    (cond-false (pairs v w) (surrogate_pair_char v w ∷ code_points us) (v ∷ code_points (w ∷ us)) no))
     (cases_Bool (pairs v w))
 
 pair_apart : (u v : ℕ) (cs : List ℕ) → pairs u v ≡ true → IsApart (surrogate_pair_char u v) cs
@@ -118,18 +156,26 @@ AreUnpaired-code_points (u ∷ []) h = (omega (arith, h.0), grind (arith, nat_te
 AreUnpaired-code_points (u ∷ v ∷ us) h = ⊎_elim
     (λ yes.
     let b = pair_bounds u v yes in
-    subst AreUnpaired (sym (cond-true (pairs u v) _ _ yes)) (omega arith, pair_apart u v (code_points us) yes, AreUnpaired-code_points us h.1.1))
-    (λ no. subst AreUnpaired (sym (cond-false (pairs u v) _ _ no)) (omega (arith, h.0), ap (λ t. is_high_surrogate u && t) (low_head v us) ∙ no, AreUnpaired-code_points (v ∷ us) h.1))
+    subst AreUnpaired (sym (cond-true (pairs u v) _ _ yes))
+    (omega arith, pair_apart u v (code_points us) yes, AreUnpaired-code_points us h.1.1))
+    (λ no. subst AreUnpaired (sym (cond-false (pairs u v) _ _ no)) (
+      omega (arith, h.0),
+      ap (λ t. is_high_surrogate u && t) (low_head v us) ∙ no,
+      AreUnpaired-code_points (v ∷ us) h.1,
+    ))
     (cases_Bool (pairs u v))
 
-low_units : (cs : List ℕ) → AreUnpaired cs → is_low_surrogate (slice_index (flat_map encode_utf16 cs) 0) ≡ is_low_surrogate (slice_index cs 0)
+low_units : (cs : List ℕ) → AreUnpaired cs
+    → is_low_surrogate (slice_index (flat_map encode_utf16 cs) 0) ≡ is_low_surrogate (slice_index cs 0)
 low_units [] h = refl
 low_units (c ∷ cs) h = ⊎_elim
     (λ low. ap (λ l. is_low_surrogate (slice_index (l ++ flat_map encode_utf16 cs) 0)) (one_unit c low))
-    (λ high. ap (λ l. is_low_surrogate (slice_index (l ++ flat_map encode_utf16 cs) 0)) (two_units c high) ∙ heads c h.0 high)
+    (λ high. ap (λ l. is_low_surrogate (slice_index (l ++ flat_map encode_utf16 cs) 0))
+    (two_units c high) ∙ heads c h.0 high)
     (cases_lt c 0x1_0000)
   where
-    heads : (c : ℕ) → c < 0x11_0000 → 0x1_0000 ≤ c → is_low_surrogate (0xD800 + (c - 0x1_0000) / 0x400) ≡ is_low_surrogate c
+    heads : (c : ℕ) → c < 0x11_0000 → 0x1_0000 ≤ c
+        → is_low_surrogate (0xD800 + (c - 0x1_0000) / 0x400) ≡ is_low_surrogate c
     heads c top high = let k : (c - 0x1_0000) / 0x400 < 0x400 = omega arith in grind (arith, nat_tests)
 
 -- code points without such a pair are what their units spell
@@ -138,7 +184,8 @@ code_points-units [] h = refl
 code_points-units (c ∷ cs) h = let later = code_points-units cs h.2 in ⊎_elim
     (λ low.
     ap (λ l. code_points (l ++ flat_map encode_utf16 cs)) (one_unit c low)
-    ∙ points_lone c (flat_map encode_utf16 cs) (ap (λ t. is_high_surrogate c && t) (low_units cs h.2) ∙ h.1) ∙ ap (λ l. c ∷ l) later)
+    ∙ points_lone c (flat_map encode_utf16 cs) (ap (λ t. is_high_surrogate c && t) (low_units cs h.2) ∙ h.1) ∙ ap
+    (λ l. c ∷ l) later)
     (λ high.
     let u = 0xD800 + (c - 0x1_0000) / 0x400 in
     let v = 0xDC00 + (c - 0x1_0000) % 0x400 in
@@ -177,7 +224,9 @@ AreUnpaired-scalars : (cs : List ℕ) → all_scalars cs ≡ true → AreUnpaire
 AreUnpaired-scalars [] h = tt
 AreUnpaired-scalars (c ∷ cs) h =
     let b = and_parts _ _ h in
-    let apart : is_high_surrogate c ≡ false = ⊎_elim (λ (p : c < 0xD800). grind (arith, nat_tests)) (λ p. let low = p.0 in grind (arith, nat_tests)) (scalar_cases c b.0) in
+    let apart : is_high_surrogate c ≡ false =
+    ⊎_elim (λ (p : c < 0xD800). grind (arith, nat_tests)) (λ p. let low = p.0 in grind (arith, nat_tests))
+    (scalar_cases c b.0) in
     (IsCodePoint-scalar c b.0, ap (λ t. t && is_low_surrogate (slice_index cs 0)) apart, AreUnpaired-scalars cs b.1)
 
 -- UTF-8 is WTF-8

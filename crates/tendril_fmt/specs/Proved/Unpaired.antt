@@ -35,7 +35,8 @@ AreUnpaired-end [] ys h = h
 AreUnpaired-end (x ∷ xs) ys h = AreUnpaired-end xs ys h.2
 
 -- two of them make one, unless a lead meets a trail
-pub AreUnpaired-append : (front : List ℕ) (c : ℕ) (ds : List ℕ) → AreUnpaired (front ++ c ∷ []) → AreUnpaired ds → IsApart c ds → AreUnpaired (front ++ c ∷ ds)
+pub AreUnpaired-append : (front : List ℕ) (c : ℕ) (ds : List ℕ) → AreUnpaired (front ++ c ∷ []) → AreUnpaired ds
+    → IsApart c ds → AreUnpaired (front ++ c ∷ ds)
 AreUnpaired-append [] c ds h j a = (h.0, a, j)
 AreUnpaired-append (x ∷ []) c ds h j a = (h.0, h.1, AreUnpaired-append [] c ds h.2 j a)
 AreUnpaired-append (x ∷ y ∷ front) c ds h j a = (h.0, h.1, AreUnpaired-append (y ∷ front) c ds h.2 j a)

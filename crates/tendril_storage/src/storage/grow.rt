@@ -1,9 +1,10 @@
 //! Stored bytes that change: in their block where no other holds it, else in a new place.
-ghost use Rattle.std.specs.Prelude.{◌≡◌, ◌<◌, ◌≤◌, ◌+◌, ◌++◌, [], length, take, drop, max, true, false, IfErr, OnOk, OnErr};
+ghost use Rattle.std.specs.Prelude.{◌≡◌, ◌<◌, ◌≤◌, ◌+◌, ◌++◌, [], length, take, drop, max, true, false, IfErr, OnOk, OnErr, IfSome, OnSome, IfNone};
+ghost use Rattle.tendril_block.specs.Behind.{behind_bytes};
 ghost use Rattle.tendril_block.specs.Outcomes.{MemoryMay};
 
 use crate::storage::{Held, INLINE, Storage, put, word_of};
-use tendril_block::{Atomicity, MAX_LEN, Refusal};
+use tendril_block::{Atomicity, Behind, MAX_LEN, Refusal};
 
 impl<A: Atomicity> Storage<A> {
     /// Puts two parts in the place of all bytes from `keep` on: where they stand, if the block has one holder, else in
@@ -16,7 +17,12 @@ impl<A: Atomicity> Storage<A> {
         ensures refusal { IfErr result (MemoryMay (keep + length middle.now + length more.now)) }
         ensures err { OnErr result (self.new ≡ self.old) }
     {
-        if !self.is_mostly_dropped() && self.replaces_in_place(keep, middle, more) {
+        let replaced = if self.is_mostly_dropped() {
+            self.compacts(keep, Behind::Parts(middle, more))
+        } else {
+            self.replaces_in_place(keep, middle, more)
+        };
+        if replaced {
             return Ok(());
         }
         match Self::from_parts(self.alloc, &self.as_slice()[..keep], middle, more) {
@@ -56,8 +62,9 @@ impl<A: Atomicity> Storage<A> {
         }
     }
 
-    // Whether far more bytes were popped off the front of the block than there are. Whoever changes such bytes tries a
-    // new block first, so that those are let go of; each of these was popped, so a copy is paid for.
+    // Whether far more bytes were popped off the front of the block than there are. Whoever puts bytes behind such ones
+    // tries first to move them, to the front of their block or into a new one, so that the popped ones' place is used
+    // again; each of these was popped, so a move is paid for.
     pub(super) fn is_mostly_dropped(&self) -> bool {
         match &self.held {
             Held::Inline { .. } => false,
@@ -65,7 +72,34 @@ impl<A: Atomicity> Storage<A> {
         }
     }
 
-    // The same without memory for a new block; whether it could be done.
+    // Moves the bytes up to `keep` to the front of their block, with more behind them: where no other holds it, and it
+    // has room for all; whether it could be done.
+    pub(super) fn compacts(&mut self, keep: usize, behind: Behind) -> bool
+        requires within { keep ≤ length self.old.bytes }
+        requires fits { keep + length (behind_bytes behind) ≤ MAX_LEN }
+        ensures bytes { result ≡ true → self.new.bytes ≡ take keep self.old.bytes ++ behind_bytes behind.entry }
+        ensures copied { result ≡ true → self.new.copied ≡ keep + length (behind_bytes behind.entry) }
+        ensures unchanged { result ≡ false → self.new ≡ self.old }
+    {
+        let Held::View {
+            shared,
+            block,
+            offset,
+            len,
+        } = &mut self.held
+        else {
+            return false;
+        };
+        let Some(total) = compacts_alone::<A>(block, *offset as usize, keep, behind) else {
+            return false;
+        };
+        *offset = 0;
+        *len = total;
+        shared.set(false);
+        true
+    }
+
+    // The same where they stand, without memory for a new block; whether it could be done.
     #[tactic(auto, using(crate::proofs::Views::replaces))]
     fn replaces_in_place(&mut self, keep: usize, middle: &[u8], more: &[u8]) -> bool
         requires within { keep ≤ length self.old.bytes }
@@ -118,14 +152,14 @@ impl<A: Atomicity> Storage<A> {
         ensures refusal { IfErr result (MemoryMay (length self.old.bytes + more)) }
         ensures err { OnErr result (self.new ≡ self.old) }
     {
-        let total = self.as_slice().len() + more;
-        if total <= INLINE {
+        let len = self.as_slice().len();
+        let total = len + more;
+        if total <= INLINE || self.is_shared() {
             return Ok(());
         }
-        if self.is_shared() {
-            return Ok(());
-        }
-        if self.is_mostly_dropped() && self.spill(total).is_ok() {
+        if self.is_mostly_dropped()
+            && (self.compacts(len, Behind::Room(more)) || self.spill(total).is_ok())
+        {
             return Ok(());
         }
         match &mut self.held {
@@ -250,6 +284,29 @@ pub(super) fn replaces_alone<A: Atomicity>(
         Some(body) => body.replace_end(keep, middle, more).is_ok(),
         None => false,
     }
+}
+
+// Moves so many bytes of a block from `start` on to its front, with more behind them, where no other holds it and it has
+// room for all; how many stand there then.
+fn compacts_alone<A: Atomicity>(
+    block: &mut A::Block,
+    start: usize,
+    keep: usize,
+    behind: Behind,
+) -> Option<u32>
+    requires within { start + keep ≤ length (A.bytes_of block.old) }
+    requires fits { keep + length (behind_bytes behind) ≤ MAX_LEN }
+    ensures bytes { OnSome result (A.bytes_of block.new
+        ≡ take keep (drop start (A.bytes_of block.old)) ++ behind_bytes behind.entry) }
+    ensures copied { OnSome result (A.copied block.new ≡ keep + length (behind_bytes behind.entry)) }
+    ensures len { IfSome result (λ total. total ≡ keep + length (behind_bytes behind.entry)) }
+    ensures bytes_kept { IfNone result (A.bytes_of block.new ≡ A.bytes_of block.old) }
+    ensures copied_kept { IfNone result (A.copied block.new ≡ A.copied block.old) }
+{
+    if !A::compact(block, start, keep, behind) {
+        return None;
+    }
+    Some(A::bytes(block).len() as u32)
 }
 
 // Makes room in a block for so many bytes in all, where no other holds it.

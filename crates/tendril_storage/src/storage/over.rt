@@ -18,27 +18,16 @@ impl<A: Atomicity> Storage<A> {
         ensures refusal { IfErr result (MemoryMay (length self.old.bytes)) }
         ensures err { OnErr result ((self.new ≡ self.old) × (edit.new ≡ edit.old)) }
     {
-        let moves = self.is_mostly_dropped();
-        let written = if moves {
-            self.writes_in_copy(edit)
-        } else {
-            self.writes_in_block(edit)
-        };
-        if let Some(answer) = written {
+        if let Some(answer) = self.writes_in_block(edit) {
             return Ok(answer);
         }
         if self.as_slice().len() <= INLINE {
             return Ok(self.write_inline(edit));
         }
-        let written = if moves {
-            self.writes_in_block(edit)
-        } else {
-            self.writes_in_copy(edit)
-        };
-        written.ok_or(Refusal::Memory)
+        self.writes_in_copy(edit).ok_or(Refusal::Memory)
     }
 
-    // The same in a new block, where there is memory for one and it is needed; else doesn't call `edit`.
+    // The same in a new block, where there is memory for one; else doesn't call `edit`.
     fn writes_in_copy<R, E: FnMut(&mut [u8]) -> R>(&mut self, edit: &mut E) -> Option<R>
         requires { TakesAtMut E.FnMut edit.old self.old.bytes }
         ensures bytes { IfSome result (λ r. CalledAtMut E.FnMut edit.old self.old.bytes r edit.new self.new.bytes) }

@@ -4,7 +4,7 @@ ghost use Rattle.tendril_block.specs.Outcomes.{MemoryMay};
 
 use crate::storage::{Held, INLINE, Storage};
 use std::alloc::Global;
-use tendril_block::{Atomicity, MAX_LEN, Refusal};
+use tendril_block::{Atomicity, Behind, MAX_LEN, Refusal};
 
 impl<A: Atomicity> Storage<A> {
     /// Puts so many zeros at the end: in the block if it has one holder, else behind a copy of the bytes.
@@ -19,7 +19,12 @@ impl<A: Atomicity> Storage<A> {
         if len + count <= INLINE {
             return self.replace_end(len, &[], &[0; INLINE][..count]);
         }
-        if !self.is_mostly_dropped() && self.pushes_zeros_in_place(count) {
+        let pushed = if self.is_mostly_dropped() {
+            self.compacts(len, Behind::Zeros(count))
+        } else {
+            self.pushes_zeros_in_place(count)
+        };
+        if pushed {
             return Ok(());
         }
         match Self::padded(self.alloc, self.as_slice(), count) {

@@ -12,9 +12,9 @@ const SHORT: usize = 8;
 impl<F: Format, A: Atomicity> Tendril<F, A> {
     /// Puts bytes at the end by the format's join, where they are valid by themselves.
     ///
-    /// The bytes of a text that has its block for itself stay where they are, unless far more bytes were popped off their
-    /// front. Else the text is copied into a new block first. n pushes of one byte take O(n) time, and so do n pushes and
-    /// pops in turn.
+    /// The bytes of a text that has its block for itself stay where they are, or are moved to the front of the block where
+    /// far more bytes were popped off there. Else the text is copied into a new block first. n pushes of one byte take
+    /// O(n) time, and so do n pushes and pops in turn.
     pub fn try_push_bytes(&mut self, more: &[u8]) -> Result<(), Refusal>
         ensures { JoinsValid F.valid F.join more.now self.old result self.new }
     {

@@ -2,9 +2,10 @@
 //! each row answered as it is due, no row asked for that request, and the rows made all requests before it.
 
 use super::refuse_request;
-use super::session::{Step, long_pile, pile, play, request_behind, take_string};
+use super::session::{Step, left_pile, long_pile, pile, play, request_behind, take_string};
 use super::tables::{
-    CHARACTERS, CUTS, FORTY, PARTED, PARTS, PUSH_WHERE_IT_STANDS, PUSHED, ROOM, RUN, SENT, WRITTEN,
+    CHARACTERS, CUTS, FORTY, PARTED, PARTS, PUSH_BEHIND, PUSH_WHERE_IT_STANDS, PUSHED, QUEUE,
+    QUEUE_BESIDE_A_CLONE, ROOM, ROOM_BEHIND, RUN, SENT, WRITTEN, WRITTEN_BEHIND, ZEROS_BEHIND,
     short,
 };
 use std::alloc::Global;
@@ -25,6 +26,12 @@ fn long<A: Atomicity>(alloc: Global, count: usize, steps: &[Step]) -> Result<(),
 // Rows that make so many requests.
 fn rows<F: Format, A: Atomicity>(alloc: Global, count: usize, steps: &[Step]) -> Result<(), Fail> {
     play::<F, A>(alloc, &mut pile(alloc, count.saturating_add(1))?, steps)?;
+    request_behind(alloc)
+}
+
+// Rows on what is left of a thousand bytes, which make no request.
+fn left<A: Atomicity>(alloc: Global, steps: &[Step]) -> Result<(), Fail> {
+    play(alloc, &mut left_pile::<A>(alloc)?, steps)?;
     request_behind(alloc)
 }
 
@@ -179,6 +186,66 @@ fn a_push_onto_the_left_of_a_text(rt: HostRuntime) -> Result<(), Fail> {
 #[test]
 fn a_push_onto_the_left_of_a_text_over_atomic(rt: HostRuntime) -> Result<(), Fail> {
     rows::<Bytes, Atomic>(rt.alloc(), 4, PUSH_WHERE_IT_STANDS)
+}
+
+#[test]
+fn a_push_onto_what_is_left(rt: HostRuntime) -> Result<(), Fail> {
+    left::<NonAtomic>(rt.alloc(), PUSH_BEHIND)
+}
+
+#[test]
+fn a_push_onto_what_is_left_over_atomic(rt: HostRuntime) -> Result<(), Fail> {
+    left::<Atomic>(rt.alloc(), PUSH_BEHIND)
+}
+
+#[test]
+fn zeros_behind_what_is_left(rt: HostRuntime) -> Result<(), Fail> {
+    left::<NonAtomic>(rt.alloc(), ZEROS_BEHIND)
+}
+
+#[test]
+fn zeros_behind_what_is_left_over_atomic(rt: HostRuntime) -> Result<(), Fail> {
+    left::<Atomic>(rt.alloc(), ZEROS_BEHIND)
+}
+
+#[test]
+fn room_behind_what_is_left(rt: HostRuntime) -> Result<(), Fail> {
+    left::<NonAtomic>(rt.alloc(), ROOM_BEHIND)
+}
+
+#[test]
+fn room_behind_what_is_left_over_atomic(rt: HostRuntime) -> Result<(), Fail> {
+    left::<Atomic>(rt.alloc(), ROOM_BEHIND)
+}
+
+#[test]
+fn bytes_written_over_what_is_left(rt: HostRuntime) -> Result<(), Fail> {
+    left::<NonAtomic>(rt.alloc(), WRITTEN_BEHIND)
+}
+
+#[test]
+fn bytes_written_over_what_is_left_over_atomic(rt: HostRuntime) -> Result<(), Fail> {
+    left::<Atomic>(rt.alloc(), WRITTEN_BEHIND)
+}
+
+#[test]
+fn a_queue(rt: HostRuntime) -> Result<(), Fail> {
+    rows::<Bytes, NonAtomic>(rt.alloc(), 2, QUEUE)
+}
+
+#[test]
+fn a_queue_over_atomic(rt: HostRuntime) -> Result<(), Fail> {
+    rows::<Bytes, Atomic>(rt.alloc(), 2, QUEUE)
+}
+
+#[test]
+fn a_queue_beside_a_clone(rt: HostRuntime) -> Result<(), Fail> {
+    rows::<Bytes, NonAtomic>(rt.alloc(), 3, QUEUE_BESIDE_A_CLONE)
+}
+
+#[test]
+fn a_queue_beside_a_clone_over_atomic(rt: HostRuntime) -> Result<(), Fail> {
+    rows::<Bytes, Atomic>(rt.alloc(), 3, QUEUE_BESIDE_A_CLONE)
 }
 
 #[test]

@@ -1,8 +1,8 @@
 //! Where a request is refused, these tests pass: each answers as with ample memory, or says which request was refused.
 
 use super::refuse_request;
-use super::session::{Step, left_pile, long_pile, play, take_string};
-use super::tables::{CUTS, PUSH_BEHIND, ROOM_BEHIND, SENT, WRITTEN, WRITTEN_BEHIND, ZEROS_BEHIND};
+use super::session::{Step, long_pile, play, take_string};
+use super::tables::{CUTS, SENT, WRITTEN};
 use std::alloc::Global;
 use std::fmt;
 use std::fmt::{Display, Formatter};
@@ -17,11 +17,6 @@ fn long<A: Atomicity>(alloc: Global, number: usize, steps: &[Step]) -> Result<()
         Some(mut texts) => play(alloc, &mut texts, steps),
         None => Ok(()),
     }
-}
-
-// Rows on what is left of a thousand bytes, where the request that comes behind those is refused.
-fn left<A: Atomicity>(alloc: Global, steps: &[Step]) -> Result<(), Fail> {
-    play(alloc, &mut left_pile::<A>(alloc)?, steps)
 }
 
 #[derive(Drop)]
@@ -134,46 +129,6 @@ fn the_node_is_refused(rt: HostRuntime) -> Result<(), Fail> {
 #[test]
 fn the_node_is_refused_over_atomic(rt: HostRuntime) -> Result<(), Fail> {
     take_string::<Atomic>(rt.alloc(), 2)
-}
-
-#[test]
-fn a_push(rt: HostRuntime) -> Result<(), Fail> {
-    left::<NonAtomic>(rt.alloc(), PUSH_BEHIND)
-}
-
-#[test]
-fn a_push_over_atomic(rt: HostRuntime) -> Result<(), Fail> {
-    left::<Atomic>(rt.alloc(), PUSH_BEHIND)
-}
-
-#[test]
-fn zeros(rt: HostRuntime) -> Result<(), Fail> {
-    left::<NonAtomic>(rt.alloc(), ZEROS_BEHIND)
-}
-
-#[test]
-fn zeros_over_atomic(rt: HostRuntime) -> Result<(), Fail> {
-    left::<Atomic>(rt.alloc(), ZEROS_BEHIND)
-}
-
-#[test]
-fn room(rt: HostRuntime) -> Result<(), Fail> {
-    left::<NonAtomic>(rt.alloc(), ROOM_BEHIND)
-}
-
-#[test]
-fn room_over_atomic(rt: HostRuntime) -> Result<(), Fail> {
-    left::<Atomic>(rt.alloc(), ROOM_BEHIND)
-}
-
-#[test]
-fn bytes_written(rt: HostRuntime) -> Result<(), Fail> {
-    left::<NonAtomic>(rt.alloc(), WRITTEN_BEHIND)
-}
-
-#[test]
-fn bytes_written_over_atomic(rt: HostRuntime) -> Result<(), Fail> {
-    left::<Atomic>(rt.alloc(), WRITTEN_BEHIND)
 }
 
 #[test]

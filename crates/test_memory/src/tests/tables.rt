@@ -186,7 +186,8 @@ pub(super) const RUN: &[Step] = &[
     Is(b"aaaaaaaaaa bbbbbbbbb"),
 ];
 
-/// Ten bytes are left of a thousand, of which 980 stood in front of them, and are changed: each tries a new block first.
+/// Ten bytes are left of a thousand, of which 980 stood in front of them, and are changed: they are moved to the front of
+/// their block, or written where they stand.
 pub(super) const PUSH_BEHIND: &[Step] = &[
     PopFront(980),
     PopBack(10),
@@ -213,6 +214,40 @@ pub(super) const WRITTEN_BEHIND: &[Step] = &[
     PopBack(10),
     Reverse,
     Is(b"9876543210"),
+];
+
+/// A queue over the block of the digits: what is put behind the nine bytes that are left has no room there, but they are
+/// moved to the front.
+pub(super) const QUEUE: &[Step] = &[
+    Make(DIGITS),
+    PopFront(102),
+    PushZeros(100),
+    Has(0, b"234567890\x00"),
+    IsLong(109),
+    PopFront(100),
+    Push(FEW),
+    Push(FEW),
+    PushZeros(20),
+    Has(8, b"\x000123456789abcdef"),
+    IsLong(109),
+    PopFront(100),
+    Reserve(102),
+    Push(FEW),
+    Push(FEW),
+    IsLong(89),
+    PopFront(49),
+    Is(FEW),
+];
+
+/// The same beside a clone: what is left of the digits is copied into a new block.
+pub(super) const QUEUE_BESIDE_A_CLONE: &[Step] = &[
+    Make(DIGITS),
+    Clone(0),
+    PopFront(101),
+    Push(b"abc"),
+    Is(b"1234567890abc"),
+    Drop,
+    Is(DIGITS),
 ];
 
 /// A text that has its block alone, of which most was popped off the end, or so many bytes off the front as may stay

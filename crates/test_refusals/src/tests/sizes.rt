@@ -7,7 +7,7 @@ use std::test::Fail;
 use tendril_text::{ByteTendril, Tendril};
 
 /// How many requests the session makes.
-const REQUESTS: usize = 87;
+const REQUESTS: usize = 85;
 
 const SIZES: [usize; 8] = [7, 8, 9, 39, 40, 41, 42, 80];
 

@@ -3,7 +3,7 @@
 
 use std::alloc::Global;
 use std::test::Fail;
-use tendril::block::{Atomic, AtomicUpTo, Atomicity, NonAtomic, Refusal};
+use tendril::block::{Atomic, AtomicUpTo, Atomicity, Behind, NonAtomic, Refusal};
 use test_tools::{same, same_at};
 
 type ThreeHolders = AtomicUpTo<3>;
@@ -73,6 +73,43 @@ fn check_that_the_only_holder_writes<A: Atomicity>(alloc: Global) -> Result<(), 
 fn the_only_holder_writes(rt: HostRuntime) -> Result<(), Fail> {
     check_that_the_only_holder_writes::<NonAtomic>(rt.alloc())?;
     check_that_the_only_holder_writes::<Atomic>(rt.alloc())
+}
+
+// Keeps a part of a block, at its front.
+fn compact<A: Atomicity>(
+    row: usize,
+    block: &mut A::Block,
+    (start, keep): (usize, usize),
+    behind: Behind,
+    due: bool,
+) -> Result<(), Fail> {
+    let len = A::bytes(block).len();
+    if start > len || keep > len - start {
+        return Err(Fail::new("no such part"));
+    }
+    same_at(row, A::compact(block, start, keep, behind), due)
+}
+
+fn check_that_the_only_holder_compacts<A: Atomicity>(alloc: Global) -> Result<(), Fail> {
+    let mut block = digits::<A>(alloc)?;
+    let other = A::share(&block)?;
+    compact::<A>(0, &mut block, (5, 5), Behind::Room(0), false)?;
+    drop(other);
+    compact::<A>(1, &mut block, (5, 5), Behind::Room(1000), false)?;
+    compact::<A>(2, &mut block, (4, 5), Behind::Room(0), false)?;
+    is::<A>(3, &block, DIGITS)?;
+    compact::<A>(4, &mut block, (6, 3), Behind::Parts(b"ab", b"c"), true)?;
+    is::<A>(5, &block, b"678abc")?;
+    compact::<A>(6, &mut block, (4, 2), Behind::Zeros(3), true)?;
+    is::<A>(7, &block, b"bc\x00\x00\x00")?;
+    compact::<A>(8, &mut block, (1, 1), Behind::Room(9), true)?;
+    is::<A>(9, &block, b"c")
+}
+
+#[test]
+fn the_only_holder_compacts(rt: HostRuntime) -> Result<(), Fail> {
+    check_that_the_only_holder_compacts::<NonAtomic>(rt.alloc())?;
+    check_that_the_only_holder_compacts::<Atomic>(rt.alloc())
 }
 
 // A sole holder keeps its bytes through `make_mut`, also once it had company.

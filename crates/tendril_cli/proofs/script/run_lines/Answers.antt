@@ -1,6 +1,6 @@
 use Rattle.std.proofs.lemmas.List.{take_all}
 use Rattle.std.proofs.lemmas.Result.{err_from_is_err_and}
-use Rattle.tendril_cli.proofs.HeldLemmas.{nothing_printed, next_line, line_refused, write_refused}
+use Rattle.tendril_cli.proofs.HeldBackLemmas.{nothing_printed, next_line, line_refused, write_refused}
 use Rattle.tendril_cli.proofs.script.run_lines.Goals as goal
 
 pub loop-line-init : goal.loop-line-init

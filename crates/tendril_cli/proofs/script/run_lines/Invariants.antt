@@ -1,5 +1,5 @@
 use Rattle.std.proofs.Common.{map, take}
-use Rattle.tendril_cli.specs.Held.{PrintsLines}
+use Rattle.tendril_cli.specs.HeldBack.{PrintsLines}
 use Rattle.tendril_cli.proofs.script.run_lines.Given as goal
 
 abbrev pub invariant-loop-line : goal.invariant-loop-line

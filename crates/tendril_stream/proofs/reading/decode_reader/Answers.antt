@@ -27,13 +27,13 @@ returns-clause-stopped g c = IfErr-weaker c.read_decoded.result _ _ (λ s h. (
       let d = c.new-decoder.result in
       ⊎_elim
       (λ k.
-      let pieces = k.1.0 in
-      let stands = subst (StandsAt (λ a t. told (sent a.events.items) ≡ t) k.0.inner_sink k.0.kept) k.1.2
-      (stands_from_nothing _ (λ a t. told (sent a.events.items) ≡ t) (λ t a e b h c. stored_on (sent a.events.items) (sent b.events.items) e t c h) (λ d. d.inner_sink) (λ d. d.kept) (λ d. d.failed) pieces d k.0 c.new.result c.new-decoder.ensures.sink c.new-decoder.ensures.kept (ap (λ l. told (sent l)) c.new.ensures) k.1.1) in
-      (k.3, k.4, (k.0, k.2, unfailed (λ d. d.failed) _ pieces d k.0 c.new-decoder.ensures.failed k.1.1, stands)))
+      let pieces = k.receives.0 in
+      let stands = subst (StandsAt (λ a t. told (sent a.events.items) ≡ t) k.sink.inner_sink k.sink.kept) k.receives.2
+      (stands_from_nothing _ (λ a t. told (sent a.events.items) ≡ t) (λ t a e b h c. stored_on (sent a.events.items) (sent b.events.items) e t c h) (λ d. d.inner_sink) (λ d. d.kept) (λ d. d.failed) pieces d k.sink c.new.result c.new-decoder.ensures.sink c.new-decoder.ensures.kept (ap (λ l. told (sent l)) c.new.ensures) k.receives.1) in
+      (k.stops, k.empty, (k.sink, k.back, unfailed (λ d. d.failed) _ pieces d k.sink c.new-decoder.ensures.failed k.receives.1, stands)))
       (λ v. ⊎_elim
-      (λ k. absurd (process_clash _ _ _ _ _ _ k.2 s.refusal k.6.1 own))
-      (λ k. absurd (end_clash _ _ _ _ _ _ s.refusal k.2 own))
+      (λ k. absurd (process_clash _ _ _ _ _ _ k.piece s.refusal k.refused.1 own))
+      (λ k. absurd (end_clash _ _ _ _ _ _ s.refusal k.refused own))
       v)
       h.2,
   let d = c.new-decoder.result in

@@ -3,7 +3,7 @@ use Rattle.std.proofs.lemmas.Bool.Decides.{nat_tests}
 use Rattle.tendril_text.proofs.Decoding.{both_share, TakesText, nothing_taken, text_taken, left_alone, popped, rest-kept}
 use Rattle.tendril_text.specs.Decoding.{IsRest, PopsText}
 use Rattle.tendril_lossy.proofs.Completions.{IsFirstPart}
-use Rattle.tendril_lossy.specs.Lossy.{EndsWithin}
+use Rattle.tendril_lossy.specs.AfterText.{EndsWithin}
 use Rattle.tendril_lossy.specs.declared.search.Ending.TheVariants.{Broken}
 use Rattle.tendril_text.proofs.utf8_decode.Tendril+Bytes+A.pop_text_after.Goals.{in-0, in_default+in_ok-text-in_default, in-Broken, in-Whole}
 use Rattle.tendril_text.proofs.utf8_decode.Tendril+Bytes+A.pop_text_after.Goals as goal

@@ -24,7 +24,7 @@ use Rattle.std_alloc.proofs.ArcSteps.{Settles, Lends-settled}
 use Rattle.core.specs.contracts.marker.PhantomData as marker
 use Rattle.tendril_block.specs.declared.node.kind.Kind.{Ghosts}
 use Rattle.tendril_block.specs.contracts.node.handle.Handle as C
-use Rattle.tendril_block.specs.Held.{Crosses, rule_kept, rule, BodyIn, shown, Id, reader, writer, held_at, lends, ptr_in_block, block_owns, block_shares}
+use Rattle.tendril_block.specs.Owned.{Crosses, rule_kept, rule, BodyIn, shown, Id, reader, writer, held_at, lends, ptr_in_block, block_owns, block_shares}
 use Rattle.tendril_block.proofs.Carved.{shown_laws, counted, kept_twice}
 use Rattle.tendril_block.proofs.Lent.{Lends-holder, holder_shr_laws}
 use Rattle.tendril_block.proofs.node.handle.Handle.TheLaw.Statement.{statement}
@@ -68,5 +68,5 @@ module _ {M : Type 1} {𝓤 : Ura M} (𝓛 : Logic 𝓤) (P : Type 0) (y : Bool)
   law (block_ptr b o) l = at_block b o l
 
 pub shares : (K : RattleType) (g : Ghosts K.Denot) (L : Laws K) → statement K g L
-shares K g L = of_Lends (C.struct K g) (C.the_codes K.Denot K.coded (heap.the_row).coded (marker.the_row K).coded) (C.the_heap K g) (C.the_lent K g) (λ d p. laws g.shared d.limit d.node d.alloc d.inner)
-    (copy_shared RawPtr-field RawPtr-copy, (heap_laws.the_field_shared, (copy_shared (marker.the_field K) (field_copy (marker.the_type K) tt), tt))) (λ M 𝓤 𝓛 d p. law 𝓛 (Crosses K g.shared) g.shared d.limit d.alloc d.inner d.node (C.the_row K g).lives)
+shares K g L = of_Lends (C.struct K g) (C.the_codes K.Denot K.coded (heap.the_row).coded (marker.the_row K).coded) (C.the_heap K g) (C.the_lent K g) (λ d p. laws g.any_thread d.limit d.node d.alloc d.inner)
+    (copy_shared RawPtr-field RawPtr-copy, (heap_laws.the_field_shared, (copy_shared (marker.the_field K) (field_copy (marker.the_type K) tt), tt))) (λ M 𝓤 𝓛 d p. law 𝓛 (Crosses K g.any_thread) g.any_thread d.limit d.alloc d.inner d.node (C.the_row K g).lives)

@@ -18,7 +18,7 @@ use Rattle.atomic_table.specs.Seated.{halved}
 use Rattle.std.proofs.Crossing.{frees}
 use Rattle.atomic_table.proofs.Sent.{roster_keyless}
 use Rattle.tendril_count.specs.Rule.{role_coded, roles, Any, state}
-use Rattle.tendril_block.specs.Held.{limit, BodyRow, BodyIn, body_at, content, Id, reader, writer, held_at, Crosses, block_owns}
+use Rattle.tendril_block.specs.Owned.{limit, BodyRow, BodyIn, body_at, content, Id, reader, writer, held_at, Crosses, block_owns}
 use Rattle.tendril_block.proofs.body.Body.TheSendSync as body_crosses
 use Rattle.core.specs.contracts.marker.PhantomData as marker
 use Rattle.tendril_block.specs.declared.node.kind.Kind.{Ghosts}
@@ -54,4 +54,4 @@ owned P y so l null_ptr h x = tt
 
 pub send : (K : RattleType) (g : Ghosts K.Denot) → IsSend K → IsSend (C.the_row K g)
 send K g s = let O = C.the_type K g in let mark : IsSend (marker.the_field K).row = search sendable in let all : AllSend (fields O) = (ptr_send, (field_send, (mark, tt))) in
-    owning_send O all (λ d. owned (Crosses K g.shared) g.shared (λ c. c s.owned) d.limit d.node d.alloc d.inner) (λ k. quiet (to O) (exits_of k (fields O)) ((struct_send (shape O) all).leaving k))
+    owning_send O all (λ d. owned (Crosses K g.any_thread) g.any_thread (λ c. c s.owned) d.limit d.node d.alloc d.inner) (λ k. quiet (to O) (exits_of k (fields O)) ((struct_send (shape O) all).leaving k))

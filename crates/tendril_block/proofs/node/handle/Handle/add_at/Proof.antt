@@ -53,7 +53,7 @@ use Rattle.core.specs.contracts.marker.PhantomData as marker
 use Rattle.tendril_block.specs.declared.node.kind.Kind.{Ghosts}
 use Rattle.tendril_block.proofs.Carved.{kept_twice}
 use Rattle.tendril_block.proofs.Handles.{Z, al, Self, args, handle_val, handle_good, handle_in, joined}
-use Rattle.tendril_block.specs.Held.{limit, whose, content, rule_kept, rule, reader, writer, Id, Joining, joined_to, block_shares}
+use Rattle.tendril_block.specs.Owned.{limit, whose, content, rule_kept, rule, reader, writer, Id, Joining, joined_to, block_shares}
 use Rattle.tendril_block.specs.contracts.node.handle.Handle as block
 use Rattle.tendril_block.specs.contracts.node.kind.Kind.add as callee
 use Rattle.tendril_block.specs.contracts.node.handle.Handle.add_at.{ended, clauses}
@@ -71,7 +71,7 @@ pub add_at_spec : {M : Type 1} → statement M
 add_at_spec 𝓤 𝓛 𝓜 𝓡 wired K law k d met =
     let H = 𝓛.H in let 𝓣 = tables 𝓤 H 𝓜 𝓡 𝓡.env in let En = ended K k d in let stays = stayed K k d in let c = clauses K k d 𝓛 𝓜.mem 𝓡.returns in let fn : Fn = inst_fn (args K d) code.function in let number = Goes-dropped 𝓛 2 (plain (λ _. u64)) yes (λ κs x f. refl) in
     proved_at 𝓛 En stays c 𝓜 𝓡 (Goes-dropped 𝓛 2 (RefOf (0 ∷ []) tt (plain (λ _. Self (param 0 K) k)) (λ _. tt)) yes (λ κs x f. refl), (Goes-dropped 𝓛 2 (plain (λ _. Z)) yes (λ κs x f. refl), (number, (number, tt)))) (#self (args K d)) fn (code.unfolded 𝓤 H 𝓜 𝓡 wired (K, tt) d) (λ z are.
-    let κs = z.0.0 in let κ = κs.0 in let q = z.0.1.0 in let v = z.0.3.0 in let b = v.ref_ptr.0 in let o = v.ref_ptr.1 in let shared : Bool = k.shared in let R : RattleType = Self (param 0 K) k in let me = v.now in let p = me.node in let pb = block_of p in let po = count_of p in let x = me.inner in let l₀ = me.limit in
+    let κs = z.0.0 in let κ = κs.0 in let q = z.0.1.0 in let v = z.0.3.0 in let b = v.ref_ptr.0 in let o = v.ref_ptr.1 in let shared : Bool = k.any_thread in let R : RattleType = Self (param 0 K) k in let me = v.now in let p = me.node in let pb = block_of p in let po = count_of p in let x = me.inner in let l₀ = me.limit in
     let a = z.0.3.1.0 in let old = z.0.3.1.1.0 in let new = z.0.3.1.1.1.0 in let Post : Val → SProp 𝓤 = (walk_of 𝓛 En stays c).post z in let Run : List Val → SProp 𝓤 = λ ws. WpFn 𝓤 H 𝓣.C 𝓣.Λ fn ws Post in
     let Out : RattleType = type_at En.signature.result κs in let step = triple_of 𝓛 (callee.signature K) (callee.spec K k d 𝓛 𝓜.mem 𝓡.returns) in
     qed 𝓛 (((‵ (flft κ q) ⊛ ‵ (flft κs.1.0 z.0.1.1.0) ⊛ ‵ ftrue) ⊛ ‵ (owns (types_at En.signature.params κs) z.0.3 z.0.4)) ∷ raw (fact 𝓤 (κs.1.0 ⊑ K.lives)) ∷ raw (fact 𝓤 (old < limit l₀)) ∷ raw (fact 𝓤 (new ≡ old + 1)) ∷ []) ∵

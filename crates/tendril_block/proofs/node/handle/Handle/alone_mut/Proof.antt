@@ -42,7 +42,7 @@ use Rattle.tendril_count.specs.Rule.{role_coded, Reader, mark}
 use Rattle.tendril_block.proofs.Carved.{counted, kept_twice}
 use Rattle.tendril_block.specs.declared.node.kind.Kind.{Ghosts}
 use Rattle.tendril_block.proofs.Handles.{Z, Self, args, handle_val, handle_out, handle_in, granted, refused, back}
-use Rattle.tendril_block.specs.Held.{BodyRow, BodyIn, body_at, rule, rule_kept, all_but_body, reader, writer, Id, Stepper, seen_by}
+use Rattle.tendril_block.specs.Owned.{BodyRow, BodyIn, body_at, rule, rule_kept, all_but_body, reader, writer, Id, Stepper, seen_by}
 use Rattle.tendril_block.specs.Written.{with_body}
 use Rattle.tendril_block.specs.contracts.node.kind.Kind.alone as callee
 use Rattle.tendril_block.specs.contracts.node.handle.Handle.alone_mut.{ended, clauses}
@@ -62,7 +62,7 @@ alone_mut_spec 𝓤 𝓛 𝓜 𝓡 wired K law k d met =
     let H = 𝓛.H in let 𝓣 = tables 𝓤 H 𝓜 𝓡 𝓡.env in let En = ended K k d in let stays = stayed K k d in let c = clauses K k d 𝓛 𝓜.mem 𝓡.returns in let fn : Fn = inst_fn (args K d) code.function in
     proved 𝓛 En stays c 𝓜 𝓡 (Goes-spent_ref 𝓛 2 (0 ∷ []) tt (plain (λ _. Self (param 0 K) k)), tt) (#self (args K d)) fn (code.unfolded 𝓤 H 𝓜 𝓡 wired (K, tt) d)
     (λ κs. (mut_vals, tt)) (λ κs. (mut_Tells (named 0) κs.0 (Self (param 0 K) k), tt)) (λ κs qs bounds a g are.
-    let κ = κs.0 in let q = qs.0 in let shared : Bool = k.shared in let R : RattleType = Self (param 0 K) k in let b = a.0.ref_ptr.0 in let o = a.0.ref_ptr.1 in let γ = a.0.ghost_name in let me = a.0.now in let x = me.inner in let h = me.alloc in
+    let κ = κs.0 in let q = qs.0 in let shared : Bool = k.any_thread in let R : RattleType = Self (param 0 K) k in let b = a.0.ref_ptr.0 in let o = a.0.ref_ptr.1 in let γ = a.0.ghost_name in let me = a.0.now in let x = me.inner in let h = me.alloc in
     let z : (walk_of 𝓛 En stays c).Ghost = ((κs, qs, bounds, a, (vptr b o ∷ [], tt)), g) in let Post : Val → SProp 𝓤 = (walk_of 𝓛 En stays c).post z in
     let Lent : RattleType = MutRef (named 0) κ BodyRow in let step = triple_of 𝓛 (callee.signature K) (callee.spec K k d 𝓛 𝓜.mem 𝓡.returns) in
     qed 𝓛 (((‵ (flft κ q) ⊛ ‵ (flft κs.1.0 qs.1.0) ⊛ ‵ ftrue) ⊛ ‵ (owns (types_at En.signature.params κs) a (vptr b o ∷ [], tt))) ∷ (raw (fact 𝓤 (κs.1.0 ⊑ K.lives)) ⊛ ‵ ftrue) ∷ []) ∵

@@ -34,7 +34,7 @@ use denote.Triple.Walked.{Stays, stay_dropped, walk_of, Goes-dropped}
 use Rattle.core.proofs.alloc.Shapes.{after}
 use Rattle.std.proofs.raw_atomic.Walks.{proved, leaves}
 use Rattle.std.specs.contracts.alloc.Global as heap
-use Rattle.tendril_block.specs.Held.{rule_kept, rule, body_at, shown, block_shares}
+use Rattle.tendril_block.specs.Owned.{rule_kept, rule, body_at, shown, block_shares}
 use Rattle.tendril_block.proofs.Lent.{sees}
 use Rattle.tendril_block.proofs.Carved.{shown_laws, kept_twice}
 use Rattle.tendril_block.specs.contracts.node.handle.Handle as block
@@ -57,7 +57,7 @@ body_spec 𝓤 𝓛 𝓜 𝓡 wired K law k d met =
     let H = 𝓛.H in let 𝓣 = tables 𝓤 H 𝓜 𝓡 𝓡.env in let En = ended K k d in let stays = stayed K k d in let c = clauses K k d 𝓛 𝓜.mem 𝓡.returns in let fn : Fn = inst_fn (args K d) code.function in
     proved 𝓛 En stays c 𝓜 𝓡 (Goes-dropped 𝓛 2 (RefOf (0 ∷ []) tt (plain (λ _. Self (param 0 K) k)) (λ _. tt)) yes (λ κs x f. refl), tt) (#self (args K d)) fn (code.unfolded 𝓤 H 𝓜 𝓡 wired (K, tt) d)
     (λ κs. (shr_vals, tt)) (λ κs. (shr_Tells (named 0) κs.0 (Self (param 0 K) k), tt)) (λ κs qs bounds a g are.
-    let κ = κs.0 in let q = qs.0 in let b = a.0.ref_ptr.0 in let o = a.0.ref_ptr.1 in let y : Bool = k.shared in let me = a.0.now in let p = me.node in let pb = block_of p in let po = count_of p in let there = po + body_at in let x = me.inner in
+    let κ = κs.0 in let q = qs.0 in let b = a.0.ref_ptr.0 in let o = a.0.ref_ptr.1 in let y : Bool = k.any_thread in let me = a.0.now in let p = me.node in let pb = block_of p in let po = count_of p in let there = po + body_at in let x = me.inner in
     let z : (walk_of 𝓛 En stays c).Ghost = ((κs, qs, bounds, a, (vptr b o ∷ [], tt)), g) in let Post : Val → SProp 𝓤 = (walk_of 𝓛 En stays c).post z in
     qed 𝓛 (((‵ (flft κ q) ⊛ ‵ (flft κs.1.0 qs.1.0) ⊛ ‵ ftrue) ⊛ ‵ (owns (types_at En.signature.params κs) a (vptr b o ∷ [], tt))) ∷ (raw (fact 𝓤 (κs.1.0 ⊑ K.lives)) ⊛ ‵ ftrue) ∷ []) ∵
     split ! $ split ! $ move ! (2 ∷ []) $ fsplit ! $ fsplit ! $ keep ! (1 ∷ 3 ∷ 4 ∷ []) $

@@ -40,7 +40,7 @@ use contract.Monad.{fact, fact_i}
 use Rattle.core.specs.contracts.marker.PhantomData as marker
 use Rattle.tendril_block.specs.declared.node.kind.Kind.{Ghosts}
 use Rattle.tendril_block.proofs.Handles.{Self, args}
-use Rattle.tendril_block.specs.Held.{block_shares}
+use Rattle.tendril_block.specs.Owned.{block_shares}
 use Rattle.tendril_block.specs.contracts.node.handle.Handle as block
 use Rattle.tendril_block.specs.contracts.node.kind.Kind.peek as callee
 use Rattle.tendril_block.specs.contracts.node.handle.Handle.count.{ended, clauses}
@@ -59,7 +59,7 @@ count_spec 𝓤 𝓛 𝓜 𝓡 wired K law k d met =
     let H = 𝓛.H in let 𝓣 = tables 𝓤 H 𝓜 𝓡 𝓡.env in let En = ended K k d in let stays = stayed K k d in let c = clauses K k d 𝓛 𝓜.mem 𝓡.returns in let fn : Fn = inst_fn (args K d) code.function in
     proved 𝓛 En stays c 𝓜 𝓡 (Goes-dropped 𝓛 2 (RefOf (0 ∷ []) tt (plain (λ _. Self (param 0 K) k)) (λ _. tt)) yes (λ κs x f. refl), tt) (#self (args K d)) fn (code.unfolded 𝓤 H 𝓜 𝓡 wired (K, tt) d)
     (λ κs. (shr_vals, tt)) (λ κs. (shr_Tells (named 0) κs.0 (Self (param 0 K) k), tt)) (λ κs qs bounds a₀ g₀ are.
-    let κ = κs.0 in let q = qs.0 in let b = a₀.0.ref_ptr.0 in let o = a₀.0.ref_ptr.1 in let shared : Bool = k.shared in let me = a₀.0.now in let p = me.node in let pb = block_of p in let po = count_of p in let x = me.inner in let l₀ = me.limit in
+    let κ = κs.0 in let q = qs.0 in let b = a₀.0.ref_ptr.0 in let o = a₀.0.ref_ptr.1 in let shared : Bool = k.any_thread in let me = a₀.0.now in let p = me.node in let pb = block_of p in let po = count_of p in let x = me.inner in let l₀ = me.limit in
     let z : (walk_of 𝓛 En stays c).Ghost = ((κs, qs, bounds, a₀, (vptr b o ∷ [], tt)), g₀) in let Post : Val → SProp 𝓤 = (walk_of 𝓛 En stays c).post z in let step = triple_of 𝓛 (callee.signature K) (callee.spec K k d 𝓛 𝓜.mem 𝓡.returns) in
     qed 𝓛 (((‵ (flft κ q) ⊛ ‵ (flft κs.1.0 qs.1.0) ⊛ ‵ ftrue) ⊛ ‵ (owns (types_at En.signature.params κs) a₀ (vptr b o ∷ [], tt))) ∷ (raw (fact 𝓤 (κs.1.0 ⊑ K.lives)) ⊛ ‵ ftrue) ∷ []) ∵
     move ! (1 ∷ []) $ split ! $ heard ! _ (λ le. drop ! $

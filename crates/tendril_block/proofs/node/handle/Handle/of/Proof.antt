@@ -34,7 +34,7 @@ use Rattle.std_alloc.specs.Owners.{sole_or_counted}
 use Rattle.atomic_table.specs.Seated.{word}
 use Rattle.tendril_block.proofs.Values.{both, Loose, loose_good, loose_out}
 use Rattle.tendril_block.proofs.Carved.{carve, begin, apart}
-use Rattle.tendril_block.specs.Held.{BodyRow, body_at, reader, writer, Id}
+use Rattle.tendril_block.specs.Owned.{BodyRow, body_at, reader, writer, Id}
 use Rattle.tendril_block.specs.contracts.node.Node as node
 use Rattle.tendril_block.specs.contracts.node.handle.Handle.of.{ended, clauses}
 use Rattle.tendril_block.specs.contracts.node.handle.Handle.of.Key.{name as #self}
@@ -58,7 +58,7 @@ of_spec 𝓤 𝓛 𝓜 𝓡 wired K law k d met =
     qed 𝓛 ((raw (alive 𝓛 En.signature κs z.0.1) ⊛ ‵ (owns (types_at En.signature.params κs) z.0.3 z.0.4)) ∷ (raw (fact 𝓤 (κs.0 ⊑ K.lives)) ⊛ raw (fact 𝓤 (v.value.count ≡ 1))) ∷ []) ∵
     move ! (1 ∷ []) $ split ! $ drop ! $ heard ! (v.value.count ≡ 1) (λ one. split ! $ move ! (1 ∷ []) $ fsplit ! $
     loose_out node.the_row Z heap_laws.the_row_laws ghosts ! v z.0.4.0 (λ b o h e ws fits.
-    let w : Val = both (vptr b o) h in let n = z.0.3.1.0 in let u : Val = vint w64 n in let w' : Val = handle_val (vptr b o) h in let y : Bool = k.shared in let typed = loose_good node.the_row Z heap_laws.the_row_laws ghosts b o h fits in let a = v.alloc in let x = v.value.body in
+    let w : Val = both (vptr b o) h in let n = z.0.3.1.0 in let u : Val = vint w64 n in let w' : Val = handle_val (vptr b o) h in let y : Bool = k.any_thread in let typed = loose_good node.the_row Z heap_laws.the_row_laws ghosts b o h fits in let a = v.alloc in let x = v.value.body in
     fsplit ! $ use1 𝓛 (‵ (word b (o + 0) v.value.count) ⊛ ‵ (part_at BodyRow full_share x b (o + body_at)) ⊛ ‵ (apart 𝓛 b o)) (carve 𝓛 v.value b o) $ split3 ! $
     rewrite ! 0 (λ (n : ℕ). ‵ (word b (o + 0) n)) one refl $ move ! (1 ∷ 3 ∷ 2 ∷ []) $ fjoin3 ! $ move ! (1 ∷ 0 ∷ []) $
     suffices ! (Run (w ∷ u ∷ [])) (subst (λ (us : List Val). ent 𝓤 (Run (w ∷ u ∷ [])) (Run us)) (sym (λ i. ws i ++ (are.1.0.0 i ++ []))) (id⊢ 𝓤 (Run (w ∷ u ∷ [])))) $

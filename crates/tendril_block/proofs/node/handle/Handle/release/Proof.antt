@@ -44,7 +44,7 @@ use Rattle.tendril_block.proofs.Lasts.{L, last_in}
 use Rattle.tendril_block.proofs.Carved.{rejoin, counted}
 use Rattle.tendril_block.specs.declared.node.kind.Kind.{Ghosts}
 use Rattle.tendril_block.proofs.Handles.{Z, Self, args, handle_val, handle_good, handle_out, taken}
-use Rattle.tendril_block.specs.Held.{content, owed, reader, Id, Stepper, left}
+use Rattle.tendril_block.specs.Owned.{content, owed, reader, Id, Stepper, left}
 use Rattle.tendril_block.specs.declared.node.Node.{Node}
 use Rattle.tendril_block.specs.contracts.node.Node as node
 use Rattle.tendril_block.specs.contracts.node.kind.Kind.subtract as callee
@@ -60,7 +60,7 @@ pub release_spec : {M : Type 1} → statement M
 release_spec 𝓤 𝓛 𝓜 𝓡 wired K law k d met =
     let H = 𝓛.H in let 𝓣 = tables 𝓤 H 𝓜 𝓡 𝓡.env in let En = ended K k d in let stays = stayed K k d in let c = clauses K k d 𝓛 𝓜.mem 𝓡.returns in let fn : Fn = inst_fn (args K d) code.function in
     proved_at 𝓛 En stays c 𝓜 𝓡 (Goes-blank 𝓛 1 (plain (λ _. Self (param 0 K) k)) no (λ κs x f. tt), tt) (#self (args K d)) fn (code.unfolded 𝓤 H 𝓜 𝓡 wired (K, tt) d) (λ z are.
-    let κs = z.0.0 in let v = z.0.3.0 in let shared : Bool = k.shared in let a = v.alloc in let x = v.inner in let Post : Val → SProp 𝓤 = (walk_of 𝓛 En stays c).post z in let Run : List Val → SProp 𝓤 = λ ws. WpFn 𝓤 H 𝓣.C 𝓣.Λ fn ws Post in
+    let κs = z.0.0 in let v = z.0.3.0 in let shared : Bool = k.any_thread in let a = v.alloc in let x = v.inner in let Post : Val → SProp 𝓤 = (walk_of 𝓛 En stays c).post z in let Run : List Val → SProp 𝓤 = λ ws. WpFn 𝓤 H 𝓣.C 𝓣.Λ fn ws Post in
     let Out : RattleType = type_at En.signature.result κs in let step = triple_of 𝓛 (callee.signature K) (callee.spec K k d 𝓛 𝓜.mem 𝓡.returns) in
     qed 𝓛 (((‵ (flft κs.0 z.0.1.0) ⊛ ‵ ftrue) ⊛ ‵ (owns (types_at En.signature.params κs) z.0.3 z.0.4)) ∷ (raw (fact 𝓤 (κs.0 ⊑ K.lives)) ⊛ ‵ ftrue) ∷ []) ∵
     move ! (1 ∷ []) $ split ! $ heard ! _ (λ le. drop ! $ split ! $ move ! (1 ∷ []) $ fsplit ! $ handle_out (param 0 K) k ! v z.0.4.0 (λ b o h e ws fits.

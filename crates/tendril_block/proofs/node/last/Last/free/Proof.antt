@@ -22,7 +22,7 @@ use Rattle.std.proofs.raw_atomic.Walks.{proved_at, leaves}
 use Rattle.tendril_block.proofs.Values.{both, Loose, loose_good, loose_in}
 use Rattle.tendril_block.proofs.Handles.{Z, frees}
 use Rattle.tendril_block.proofs.Lasts.{L, last_out}
-use Rattle.tendril_block.specs.Held.{Id, freed}
+use Rattle.tendril_block.specs.Owned.{Id, freed}
 use Rattle.tendril_block.specs.declared.node.Node.{Node}
 use Rattle.tendril_block.specs.contracts.node.Node as node
 use Rattle.tendril_block.specs.contracts.node.last.Last.free.{ended, clauses}

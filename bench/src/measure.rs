@@ -1,0 +1,260 @@
+//! Times the contenders of a workload side by side: each round runs each of them once, so that a
+//! slow moment of the machine falls on all, and the ratio within a round is what counts.
+
+use crate::port::Port;
+use std::hint::black_box;
+use std::time::Instant;
+
+/// What a workload's figures are given in.
+#[derive(Clone, Copy)]
+pub enum Unit {
+    /// Megabytes a second, since the work goes over so many bytes.
+    Bytes(usize),
+    /// Nanoseconds a call, since the work is so many calls.
+    Calls(usize),
+}
+
+impl Unit {
+    fn name(self) -> &'static str {
+        match self {
+            Unit::Bytes(_) => "MB/s",
+            Unit::Calls(_) => "ns/call",
+        }
+    }
+
+    fn show(self, seconds: f64) -> String {
+        match self {
+            Unit::Bytes(count) => format!("{:.0}", count as f64 / seconds / 1e6),
+            Unit::Calls(count) => format!("{:.2}", seconds * 1e9 / count as f64),
+        }
+    }
+}
+
+/// Whose time counts.
+#[derive(Clone, Copy, PartialEq)]
+enum Clock {
+    /// The processor time of this thread, in which other processes have no part.
+    Thread,
+    /// The clock on the wall, which each contender reads itself: it answers its nanoseconds.
+    Wall,
+}
+
+struct Contender<'a> {
+    name: String,
+    /// Whether it has to answer what the first contender answers.
+    agrees: bool,
+    /// How often its work has to be done to make the workload's.
+    times: f64,
+    run: Box<dyn FnMut() -> u64 + 'a>,
+}
+
+pub struct Workload<'a> {
+    pub id: &'static str,
+    title: &'static str,
+    unit: Unit,
+    clock: Clock,
+    contenders: Vec<Contender<'a>>,
+}
+
+impl<'a> Workload<'a> {
+    pub fn new(id: &'static str, title: &'static str, unit: Unit) -> Workload<'a> {
+        Workload {
+            id,
+            title,
+            unit,
+            clock: Clock::Thread,
+            contenders: Vec::new(),
+        }
+    }
+
+    /// One whose contenders have threads of their own, and so answer the nanoseconds that they
+    /// took.
+    pub fn on_the_wall(id: &'static str, title: &'static str, unit: Unit) -> Workload<'a> {
+        Workload {
+            clock: Clock::Wall,
+            ..Workload::new(id, title, unit)
+        }
+    }
+
+    /// Adds a contender that does the same work and gives the same answer. The first one is what
+    /// the others are compared with.
+    pub fn with(self, name: &str, run: impl FnMut() -> u64 + 'a) -> Workload<'a> {
+        self.push(name, true, 1.0, run)
+    }
+
+    /// Adds one for scale, whose answer is another.
+    pub fn beside(self, name: &str, run: impl FnMut() -> u64 + 'a) -> Workload<'a> {
+        self.push(name, false, 1.0, run)
+    }
+
+    /// Adds one that gives the same answer by other work, which done so many times is the
+    /// workload's.
+    pub fn part(self, name: &str, times: f64, run: impl FnMut() -> u64 + 'a) -> Workload<'a> {
+        self.push(name, true, times, run)
+    }
+
+    /// Adds a contender for each build of the port.
+    pub fn with_ports<R: FnMut() -> u64 + 'a>(
+        mut self,
+        ports: &'a [Port],
+        work: impl Fn(&'a Port) -> R,
+    ) -> Workload<'a> {
+        for port in ports {
+            self = self.with(port.name, work(port));
+        }
+        self
+    }
+
+    fn push(
+        mut self,
+        name: &str,
+        agrees: bool,
+        times: f64,
+        run: impl FnMut() -> u64 + 'a,
+    ) -> Workload<'a> {
+        let run = Box::new(run);
+        self.contenders.push(Contender {
+            name: name.into(),
+            agrees,
+            times,
+            run,
+        });
+        self
+    }
+
+    /// Runs each contender once in each round, and prints a table.
+    pub fn measure(&mut self, rounds: usize) {
+        self.compare_answers();
+        let count = self.contenders.len();
+        let mut times = vec![Vec::with_capacity(rounds); count];
+        for turn in 0..rounds * count {
+            // Each round starts at another contender.
+            let at = (turn + turn / count) % count;
+            times[at].push(self.time(at));
+        }
+        self.print(&times);
+    }
+
+    /// Runs each contender once, to see that it does the work; that warms the caches too.
+    fn compare_answers(&mut self) {
+        let mut wanted = None;
+        for it in &mut self.contenders {
+            let got = (it.run)();
+            let wanted = *wanted.get_or_insert(got);
+            if self.clock == Clock::Thread && it.agrees {
+                assert_eq!(got, wanted, "{}: the answer of {}", self.id, it.name);
+            }
+        }
+    }
+
+    /// The seconds that the contender takes for the workload's work.
+    fn time(&mut self, at: usize) -> f64 {
+        let contender = &mut self.contenders[at];
+        let start = thread_seconds();
+        let answer = black_box((contender.run)());
+        let took = match self.clock {
+            Clock::Thread => thread_seconds() - start,
+            Clock::Wall => answer as f64 * 1e-9,
+        };
+        took * contender.times
+    }
+
+    fn print(&self, times: &[Vec<f64>]) {
+        let unit = self.unit.name();
+        println!("\n### {} {}\n", self.id, self.title);
+        println!(
+            "| contender | best {unit} | median {unit} | time / the first's (median, range) |"
+        );
+        println!("|---|---:|---:|---:|");
+        for (contender, taken) in self.contenders.iter().zip(times) {
+            let sorted = sorted(taken.clone());
+            let ratios = sorted_ratios(taken, &times[0]);
+            let (median, tenth) = (taken.len() / 2, taken.len() / 10);
+            println!(
+                "| {} | {} | {} | {:.2} ({:.2} to {:.2}) |",
+                contender.name,
+                self.unit.show(sorted[0]),
+                self.unit.show(sorted[median]),
+                ratios[median],
+                ratios[tenth],
+                ratios[ratios.len() - 1 - tenth],
+            );
+        }
+    }
+
+    /// Runs the contender of this name so many times, and prints what the process had in memory at
+    /// most.
+    pub fn run_alone(&mut self, name: &str, times: usize) {
+        let Some(contender) = self.contenders.iter_mut().find(|it| it.name == name) else {
+            eprintln!("{}: no contender is called {name}", self.id);
+            return;
+        };
+        forget_peak();
+        let before = peak();
+        for _ in 0..times {
+            black_box((contender.run)());
+        }
+        println!(
+            "{} {name}: {} KiB in memory at most, {before} before",
+            self.id,
+            peak()
+        );
+    }
+}
+
+fn sorted(mut times: Vec<f64>) -> Vec<f64> {
+    times.sort_by(f64::total_cmp);
+    times
+}
+
+fn sorted_ratios(times: &[f64], first: &[f64]) -> Vec<f64> {
+    sorted(
+        times
+            .iter()
+            .zip(first)
+            .map(|(time, first)| time / first)
+            .collect(),
+    )
+}
+
+/// The most that this process had in memory, in KiB.
+fn peak() -> u64 {
+    let status = std::fs::read_to_string("/proc/self/status").unwrap_or_default();
+    let line = status.lines().find(|it| it.starts_with("VmHWM:"));
+    line.and_then(|it| it.split_whitespace().nth(1)?.parse().ok())
+        .unwrap_or(0)
+}
+
+/// Forgets what was in memory at most before. Where the system refuses that, `peak` only tells
+/// more.
+fn forget_peak() {
+    let _ = std::fs::write("/proc/self/clear_refs", "5");
+}
+
+/// The nanoseconds that the work takes by the clock on the wall.
+pub fn wall_nanoseconds(work: impl FnOnce() -> u64) -> u64 {
+    let start = Instant::now();
+    black_box(work());
+    start.elapsed().as_nanos() as u64
+}
+
+/// The processor time of this thread.
+fn thread_seconds() -> f64 {
+    #[repr(C)]
+    struct Time {
+        seconds: i64,
+        nanoseconds: i64,
+    }
+    unsafe extern "C" {
+        fn clock_gettime(clock: i32, time: *mut Time) -> i32;
+    }
+    const CLOCK_THREAD_CPUTIME_ID: i32 = 3;
+    let mut time = Time {
+        seconds: 0,
+        nanoseconds: 0,
+    };
+    // SAFETY: the struct is that of 64-bit Linux, and is borrowed for the call.
+    let status = unsafe { clock_gettime(CLOCK_THREAD_CPUTIME_ID, &mut time) };
+    assert_eq!(status, 0, "the clock of a thread");
+    time.seconds as f64 + time.nanoseconds as f64 * 1e-9
+}

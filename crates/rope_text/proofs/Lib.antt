@@ -1,0 +1,15 @@
+pub mod Built
+pub mod Compared
+pub mod Cuts
+pub mod Decoded
+pub mod Ends
+pub mod Grown
+pub mod Joined
+pub mod Located
+pub mod PartsOf
+pub mod Popped
+pub mod Printed
+pub mod Shared
+pub mod Sharing
+pub mod Split
+pub mod Whole

@@ -1,0 +1,40 @@
+-- Ropes that grow.
+use Rattle.std.specs.Prelude.{◌≡◌, ℕ, ◌<◌, ◌≤◌, ◌+◌, List, [], ◌∷◌, ◌++◌, length, Option, Result, Ok, Err}
+use Rattle.tendril_block.specs.declared.refusal.Refusal.{Refusal}
+use Rattle.tendril_block.specs.declared.refusal.Refusal.TheVariants.{TooLong, Memory}
+use Rattle.tendril_block.specs.Outcomes.{First, NoneMust, Outcome}
+use Rattle.rope_text.specs.declared.rope.TheConstants.{MAX_TOTAL}
+use Rattle.rope_text.specs.Ropes.{RopeText}
+use Rattle.tendril_text.specs.Texts.{Text}
+
+-- the same answer, where a refusal hands nothing back
+abbrev pub without_back : {R X : Type 0} → Result R (Refusal × X) → Result R Refusal
+without_back (Ok r) = Ok r
+without_back (Err e) = Err e.0
+
+-- of a rope that would have so many bytes
+abbrev pub TotalMust : ℕ → Option Refusal → Type 0
+TotalMust count must = First (count ≤ MAX_TOTAL) TooLong NoneMust must
+
+-- no state rules out that memory is wanting for the list of pieces where so many bytes are put in
+abbrev pub RoomMay : ℕ → Refusal → Type 0
+RoomMay count r = (r ≡ Memory) × (0 < count)
+
+-- the pieces that a text of the bytes b is
+abbrev pub listed_unless_empty : List ℕ → Text → List Text
+listed_unless_empty [] t = []
+listed_unless_empty (x ∷ xs) t = t ∷ []
+
+abbrev pub piece_of : Text → List Text
+piece_of t = listed_unless_empty t.bytes t
+
+-- a rope with more bytes and pieces behind it
+pub record IsLonger (old : RopeText) (more : List ℕ) (parts : List Text) (new : RopeText) : Type 0 where
+  pub bytes : new.bytes ≡ old.bytes ++ more
+  pub pieces : new.pieces ≡ old.pieces ++ parts
+
+-- bytes are put behind a rope, in these pieces
+abbrev pub Grows : List ℕ → List Text → RopeText → Result (Unit {0}) Refusal → RopeText → Type 0
+Grows more parts old result new =
+    Outcome (TotalMust (length old.bytes + length more)) (RoomMay (length more))
+    (λ _ r. IsLonger old more parts r) old result new

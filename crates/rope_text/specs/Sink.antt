@@ -1,0 +1,46 @@
+-- A rope as a sink.
+use Rattle.std.specs.Prelude.{◌≡◌, ℕ, ◌+◌, List, [], ◌∷◌, ◌++◌, length, map, chars, IsUtf8}
+use Rattle.std.proofs.Common.{refl, sym, ap, ◌∙◌, append-nil}
+use Rattle.std.proofs.lemmas.Str.{IsUtf8-append, chars-append}
+use Rattle.tendril_block.specs.declared.refusal.Refusal.{Refusal}
+use Rattle.tendril_block.specs.Outcomes.{Refused}
+use Rattle.tendril_lossy.specs.Lossy.{Told, Char, Mark, characters}
+use Rattle.rope_text.specs.Growth.{IsLonger, RoomMay, TotalMust, piece_of}
+use Rattle.rope_text.specs.Ropes.{RopeText}
+use Rattle.tendril_stream.specs.Sinks.{Sent, Piece, Fault, told_of}
+
+-- a text is put behind the rope, and an error changes nothing
+abbrev pub TakesSent : RopeText → Sent → RopeText → Type 0
+TakesSent old (Piece t) new = IsUtf8 t.bytes × IsLonger old t.bytes (piece_of t) new
+TakesSent old (Fault words) new = new ≡ old
+
+-- a text is refused as a push of it, and nothing changes; no error is refused
+abbrev pub RefusesSent : RopeText → Sent → Refusal → RopeText → Type 0
+RefusesSent old (Piece t) r new =
+    Refused (TotalMust (length old.bytes + length t.bytes)) (RoomMay (length t.bytes)) r × (new ≡ old)
+RefusesSent old (Fault words) r new = ⊥
+
+-- a rope has the characters that were told
+abbrev pub HasCharacters : RopeText → List Told → Type 0
+HasCharacters rope told = IsUtf8 rope.bytes × (chars rope.bytes ≡ characters told)
+
+characters-append : (told more : List Told) → characters (told ++ more) ≡ characters told ++ characters more
+characters-append [] more = refl
+characters-append (Char c ∷ told) more = ap (λ l. c ∷ l) (characters-append told more)
+characters-append (Mark words ∷ told) more = characters-append told more
+
+characters-map : (cs : List ℕ) → characters (map Char cs) ≡ cs
+characters-map [] = refl
+characters-map (c ∷ cs) = ap (λ l. c ∷ l) (characters-map cs)
+
+pub goes_on_by : (told : List Told) (old : RopeText) (e : Sent) (new : RopeText)
+    → HasCharacters old told → TakesSent old e new → HasCharacters new (told ++ told_of e)
+goes_on_by told old (Piece t) new h takes =
+    let valid : IsUtf8 (old.bytes ++ t.bytes) = IsUtf8-append old.bytes t.bytes h.0 takes.0 in (
+      rw takes.1.bytes valid,
+      ap chars takes.1.bytes ∙ chars-append old.bytes t.bytes h.0 ∙ ap (λ l. l ++ chars t.bytes) h.1
+          ∙ ap (λ l. characters told ++ l) (sym (characters-map (chars t.bytes)))
+          ∙ sym (characters-append told (map Char (chars t.bytes))),
+    )
+goes_on_by told old (Fault words) new h takes =
+    rw takes (h.0, h.1 ∙ sym (append-nil (characters told)) ∙ sym (characters-append told (Mark words ∷ [])))

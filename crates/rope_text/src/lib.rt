@@ -1,0 +1,8 @@
+//! Ropes: UTF-8 of up to 18446744073709551615 bytes, in texts that are shared.
+#![tactic(auto)]
+
+mod decode;
+mod rope;
+
+pub use crate::decode::{decode_rope, read_rope, rope_from_file};
+pub use crate::rope::{MAX_TOTAL, Rope};

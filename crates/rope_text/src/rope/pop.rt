@@ -1,0 +1,32 @@
+//! Characters that are taken out of a rope's front.
+ghost use Rattle.std.specs.Prelude.{◌≡◌, ◌++◌, ◌∷◌, [], chars, encode_utf8, IfSome, IfNone, OnSome};
+ghost use Rattle.rope_text.specs.Parts.{LosesFront};
+
+use crate::rope::Rope;
+use tendril_text::Atomicity;
+
+impl<A: Atomicity> Rope<A> {
+    /// Takes the first character out of the rope, or answers `None` where it is empty. Takes no memory, and amortized
+    /// constant time.
+    pub fn pop_front_char(&mut self) -> Option<char>
+        ensures character { IfSome result (λ c. chars self.old.bytes ≡ c ∷ chars self.new.bytes) }
+        ensures bytes { IfSome result (λ c. self.old.bytes ≡ encode_utf8 c ++ self.new.bytes) }
+        ensures pieces { OnSome result (LosesFront self.old.pieces self.new.pieces) }
+        ensures none { IfNone result ((self.old.bytes ≡ []) × (self.new ≡ self.old)) }
+    {
+        if self.pieces.len() == 0 {
+            return None;
+        }
+        let first = &mut self.pieces[0];
+        let character = first.pop_front_char()?;
+        let left = first.len32();
+        let count = character.len_utf8() as u64;
+        self.total -= count;
+        self.start = self.start.wrapping_add(count);
+        if left == 0 {
+            self.ends.pop_front();
+            self.pieces.pop_front();
+        }
+        Some(character)
+    }
+}

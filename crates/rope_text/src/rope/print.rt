@@ -1,0 +1,20 @@
+//! How ropes are printed.
+ghost use Rattle.std.specs.Prelude.{Some};
+
+use crate::rope::Rope;
+use std::fmt::{self, Display, Formatter, Write};
+use tendril_text::Atomicity;
+
+/// Prints the pieces one after another, with no padding.
+impl<A: Atomicity> Display for Rope<A> {
+    ghost output = { λ r. Some r.bytes };
+
+    ghost styled_output = { λ r style. Some r.bytes };
+
+    fn fmt<W: Write>(&self, f: &mut Formatter<W>) -> fmt::Result {
+        for index in 0..self.pieces.len() {
+            f.write_str(self.pieces[index].as_str())?;
+        }
+        Ok(())
+    }
+}

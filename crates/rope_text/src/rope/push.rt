@@ -1,0 +1,70 @@
+//! Ropes that grow at their end.
+ghost use Rattle.std.specs.Prelude.{◌≡◌, ◌+◌, ◌%◌, ◌^◌, ◌≤◌, ◌<◌, ◌++◌, length, map, IfErr, IsOk};
+ghost use Rattle.std.specs.VecDeque.{deque_capacity, deque_len};
+ghost use Rattle.rope_text.specs.Growth.{Grows, piece_of, without_back};
+
+use crate::rope::Rope;
+use std::collections::VecDeque;
+use tendril_text::block::Refusal;
+use tendril_text::{Atomicity, StrTendril};
+
+impl<A: Atomicity> Rope<A> {
+    /// Puts a text at the end, in amortized constant time. An empty text adds no piece. Where it is refused the text
+    /// comes back.
+    pub fn push_tendril(&mut self, text: StrTendril<A>) -> Result<(), (Refusal, StrTendril<A>)>
+        ensures grows { Grows text.bytes (piece_of text) self.old (without_back result) self.new }
+        ensures back { IfErr result (λ e. e.1 ≡ text) }
+    {
+        let len = text.as_byte_slice().len() as u64;
+        let Some(total) = self.total.checked_add(len) else {
+            return Err((Refusal::TooLong, text));
+        };
+        if len == 0 {
+            return Ok(());
+        }
+        if self.ends.reserve(1).is_err() {
+            return Err((Refusal::Memory, text));
+        }
+        match self.pieces.push_back(text) {
+            Ok(()) => {
+                self.ends.push_back_reserved(self.start.wrapping_add(total));
+                self.total = total;
+                Ok(())
+            }
+            Err(failed) => Err((Refusal::Memory, failed.value)),
+        }
+    }
+
+    /// Puts the pieces of another rope at the end, in time linear in their number, amortized. Where it is refused the
+    /// rope comes back.
+    pub fn append(&mut self, mut rope: Rope<A>) -> Result<(), (Refusal, Rope<A>)>
+        ensures grows { Grows rope.bytes rope.pieces self.old (without_back result) self.new }
+        ensures back { IfErr result (λ e. e.1 ≡ rope) }
+    {
+        let Some(total) = self.total.checked_add(rope.total) else {
+            return Err((Refusal::TooLong, rope));
+        };
+        if self.ends.reserve(rope.ends.len()).is_err() {
+            return Err((Refusal::Memory, rope));
+        }
+        match self.pieces.append(&mut rope.pieces) {
+            Ok(()) => {
+                let end = self.start.wrapping_add(self.total);
+                push_ends(&mut self.ends, &rope.ends, end.wrapping_sub(rope.start));
+                self.total = total;
+                Ok(())
+            }
+            Err(_) => Err((Refusal::Memory, rope)),
+        }
+    }
+}
+
+// Puts ends behind others, for which there is room, each moved on by as much.
+fn push_ends(ends: &mut VecDeque<u64>, more: &VecDeque<u64>, by: u64)
+    requires { deque_len ends.old + deque_len more.now ≤ deque_capacity ends.old }
+    ensures { ends.new.items ≡ ends.old.items ++ map (λ e. (e + by) % 2 ^ 64) more.now.items }
+{
+    for index in 0..more.len() {
+        ends.push_back_reserved(more[index].wrapping_add(by));
+    }
+}

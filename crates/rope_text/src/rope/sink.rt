@@ -1,0 +1,48 @@
+//! A rope as a sink: it takes the texts of a stream, and no errors.
+ghost use Rattle.std.specs.Prelude.{◌≡◌, ◌++◌, length, IfOk, IfErr, OnOk, IsUtf8};
+
+use crate::rope::Rope;
+use std::borrow::CowStr;
+use tendril_stream::{TendrilSink, Tracks};
+use tendril_text::block::Refusal;
+use tendril_text::{Atomicity, StrTendril};
+
+impl<A: Atomicity> TendrilSink<StrTendril<A>> for Rope<A> {
+    ghost use Rattle.std.specs.Prelude.{◌≡◌};
+    ghost use Rattle.rope_text.specs.Sink.{TakesSent, RefusesSent};
+
+    type Output = Rope<A>;
+
+    ghost takes = { TakesSent };
+
+    ghost refuses = { RefusesSent };
+
+    ghost finishes = { λ a out. out ≡ a };
+
+    ghost ends = { λ a r. ⊥ };
+
+    fn process(&mut self, text: StrTendril<A>) -> Result<(), Refusal> {
+        let _is_utf8 = text.as_str();
+        match self.push_tendril(text) {
+            Ok(()) => Ok(()),
+            Err((refusal, _)) => Err(refusal),
+        }
+    }
+
+    fn error(&mut self, _words: CowStr<'static>) -> Result<(), Refusal> {
+        Ok(())
+    }
+
+    fn finish(self) -> Result<Rope<A>, Refusal> {
+        Ok(self)
+    }
+}
+
+/// A rope that was empty has the characters that it was told, without the marks.
+impl<A: Atomicity> Tracks<StrTendril<A>> for Rope<A> {
+    ghost use Rattle.rope_text.specs.Sink.{HasCharacters, goes_on_by};
+
+    ghost after = { HasCharacters };
+
+    ghost goes_on = { goes_on_by };
+}

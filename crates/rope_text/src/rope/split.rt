@@ -1,0 +1,128 @@
+//! Ropes that are cut in two.
+ghost use Rattle.std.specs.Prelude.{◌≡◌, ◌<◌, ◌≤◌, ◌+◌, [], length, take, drop, IsUtf8};
+ghost use Rattle.std.specs.Str.{IsCharBoundary};
+ghost use Rattle.std.specs.VecDeque.{deque_capacity, deque_len};
+ghost use Rattle.tendril_block.specs.Outcomes.{NoneMust, Outcome};
+ghost use Rattle.rope_text.specs.Ropes.{bytes_of_all, piece_at};
+ghost use Rattle.rope_text.specs.Splits.{IsCutAt, SplitMay, SplitsOff};
+ghost use Rattle.tendril_text.specs.Parts.{Slices};
+
+use crate::rope::Rope;
+use std::alloc::Global;
+use std::collections::VecDeque;
+use tendril_text::block::Refusal;
+use tendril_text::{Atomicity, StrTendril, SubtendrilError};
+
+impl<A: Atomicity> Rope<A> {
+    /// Takes the first `count` bytes out as a rope, where there are so many and they are UTF-8. Whole pieces move, and
+    /// share nothing new; where one is cut, both ropes share its bytes. Takes time for the pieces that move, and
+    /// logarithmic time to find the last.
+    pub fn try_split_to(&mut self, count: u64) -> Result<Self, Refusal>
+        ensures { SplitsOff count self.old result self.new }
+    {
+        if count > self.total {
+            return Err(Refusal::OutOfBounds);
+        }
+        if count == 0 {
+            return Ok(Rope::new(*self.pieces.allocator()));
+        }
+        if !self.is_cut(count) {
+            return Err(Refusal::ValidationFailed);
+        }
+        self.split_to(count)
+    }
+
+    // Takes the first bytes out, of which there are so many and which may be cut off.
+    fn split_to(&mut self, count: u64) -> Result<Self, Refusal>
+        requires some { 0 < count }
+        requires within { count ≤ length self.old.bytes }
+        requires cut { IsCharBoundary self.old.bytes count }
+        ensures { Outcome NoneMust (SplitMay self.old.pieces count) (λ front rest. IsCutAt count self.old front rest)
+            self.old result self.new }
+    {
+        let alloc = *self.pieces.allocator();
+        let (whole, within) = self.place_of_cut(count);
+        let part = match front_at(alloc, &self.pieces, whole, within) {
+            Ok(part) => part,
+            Err(error) => return Err(Refusal::from(error)),
+        };
+        let Ok(mut pieces) = VecDeque::with_capacity(alloc, whole + 1) else {
+            return Err(Refusal::Memory);
+        };
+        let Ok(mut ends) = VecDeque::with_capacity(alloc, whole + 1) else {
+            return Err(Refusal::Memory);
+        };
+        move_front(&mut self.pieces, &mut pieces, whole);
+        move_front(&mut self.ends, &mut ends, whole);
+        let start = self.start;
+        self.start = start.wrapping_add(count);
+        self.total -= count;
+        if within > 0 {
+            pieces.push_back_reserved(part);
+            ends.push_back_reserved(self.start);
+            self.pieces[0].pop_front(within);
+            return Ok(Rope {
+                pieces,
+                ends,
+                start,
+                total: count,
+            });
+        }
+        Ok(Rope {
+            pieces,
+            ends,
+            start,
+            total: count,
+        })
+    }
+
+    // How many pieces end before a place, and how many bytes of the next stand before it.
+    fn place_of_cut(&self, at: u64) -> (usize, u32)
+        requires { at ≤ length self.now.bytes }
+        ensures piece { result.0 ≤ length self.now.pieces }
+        ensures next { 0 < result.1 → result.0 < length self.now.pieces }
+        ensures within { 0 < result.1 → result.1 < length (piece_at self.now.pieces result.0).bytes }
+        ensures place { length (bytes_of_all (take result.0 self.now.pieces)) + result.1 ≡ at }
+    {
+        if at == self.total {
+            return (self.pieces.len(), 0);
+        }
+        self.locate(at)
+    }
+}
+
+// The first bytes of the piece of a number, or no bytes behind the last piece.
+fn front_at<A: Atomicity>(
+    alloc: Global,
+    pieces: &VecDeque<StrTendril<A>>,
+    index: usize,
+    count: u32,
+) -> Result<StrTendril<A>, SubtendrilError>
+    requires within { count ≤ length (piece_at pieces.now.items index).bytes }
+    requires valid { IsUtf8 (take count (piece_at pieces.now.items index).bytes) }
+    ensures { Slices (piece_at pieces.now.items index).bytes 0 count result }
+{
+    match pieces.get(index) {
+        Some(piece) => piece.subtendril(0, count),
+        None => Ok(StrTendril::new(alloc)),
+    }
+}
+
+// Moves the first so many of a list to an empty one, which has room for them.
+fn move_front<T>(from: &mut VecDeque<T>, to: &mut VecDeque<T>, count: usize)
+    requires there { count ≤ deque_len from.old }
+    requires room { count ≤ deque_capacity to.old }
+    requires empty { to.old.items ≡ [] }
+    requires no_len { deque_len to.old ≡ 0 }
+    ensures moved { to.new.items ≡ take count from.old.items }
+    ensures left { from.new.items ≡ drop count from.old.items }
+    ensures len { deque_len to.new ≡ count }
+    ensures capacity { deque_capacity to.new ≡ deque_capacity to.old }
+{
+    for _ in 0..count {
+        match from.pop_front() {
+            Some(item) => to.push_back_reserved(item),
+            None => unreachable!(),
+        }
+    }
+}

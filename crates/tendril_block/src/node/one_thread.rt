@@ -1,0 +1,50 @@
+//! Holders that stay in one thread: the same rule, kept for that thread, on a plain word.
+ghost use Rattle.std.specs.Prelude.{false, []};
+ghost use base.Fml.{ftok};
+ghost use base.Mask.{every};
+
+use crate::node::kind::Kind;
+use std::marker::{Model, PhantomData};
+
+/// Holders that stay in one thread.
+pub(crate) struct OneThread {
+    // A raw pointer is not `Send`.
+    stays: PhantomData<*const u8>,
+}
+
+// A value would own its thread's token, which no thread can give away. So the type crosses no threads.
+impl Model for OneThread {
+    ghost also_owns = { λ _. ftok every };
+}
+
+impl Kind for OneThread {
+    ghost any_thread = { false };
+
+    unsafe fn subtract(word: *mut u64) -> u64 {
+        let found = unsafe { *word };
+        unsafe {
+            *word = found - 1;
+        }
+        found
+    }
+
+    unsafe fn alone(word: *mut u64) -> u64 {
+        unsafe { *word }
+    }
+
+    unsafe fn peek(word: *mut u64) -> u64 {
+        unsafe { *word }
+    }
+
+    unsafe fn add(word: *mut u64, seen: u64, next: u64) -> u64 {
+        let found = unsafe { *word };
+        if found == seen {
+            unsafe {
+                *word = next;
+            }
+        }
+        found
+    }
+
+    ghost crosses = { λ s. absurd ((s (record { stays = record {} }) []).1) };
+}
