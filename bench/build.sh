@@ -55,7 +55,7 @@ add_exports() {
         done
     done
     local used='tendril tendril_stream tendril_text tendril_block tendril_fmt tendril_lossy'
-    printf 'port_exports staticlib: %s\nport_threads: %s\n' "$used" "$used" >> "$1/crates.txt"
+    printf 'port_exports staticlib: rope %s\nport_threads: %s\n' "$used" "$used" >> "$1/crates.txt"
 }
 
 # build_port FROM NAME: proves and links a checkout's port.

@@ -32,6 +32,14 @@ const FAULTS: [&[u8]; 8] = [
     b"caf\xE9 d\xE9j\xE0",
 ];
 
+/// How many pieces a rope of few has, and one of many.
+pub const FEW_PIECES: usize = 8_192;
+pub const MANY_PIECES: usize = 1_000_000;
+
+/// How many bytes a part of a rope has, and how many parts are taken.
+pub const PART: usize = 20;
+const PARTS: usize = 1_000_000;
+
 /// All inputs, made once.
 pub struct Inputs {
     /// A page in ASCII.
@@ -57,6 +65,9 @@ pub struct Inputs {
     pub joins: Vec<u32>,
     /// Words of 12 to 40 bytes, as of attributes and short text nodes.
     pub words: Vec<String>,
+    /// Where parts begin, in a rope of few of the words and in one of many.
+    pub few_places: Vec<u32>,
+    pub many_places: Vec<u32>,
 }
 
 impl Inputs {
@@ -64,6 +75,7 @@ impl Inputs {
     pub fn new(size: usize) -> Inputs {
         let html = page_in_ascii(size);
         let mixed = multilingual(size);
+        let words = long_words();
         Inputs {
             broken: broken(&mixed),
             random: random(size),
@@ -74,7 +86,9 @@ impl Inputs {
             pushes: cut(&html, 1, 20, 11),
             mixed_pushes: cut(&mixed, 1, 20, 13),
             joins: cut(&html, 12, 40, 17),
-            words: long_words(),
+            few_places: places(rope_length(&words, FEW_PIECES), 29),
+            many_places: places(rope_length(&words, MANY_PIECES), 31),
+            words,
             html,
             mixed,
         }
@@ -86,6 +100,18 @@ fn long_words() -> Vec<String> {
     (0..20)
         .map(|at| letters().take(12 + at * 28 / 19).collect())
         .collect()
+}
+
+/// How many bytes a rope has of so many words, taken round about.
+pub fn rope_length(words: &[String], count: usize) -> usize {
+    words.iter().cycle().take(count).map(String::len).sum()
+}
+
+/// Places in a text of so many bytes, each of them with a part's bytes behind it.
+fn places(length: usize, seed: u64) -> Vec<u32> {
+    let mut random = Random::new(seed);
+    let place = |_| random.below(length - PART + 1) as u32;
+    (0..PARTS).map(place).collect()
 }
 
 fn page_in_ascii(size: usize) -> String {

@@ -6,6 +6,8 @@ use std::process::Command;
 type OnBytes = unsafe extern "C" fn(*const u8, usize) -> u64;
 type Repeated = unsafe extern "C" fn(*const u8, usize, u64) -> u64;
 type OnPieces = unsafe extern "C" fn(*const u8, usize, *const u32, usize, u64) -> u64;
+type OnPlaces =
+    unsafe extern "C" fn(*const u8, usize, *const u32, usize, u64, *const u32, usize) -> u64;
 
 /// What a static library of the port exports. In Rattle a `&[T]` crosses as a pointer and a length,
 /// and an allocator takes no argument. Nothing compares the two declarations.
@@ -19,11 +21,14 @@ struct Exports {
     parse_by_class: OnBytes,
     parse_by_search: OnBytes,
     pop_characters: OnBytes,
+    pop_rope: OnPieces,
     push: OnPieces,
+    push_rope: OnPieces,
     queue: Repeated,
     runs: OnBytes,
     send: unsafe extern "C" fn(*const u8, usize, u64, u64) -> u64,
     slice: Repeated,
+    sub_ropes: OnPlaces,
     tokens: OnBytes,
     validate: OnBytes,
 }
@@ -56,11 +61,15 @@ macro_rules! exports {
             parse_by_class(bytes: *const u8, length: usize)
             parse_by_search(bytes: *const u8, length: usize)
             pop_characters(bytes: *const u8, length: usize)
+            pop_rope(bytes: *const u8, length: usize, lengths: *const u32, count: usize, all: u64)
             push(bytes: *const u8, length: usize, lengths: *const u32, count: usize, each: u64)
+            push_rope(bytes: *const u8, length: usize, lengths: *const u32, count: usize, all: u64)
             queue(bytes: *const u8, length: usize, calls: u64)
             runs(bytes: *const u8, length: usize)
             send(bytes: *const u8, length: usize, count: u64, times: u64)
             slice(bytes: *const u8, length: usize, calls: u64)
+            sub_ropes(bytes: *const u8, length: usize, lengths: *const u32, count: usize, all: u64,
+                places: *const u32, parts: usize)
             tokens(bytes: *const u8, length: usize)
             validate(bytes: *const u8, length: usize)
         }
@@ -137,9 +146,19 @@ impl Port {
         on_bytes(self.exports.pop_characters, text.as_bytes())
     }
 
+    /// Makes a rope of so many words, and takes all its characters.
+    pub fn pop_rope(&self, words: &Words, pieces: usize) -> u64 {
+        on_pieces(self.exports.pop_rope, &words.text, &words.lengths, pieces)
+    }
+
     /// Pushes the pieces of these lengths, `each` of them onto a text.
     pub fn push(&self, text: &str, lengths: &[u32], each: usize) -> u64 {
         on_pieces(self.exports.push, text, lengths, each)
+    }
+
+    /// Pushes texts of so many words onto a rope.
+    pub fn push_rope(&self, words: &Words, pieces: usize) -> u64 {
+        on_pieces(self.exports.push_rope, &words.text, &words.lengths, pieces)
     }
 
     pub fn queue(&self, source: &[u8], calls: usize) -> u64 {
@@ -158,6 +177,22 @@ impl Port {
 
     pub fn slice_and_drop(&self, text: &str, calls: usize) -> u64 {
         repeated(self.exports.slice, text.as_bytes(), calls)
+    }
+
+    /// Makes a rope of so many words, and takes a part at each of these places.
+    pub fn sub_ropes(&self, words: &Words, pieces: usize, places: &[u32]) -> u64 {
+        // SAFETY: as in `on_bytes`, for three slices.
+        unsafe {
+            (self.exports.sub_ropes)(
+                words.text.as_ptr(),
+                words.text.len(),
+                words.lengths.as_ptr(),
+                words.lengths.len(),
+                pieces as u64,
+                places.as_ptr(),
+                places.len(),
+            )
+        }
     }
 
     pub fn tokens(&self, text: &str) -> u64 {

@@ -7,6 +7,7 @@ mod grow;
 mod make;
 mod parse;
 mod queue;
+mod ropes;
 mod runs;
 mod send;
 mod share;
@@ -48,6 +49,10 @@ pub fn all<'a>(inputs: &'a Inputs, ports: &'a [Port]) -> Vec<Workload<'a>> {
         parse::by_search(inputs, ports),
         parse::by_class(inputs, ports),
         parse::multilingual(inputs, ports),
+        ropes::pushes(inputs, ports),
+        ropes::characters(inputs, ports),
+        ropes::parts_of_few(inputs, ports),
+        ropes::parts_of_many(inputs, ports),
         send::short_conversions(ports),
         send::long_conversions(inputs, ports),
         send::short_texts(ports),
