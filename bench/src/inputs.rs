@@ -18,6 +18,11 @@ const MULTILINGUAL: &str = "\
     кодировка العربية صفحة مرحبا עברית שלום दस्तावेज़ हिन्दी नमस्ते 日本語 文字列 漢字 ひらがな カタカナ \
     中文 字符 网页 한국어 문서 ภาษาไทย 🙂 🎉🎊 👩‍👩‍👧 the and of to html in";
 
+const IDEOGRAPHS: &str = "\
+    日本語 文字列 漢字 ひらがな カタカナ 中文 字符 网页 文档 元素 属性 编码 标准 浏览器 解析器";
+
+const PAIRS: &str = "🙂 🎉 🎊 👩 💩 😀 𝔸 𠮷";
+
 const MOSTLY_ENGLISH: &str = "the quick brown fox parser attribute café 中文";
 
 /// Faults of the kinds that real pages have.
@@ -46,6 +51,10 @@ pub struct Inputs {
     pub html: String,
     /// A page in many scripts.
     pub mixed: String,
+    /// Characters of three bytes.
+    pub ideographs: String,
+    /// Characters of four bytes.
+    pub pairs: String,
     /// `mixed` with a fault about each 250 bytes.
     pub broken: Vec<u8>,
     /// Bytes of which nearly each one is a fault.
@@ -77,6 +86,8 @@ impl Inputs {
         let mixed = multilingual(size);
         let words = long_words();
         Inputs {
+            ideographs: row(size, 37, IDEOGRAPHS),
+            pairs: row(size, 41, PAIRS),
             broken: broken(&mixed),
             random: random(size),
             large: page_in_ascii(4 * size),
@@ -130,6 +141,17 @@ fn page(size: usize, seed: u64, words: &str) -> String {
     text.push_str("<!DOCTYPE html>\n<html>\n<body>\n");
     while text.len() < size {
         push_element(&mut text, &mut random, &words);
+    }
+    text
+}
+
+/// Words, one right behind the other, of at least `size` bytes.
+fn row(size: usize, seed: u64, words: &str) -> String {
+    let words: Vec<&str> = words.split(' ').collect();
+    let mut random = Random::new(seed);
+    let mut text = String::with_capacity(size + 64);
+    while text.len() < size {
+        text.push_str(random.pick(&words));
     }
     text
 }

@@ -15,6 +15,7 @@ struct Exports {
     clone: Repeated,
     clone_atomic: Repeated,
     decode: OnBytes,
+    from_units: unsafe extern "C" fn(*const u16, usize, u64) -> u64,
     join: OnPieces,
     keep: OnPieces,
     make: OnPieces,
@@ -29,6 +30,7 @@ struct Exports {
     send: unsafe extern "C" fn(*const u8, usize, u64, u64) -> u64,
     slice: Repeated,
     sub_ropes: OnPlaces,
+    to_units: Repeated,
     tokens: OnBytes,
     validate: OnBytes,
 }
@@ -55,6 +57,7 @@ macro_rules! exports {
             clone(bytes: *const u8, length: usize, calls: u64)
             clone_atomic(bytes: *const u8, length: usize, calls: u64)
             decode(bytes: *const u8, length: usize)
+            from_units(units: *const u16, length: usize, times: u64)
             join(bytes: *const u8, length: usize, lengths: *const u32, count: usize, times: u64)
             keep(bytes: *const u8, length: usize, lengths: *const u32, count: usize, calls: u64)
             make(bytes: *const u8, length: usize, lengths: *const u32, count: usize, calls: u64)
@@ -70,6 +73,7 @@ macro_rules! exports {
             slice(bytes: *const u8, length: usize, calls: u64)
             sub_ropes(bytes: *const u8, length: usize, lengths: *const u32, count: usize, all: u64,
                 places: *const u32, parts: usize)
+            to_units(bytes: *const u8, length: usize, times: u64)
             tokens(bytes: *const u8, length: usize)
             validate(bytes: *const u8, length: usize)
         }
@@ -119,6 +123,12 @@ impl Port {
 
     pub fn decode(&self, bytes: &[u8]) -> u64 {
         on_bytes(self.exports.decode, bytes)
+    }
+
+    /// Makes a text of the units, so many times.
+    pub fn from_units(&self, units: &[u16], times: usize) -> u64 {
+        // SAFETY: as in `on_bytes`.
+        unsafe { (self.exports.from_units)(units.as_ptr(), units.len(), times as u64) }
     }
 
     /// Cuts the text into slices of these lengths, once, and joins each 32 of them, so many times.
@@ -193,6 +203,11 @@ impl Port {
                 places.len(),
             )
         }
+    }
+
+    /// Takes the units of the text, so many times.
+    pub fn to_units(&self, text: &str, times: usize) -> u64 {
+        repeated(self.exports.to_units, text.as_bytes(), times)
     }
 
     pub fn tokens(&self, text: &str) -> u64 {

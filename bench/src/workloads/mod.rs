@@ -12,6 +12,7 @@ mod runs;
 mod send;
 mod share;
 mod threads;
+mod units;
 mod validate;
 
 use crate::inputs::Inputs;
@@ -57,6 +58,14 @@ pub fn all<'a>(inputs: &'a Inputs, ports: &'a [Port]) -> Vec<Workload<'a>> {
         send::long_conversions(inputs, ports),
         send::short_texts(ports),
         send::long_texts(inputs, ports),
+        units::taken_of_ascii(inputs, ports),
+        units::taken_of_multilingual(inputs, ports),
+        units::taken_of_ideographs(inputs, ports),
+        units::taken_of_pairs(inputs, ports),
+        units::made_of_ascii(inputs, ports),
+        units::made_of_multilingual(inputs, ports),
+        units::made_of_ideographs(inputs, ports),
+        units::made_of_pairs(inputs, ports),
         threads::shared(inputs, ports),
         threads::apart(inputs, ports),
     ]

@@ -1,5 +1,5 @@
 //! Ropes of decoded streams.
-ghost use Rattle.std.specs.Prelude.{◌≡◌, ◌≤◌, ◌⊎◌, List, [], None, Some, false, flat_map, chars, IfOk, IfErr};
+ghost use Rattle.std.specs.Prelude.{◌≡◌, ◌≤◌, ◌⊎◌, List, [], None, Some, false, flat_map, length, chars, IfOk, IfErr};
 ghost use Rattle.std.specs.Io.KnownBytes.{IsAtEnd};
 ghost use Rattle.std.specs.Iterator.{IsFiniteIterable, YieldsThen};
 ghost use Rattle.rope_text.specs.Sink.{HasCharacters};
@@ -7,7 +7,7 @@ ghost use Rattle.tendril_text.specs.Texts.{Text};
 ghost use Rattle.tendril_lossy.specs.Lossy.{characters, due};
 ghost use Rattle.tendril_stream.specs.Compositions.{PiecesStop, StandsAt, StreamStops};
 ghost use Rattle.tendril_stream.specs.Readings.{IsOfReading, MakesReads, StopsBetween};
-ghost use Rattle.tendril_stream.specs.Reads.{Reads};
+ghost use Rattle.tendril_stream.specs.Reads.{OneRead, CameToEnd, StopsWith, given};
 
 use crate::rope::Rope;
 use std::alloc::Global;
@@ -46,13 +46,13 @@ pub fn read_rope<A: Atomicity, R: CountedRead>(
     reader: &mut R,
     most: u64,
 ) -> Result<Rope<A>, Stopped<Utf8LossyDecoder<Rope<A>, A>>>
-    ensures ok { IfOk result (λ rope. (these : Reads) × MakesReads R.history R.remaining reader.old these reader.new
-        × IsAtEnd (R.remaining reader.new) × (chars rope.bytes ≡ characters (due these.given))
-        × (these.failed ≡ 0) × (these.empty ≡ 1) × (these.reads ≤ most)) }
-    ensures stopped { IfErr result (λ s. (these : Reads) × MakesReads R.history R.remaining reader.old these reader.new
-        × (IsOfReading s.refusal → StopsBetween most these s.refusal × (these.empty ≡ 0)
+    ensures ok { IfOk result (λ rope. (these : List OneRead) × MakesReads R.history R.remaining reader.old these reader.new
+        × IsAtEnd (R.remaining reader.new) × (chars rope.bytes ≡ characters (due (given these)))
+        × StopsWith CameToEnd these × (length these ≤ most)) }
+    ensures stopped { IfErr result (λ s. (these : List OneRead) × MakesReads R.history R.remaining reader.old these reader.new
+        × (IsOfReading s.refusal → StopsBetween most these s.refusal
         × ((d : _) × (s.sink ≡ Some d) × (d.failed ≡ false)
-        × StandsAt HasCharacters d.inner_sink d.kept these.given))
+        × StandsAt HasCharacters d.inner_sink d.kept (given these)))
         × (IsOfReading s.refusal ⊎ StreamStops ⟦<Rope<A> as TendrilSink<StrTendril<A>>>⟧.takes
         ⟦<Rope<A> as TendrilSink<StrTendril<A>>>⟧.refuses ⟦<Rope<A> as TendrilSink<StrTendril<A>>>⟧.ends
         HasCharacters (λ d. d.inner_sink) (λ d. d.failed) most these s.refusal s.sink)) }
@@ -70,13 +70,13 @@ pub fn rope_from_file<A: Atomicity, F: Files>(
     path: &str,
     most: u64,
 ) -> Result<Rope<A>, Stopped<Utf8LossyDecoder<Rope<A>, A>>>
-    ensures ok { IfOk result (λ rope. (these : Reads) × (chars rope.bytes ≡ characters (due these.given))
-        × (these.failed ≡ 0) × (these.empty ≡ 1) × (these.reads ≤ most)) }
+    ensures ok { IfOk result (λ rope. (these : List OneRead) × (chars rope.bytes ≡ characters (due (given these)))
+        × StopsWith CameToEnd these × (length these ≤ most)) }
     ensures stopped { IfErr result (λ s. ((s.refusal ≡ Refusal.Io)
         × ((d : _) × (s.sink ≡ Some d) × (d.failed ≡ false) × StandsAt HasCharacters d.inner_sink d.kept []))
-        ⊎ ((these : Reads) × (IsOfReading s.refusal → StopsBetween most these s.refusal × (these.empty ≡ 0)
+        ⊎ ((these : List OneRead) × (IsOfReading s.refusal → StopsBetween most these s.refusal
         × ((d : _) × (s.sink ≡ Some d) × (d.failed ≡ false)
-        × StandsAt HasCharacters d.inner_sink d.kept these.given))
+        × StandsAt HasCharacters d.inner_sink d.kept (given these)))
         × (IsOfReading s.refusal ⊎ StreamStops ⟦<Rope<A> as TendrilSink<StrTendril<A>>>⟧.takes
         ⟦<Rope<A> as TendrilSink<StrTendril<A>>>⟧.refuses ⟦<Rope<A> as TendrilSink<StrTendril<A>>>⟧.ends
         HasCharacters (λ d. d.inner_sink) (λ d. d.failed) most these s.refusal s.sink))) }

@@ -114,6 +114,22 @@ impl Body {
         Ok(())
     }
 
+    /// Puts bytes at the end, where exactly `at` bytes stand, more than 40, and there is room for these; whether it was
+    /// done. Asks for no memory.
+    #[inline(always)]
+    pub fn append_at(&mut self, at: usize, more: &[u8]) -> bool
+        ensures bytes { result ≡ true → self.new.bytes ≡ self.old.bytes ++ more.now }
+        ensures took { result ≡ true → self.new.took ≡ self.old.took + length more.now }
+        ensures at { result ≡ true → length self.old.bytes ≡ at }
+        ensures unchanged { result ≡ false → self.new ≡ self.old }
+    {
+        if !self.stored.append_at(at, more) {
+            return false;
+        }
+        self.took = self.took.plus(&self.took, &self.took, more.len());
+        true
+    }
+
     /// Puts so many zeros at the end, in amortized time of their number.
     pub fn append_zeros(&mut self, count: usize) -> Result<(), Refusal>
         ensures bytes { OnOk result (self.new.bytes ≡ self.old.bytes ++ replicate count 0) }

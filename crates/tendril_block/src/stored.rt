@@ -93,6 +93,22 @@ impl Stored {
         Ok(())
     }
 
+    /// Puts bytes at the end, where exactly `at` bytes stand, in a vector that has room for these; whether it was done.
+    #[inline(always)]
+    pub(crate) fn append_at(&mut self, at: usize, more: &[u8]) -> bool
+        ensures bytes { result ≡ true → stored_bytes self.new ≡ stored_bytes self.old ++ more.now }
+        ensures at { result ≡ true → length (stored_bytes self.old) ≡ at }
+        ensures unchanged { result ≡ false → stored_bytes self.new ≡ stored_bytes self.old }
+    {
+        match self {
+            Stored::Large(bytes) if bytes.len() == at && more.len() <= bytes.capacity() - at => {
+                append_reserved(bytes, more);
+                true
+            }
+            _ => false,
+        }
+    }
+
     /// Puts so many zeros at the end.
     pub(crate) fn append_zeros(&mut self, count: usize) -> Result<(), Refusal>
         ensures bytes { OnOk result (stored_bytes self.new ≡ stored_bytes self.old ++ replicate count 0) }

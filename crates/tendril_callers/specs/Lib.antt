@@ -1,3 +1,4 @@
 -- The words of the callers' contracts.
 pub mod Breaks
 pub mod Decoded
+pub mod Lent

@@ -3,9 +3,11 @@
 
 pub mod broken;
 pub mod join;
+pub mod lent;
 pub mod push;
 pub mod resume;
 pub mod two;
+pub mod units;
 pub mod whole;
 pub mod worker;
 pub mod writing;

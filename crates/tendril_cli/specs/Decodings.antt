@@ -1,17 +1,42 @@
 -- What is decoded from the input to the output.
-use Rattle.std.specs.Prelude.{ℕ, ◌≡◌, ◌+◌, ◌<◌, ◌≤◌, ◌⊎◌, List, [], ◌++◌, chars, IsUtf8, Option, Bool, false}
+use Rattle.std.specs.Prelude.{
+  ℕ,
+  ◌≡◌,
+  ◌<◌,
+  ◌≤◌,
+  ◌⊎◌,
+  List,
+  [],
+  ◌∷◌,
+  ◌++◌,
+  length,
+  chars,
+  All,
+  IsUtf8,
+  Option,
+  Bool,
+  false,
+}
 use Rattle.std.specs.Io.KnownBytes.{Appends, Consumes, IsAtEnd}
+use Rattle.tendril_block.specs.Outcomes.{LengthMust, MemoryMay, Refused}
 use Rattle.tendril_block.specs.declared.refusal.Refusal.{Refusal}
 use Rattle.tendril_block.specs.declared.refusal.Refusal.TheVariants.{Count, Io, Memory, SinkRefused, TooManyReads}
 use Rattle.tendril_lossy.specs.Lossy.{characters, due, due_open, kept}
-use Rattle.tendril_stream.specs.Readings.{MakesReads}
-use Rattle.tendril_stream.specs.Reads.{Reads, giving}
+use Rattle.tendril_stream.specs.Reads.{OneRead, Gave, HasFailed, CameToEnd, MayReadOn, StopsWith, given}
+use Rattle.tendril_stream.specs.Sinks.{Sent, Piece, Fault}
 use Rattle.tendril_text.specs.Decoding.{LongPieceMay}
 use Rattle.tendril_cli.specs.Endings.{AppendsFront, complaint}
 
 -- how many reads a program makes at most
 abbrev pub most_reads : ℕ
 most_reads = 1000000000
+
+-- why a text isn't put behind these bytes: they would be too long then, or more than 8 and memory is wanting. No error
+-- is refused.
+abbrev pub JoinRefused : List ℕ → Sent → Refusal → Type 0
+JoinRefused bytes (Piece t) refusal =
+    Refused (LengthMust (length (bytes ++ t.bytes))) (MemoryMay (length (bytes ++ t.bytes))) refusal
+JoinRefused bytes (Fault words) refusal = ⊥
 
 -- a writer that tells its bytes has taken these characters, in UTF-8
 pub record WritesText (characters : List ℕ) (before after : Option (List ℕ)) : Type 0 where
@@ -29,71 +54,49 @@ pub record WritesFrontOfText (characters : List ℕ) (before after : Option (Lis
   pub front : AppendsFront before after bytes
 
 -- all is read, and what is due of it is written; so many reads at most
-pub record Decoded (most : ℕ) (these : Reads) (before after : Option (List ℕ)) : Type 0 where
-  pub writes : WritesText (characters (due these.given)) before after
-  pub failed : these.failed ≡ 0
-  pub empty : these.empty ≡ 1
-  pub within : these.reads ≤ most
+pub record Decoded (most : ℕ) (these : List OneRead) (before after : Option (List ℕ)) : Type 0 where
+  pub writes : WritesText (characters (due (given these))) before after
+  pub ends : StopsWith CameToEnd these
+  pub within : length these ≤ most
 
--- the end isn't read, and what is due of what is read is written
-pub record WritesAll (these : Reads) (before after : Option (List ℕ)) : Type 0 where
-  pub writes : WritesText (characters (due_open these.given)) before after
-  pub empty : these.empty ≡ 0
+-- what is due of these reads is written, before their end
+abbrev pub WritesAll : List OneRead → Option (List ℕ) → Option (List ℕ) → Type 0
+WritesAll these before after = WritesText (characters (due_open (given these))) before after
 
--- or what is due of what is read before some last bytes, of which a text and a rest could be shared no more
-pub record WritesBefore (these : Reads) (before after : Option (List ℕ)) : Type 0 where
-  pub read : List ℕ
+-- or what is due of those before the last, of whose bytes a text and a rest could be shared no more
+pub record WritesBefore (these : List OneRead) (before after : Option (List ℕ)) : Type 0 where
+  pub read : List OneRead
   pub piece : List ℕ
-  pub given : these.given ≡ read ++ piece
+  pub is : these ≡ read ++ Gave piece ∷ []
   pub long : LongPieceMay piece Count
-  pub writes : WritesText (characters (due_open read)) before after
-  pub empty : these.empty ≡ 0
+  pub writes : WritesAll read before after
 
 -- or a front of what is due of all that is read
-abbrev pub WritesUpTo : Reads → Option (List ℕ) → Option (List ℕ) → Option (List ℕ) → Type 0
+abbrev pub WritesUpTo : List OneRead → Option (List ℕ) → Option (List ℕ) → Option (List ℕ) → Type 0
 WritesUpTo these left before after =
-    WritesFrontOfText (characters (due_open these.given)) before after
-    ⊎ (WritesFrontOfText (characters (due these.given)) before after × IsAtEnd left × (these.empty ≡ 1))
+    (WritesFrontOfText (characters (due_open (given these))) before after × All MayReadOn these)
+    ⊎ (WritesFrontOfText (characters (due (given these))) before after × IsAtEnd left × StopsWith CameToEnd these)
 
 -- Where each refusal ends a decoding, and what is written then. No read was left; there was no memory for one that was
 -- left; one failed; a piece could be shared no more; or the rest, of which no clause can say what was in the way.
-abbrev pub DecodeStops : ℕ → Reads → Option (List ℕ) → Option (List ℕ) → Option (List ℕ) → Refusal → Type 0
+abbrev pub DecodeStops : ℕ → List OneRead → Option (List ℕ) → Option (List ℕ) → Option (List ℕ) → Refusal → Type 0
 DecodeStops most these left before after TooManyReads =
-    WritesAll these before after × (these.failed ≡ 0) × (these.reads ≡ most)
+    WritesAll these before after × All MayReadOn these × (length these ≡ most)
 DecodeStops most these left before after Memory =
-    WritesAll these before after × (these.failed ≡ 0) × (these.reads < most)
-DecodeStops most these left before after Io = WritesAll these before after × (these.failed ≡ 1) × (these.reads ≤ most)
+    WritesAll these before after × All MayReadOn these × (length these < most)
+DecodeStops most these left before after Io =
+    WritesAll these before after × StopsWith HasFailed these × (length these ≤ most)
 DecodeStops most these left before after Count =
-    WritesBefore these before after × (these.failed ≡ 0) × (these.reads ≤ most)
-DecodeStops most these left before after SinkRefused =
-    WritesUpTo these left before after × (these.failed ≡ 0) × (these.reads ≤ most)
+    WritesBefore these before after × All MayReadOn these × (length these ≤ most)
+DecodeStops most these left before after SinkRefused = WritesUpTo these left before after × (length these ≤ most)
 DecodeStops most these left before after other = ⊥
 
--- these reads, behind so many that gave b
-abbrev pub behind : List ℕ → ℕ → Reads → Reads
-behind b made these =
-    record { given = b ++ these.given; reads = made + these.reads; failed = these.failed; empty = these.empty }
-
--- Of a piece that could be shared no more nothing is written: one read gave it, and it is long.
-abbrev pub LosesPiece : {R : Type 0} → (R → Reads) → (R → Option (List ℕ)) → R → R → Option (List ℕ) → Option (List ℕ)
-    → Refusal → Type 0
-LosesPiece history remaining old new before after Count =
-    (piece : List ℕ) × MakesReads history remaining old (giving piece) new × LongPieceMay piece Count × (after ≡ before)
-LosesPiece history remaining old new before after other = Unit {0}
-
--- And all that is due of what came before that read is written.
-abbrev pub LosesLastPiece : {R : Type 0} → (R → Reads) → (R → Option (List ℕ)) → R → R → Option (List ℕ)
-    → Option (List ℕ) → Refusal → Type 0
-LosesLastPiece {R} history remaining old new before after Count =
-    (mid : R) × (read : List ℕ) × (made : ℕ) × (piece : List ℕ)
-    × MakesReads history remaining old (record { given = read; reads = made; failed = 0; empty = 0 }) mid
-    × MakesReads history remaining mid (giving piece) new × LongPieceMay piece Count
-    × WritesText (characters (due_open read)) before after
-LosesLastPiece history remaining old new before after other = Unit {0}
-
--- a decoder that hasn't failed and keeps what b leaves open, over a sink that has nothing to be written
-pub record IsReady (b held : List ℕ) (failed : Bool) (unwritten : List ℕ) : Type 0 where
-  pub keeps : held ≡ kept b
+-- What is due of these reads is written. A decoder that hasn't failed keeps what they leave open, over a sink that has
+-- nothing to be written.
+pub record IsReady (these : List OneRead) (before now : Option (List ℕ)) (held : List ℕ) (failed : Bool)
+    (unwritten : List ℕ) : Type 0 where
+  pub writes : WritesAll these before now
+  pub keeps : held ≡ kept (given these)
   pub goes_on : failed ≡ false
   pub empty : unwritten ≡ []
 
@@ -106,8 +109,8 @@ EndsDecoding refusal =
 -- stands. Some reads gave what the reader gave; how many those were, the reader of a program can't tell.
 pub record DecodingEnded (most : ℕ) (input before after told told' : Option (List ℕ)) : Type 0 where
   pub refusal : Refusal
-  pub these : Reads
+  pub these : List OneRead
   pub left : Option (List ℕ)
-  pub gave : Consumes input left these.given
+  pub gave : Consumes input left (given these)
   pub stops : DecodeStops most these left before after refusal
   pub tells : AppendsFront told told' (complaint refusal)

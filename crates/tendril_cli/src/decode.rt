@@ -1,17 +1,17 @@
 //! Decoding of the input to the output.
-ghost use Rattle.std.specs.Prelude.{◌≡◌, ◌<◌, Some, None, false, List, ℕ, Option, ◌++◌, IsUtf8, IfOk, IfErr, OnOk, OnErr, MatchOption};
+ghost use Rattle.std.specs.Prelude.{◌≡◌, ◌<◌, true, false, List, [], ◌∷◌, ◌++◌, ℕ, Option, All, length, IsUtf8, IfOk, IfErr, OnOk, OnErr};
 ghost use Rattle.std.specs.Io.KnownBytes.{Appends, IsAtEnd};
-ghost use Rattle.tendril_lossy.specs.Lossy.{characters, due_open};
+ghost use Rattle.tendril_lossy.specs.Lossy.{characters, due};
 ghost use Rattle.tendril_stream.specs.Readings.{MakesReads};
-ghost use Rattle.tendril_stream.specs.Reads.{Reads, giving};
-ghost use Rattle.tendril_cli.specs.Decodings.{Decoded, DecodeStops, IsReady, LosesLastPiece, LosesPiece, WritesText, behind, most_reads};
+ghost use Rattle.tendril_stream.specs.Reads.{OneRead, CameToEnd, MayReadOn, given};
+ghost use Rattle.tendril_cli.specs.Decodings.{Decoded, DecodeStops, IsReady, WritesFrontOfText, WritesText, most_reads};
 ghost use Rattle.tendril_cli.specs.Endings.{AppendsFront};
 
 use crate::joined::Joined;
 use crate::output::{flush, write_bytes};
 use std::alloc::Global;
 use std::io::Write;
-use tendril_stream::{CountedRead, Stopped, Utf8LossyDecoder, read_from};
+use tendril_stream::{CountedRead, TendrilSink, Utf8LossyDecoder, read_once};
 use tendril_text::StrTendril;
 use tendril_text::block::Refusal;
 
@@ -25,81 +25,71 @@ pub fn decode<R: CountedRead, W: Write>(
     reader: &mut R,
     out: &mut W,
 ) -> Result<(), Refusal>
-    ensures ok { OnOk result ((these : Reads) × MakesReads R.history R.remaining reader.old these reader.new
+    ensures ok { OnOk result ((these : List OneRead) × MakesReads R.history R.remaining reader.old these reader.new
         × IsAtEnd (R.remaining reader.new) × Decoded most_reads these (W.contents out.old) (W.contents out.new)) }
-    ensures stops { IfErr result (λ r. (these : Reads) × MakesReads R.history R.remaining reader.old these reader.new
+    ensures stops { IfErr result (λ r. (these : List OneRead)
+        × MakesReads R.history R.remaining reader.old these reader.new
         × DecodeStops most_reads these (R.remaining reader.new) (W.contents out.old) (W.contents out.new) r) }
-    ensures last { IfErr result (λ r. LosesLastPiece R.history R.remaining reader.old reader.new
-        (W.contents out.old) (W.contents out.new) r) }
 {
     let mut decoder = Utf8LossyDecoder::new(alloc, Joined::new(alloc));
     let mut made = 0;
     while made < MOST_READS {
         made += 1;
-        match decode_read(alloc, decoder, reader, out) {
-            Ok(Some(next)) => decoder = next,
-            Ok(None) => return Ok(()),
+        match decode_read(alloc, &mut decoder, reader, out) {
+            Ok(true) => return decode_end(decoder, out),
+            Ok(false) => {}
             Err(refusal) => return Err(refusal),
         }
     }
     Err(Refusal::TooManyReads)
 }
 
-// Makes one read, and writes what is decoded then. The decoder comes back where there may be more to read.
+// Makes one read, and writes what is decoded then. It answers whether the end came.
 fn decode_read<R: CountedRead, W: Write>(
     alloc: Global,
-    decoder: Utf8LossyDecoder<Joined>,
+    decoder: &mut Utf8LossyDecoder<Joined>,
     reader: &mut R,
     out: &mut W,
-) -> Result<Option<Utf8LossyDecoder<Joined>>, Refusal>
-    ensures ok { (before : Option (List ℕ)) → (b : List ℕ) → (made : ℕ) → made < most_reads
-        → WritesText (characters (due_open b)) before (W.contents out.old)
-        → IsReady b decoder.kept decoder.failed decoder.inner_sink.text.bytes → IfOk result (λ next. MatchOption next
-        ((one : Reads) × MakesReads R.history R.remaining reader.old one reader.new × IsAtEnd (R.remaining reader.new)
-        × Decoded most_reads (behind b made one) before (W.contents out.new))
-        (λ d. (bytes : List ℕ) × MakesReads R.history R.remaining reader.old (giving bytes) reader.new
-        × WritesText (characters (due_open (b ++ bytes))) before (W.contents out.new)
-        × IsReady (b ++ bytes) d.kept d.failed d.inner_sink.text.bytes)) }
-    ensures stops { (before : Option (List ℕ)) → (b : List ℕ) → (made : ℕ) → made < most_reads
-        → WritesText (characters (due_open b)) before (W.contents out.old)
-        → IsReady b decoder.kept decoder.failed decoder.inner_sink.text.bytes → IfErr result (λ r.
-        (one : Reads) × MakesReads R.history R.remaining reader.old one reader.new
-        × DecodeStops most_reads (behind b made one) (R.remaining reader.new) before (W.contents out.new) r) }
-    ensures last { decoder.failed ≡ false → IfErr result (λ r. LosesPiece R.history R.remaining reader.old reader.new
-        (W.contents out.old) (W.contents out.new) r) }
+) -> Result<bool, Refusal>
+    ensures read { (before : Option (List ℕ)) → (these : List OneRead)
+        → IsReady these before (W.contents out.old) decoder.old.kept decoder.old.failed decoder.old.inner_sink.text.bytes
+        → IfOk result (λ ended. ended ≡ false → (one : OneRead) × MayReadOn one
+        × MakesReads R.history R.remaining reader.old (one ∷ []) reader.new × IsReady (these ++ one ∷ []) before
+        (W.contents out.new) decoder.new.kept decoder.new.failed decoder.new.inner_sink.text.bytes) }
+    ensures ended { IfOk result (λ ended. ended ≡ true
+        → MakesReads R.history R.remaining reader.old (CameToEnd ∷ []) reader.new
+        × IsAtEnd (R.remaining reader.new) × (decoder.new ≡ decoder.old) × (out.new ≡ out.old)) }
+    ensures stops { (before : Option (List ℕ)) → (these : List OneRead) → All MayReadOn these → length these < most_reads
+        → IsReady these before (W.contents out.old) decoder.old.kept decoder.old.failed decoder.old.inner_sink.text.bytes
+        → IfErr result (λ r. (more : List OneRead) × MakesReads R.history R.remaining reader.old more reader.new
+        × DecodeStops most_reads (these ++ more) (R.remaining reader.new) before (W.contents out.new) r) }
 {
-    match read_from(alloc, decoder, reader, 1) {
-        Ok(text) => {
-            if let Err(refusal) = write_text(&text, out) {
-                return Err(refusal);
-            }
-            Ok(None)
-        }
-        Err(stopped) => {
-            let mut decoder = match may_read_on(stopped) {
-                Ok(decoder) => decoder,
-                Err(refusal) => return Err(refusal),
-            };
+    match read_once(alloc, decoder, reader) {
+        Ok(true) => Ok(true),
+        Ok(false) => {
             if let Err(refusal) = write_text(&decoder.inner_sink.text, out) {
                 return Err(refusal);
             }
             decoder.inner_sink.text.clear();
-            Ok(Some(decoder))
+            Ok(false)
         }
+        Err(refusal) => Err(refusal),
     }
 }
 
-// The decoder, where reading stopped since no read was left.
-fn may_read_on(
-    stopped: Stopped<Utf8LossyDecoder<Joined>>,
-) -> Result<Utf8LossyDecoder<Joined>, Refusal>
-    ensures ok { IfOk result (λ d. (stopped.refusal ≡ Refusal.TooManyReads) × (stopped.sink ≡ Some d)) }
-    ensures err { IfErr result (λ r. r ≡ stopped.refusal) }
-    ensures none { OnErr result (stopped.refusal ≡ Refusal.TooManyReads → stopped.sink ≡ None) }
+// Ends the stream, and writes what is due of its end.
+fn decode_end<W: Write>(decoder: Utf8LossyDecoder<Joined>, out: &mut W) -> Result<(), Refusal>
+    ensures ok { (before : Option (List ℕ)) → (these : List OneRead)
+        → IsReady these before (W.contents out.old) decoder.kept decoder.failed decoder.inner_sink.text.bytes
+        → OnOk result (WritesText (characters (due (given these))) before (W.contents out.new)) }
+    ensures stops { (before : Option (List ℕ)) → (these : List OneRead)
+        → IsReady these before (W.contents out.old) decoder.kept decoder.failed decoder.inner_sink.text.bytes
+        → IfErr result (λ r. (r ≡ Refusal.SinkRefused)
+        × WritesFrontOfText (characters (due (given these))) before (W.contents out.new)) }
 {
-    match (stopped.refusal, stopped.sink) {
-        (Refusal::TooManyReads, Some(decoder)) => Ok(decoder),
-        (refusal, _) => Err(refusal),
+    match decoder.finish() {
+        Ok(text) => write_text(&text, out),
+        Err(refusal) => Err(refusal),
     }
 }
 

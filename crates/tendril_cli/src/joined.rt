@@ -28,12 +28,13 @@ impl TendrilSink<StrTendril> for Joined {
     ghost use Rattle.std.specs.Prelude.{◌≡◌, ◌++◌, chars};
     ghost use Rattle.tendril_lossy.specs.Lossy.{characters};
     ghost use Rattle.tendril_stream.specs.Sinks.{told_of};
+    ghost use Rattle.tendril_cli.specs.Decodings.{JoinRefused};
 
     type Output = StrTendril;
 
     ghost takes = { λ a e b. chars b.text.bytes ≡ chars a.text.bytes ++ characters (told_of e) };
 
-    ghost refuses = { λ a e r b. b.text.bytes ≡ a.text.bytes };
+    ghost refuses = { λ a e r b. (b.text.bytes ≡ a.text.bytes) × JoinRefused a.text.bytes e r };
 
     ghost finishes = { λ a out. out.bytes ≡ a.text.bytes };
 

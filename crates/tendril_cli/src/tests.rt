@@ -3,6 +3,7 @@
 mod arguments;
 mod decoding;
 mod requests;
+mod writers;
 
 use crate::program::program;
 use std::alloc::Global;

@@ -12,4 +12,6 @@ pub mod Seams
 pub mod Sequences
 pub mod Splits
 pub mod Unique
+pub mod UnitCounts
+pub mod UnitSplits
 pub mod Wtf8Joins

@@ -19,7 +19,7 @@ flat-append : (xs ys : List ℕ) → flat_map encode_utf16 (xs ++ ys) ≡ flat_m
 flat-append [] ys = refl
 flat-append (x ∷ xs) ys = ap (λ l. encode_utf16 x ++ l) (flat-append xs ys) ∙ sym (append_assoc (encode_utf16 x) (flat_map encode_utf16 xs) (flat_map encode_utf16 ys))
 
-units_of : (cs : List ℕ) → AreUnpaired cs → units (encode_utf8_all cs) ≡ flat_map encode_utf16 cs
+pub units_of : (cs : List ℕ) → AreUnpaired cs → units (encode_utf8_all cs) ≡ flat_map encode_utf16 cs
 units_of cs h = ap (flat_map encode_utf16) (chars-code_points cs (AreUnpaired-points cs h))
 
 join_points : (cs ds es : List ℕ) → AreUnpaired cs → AreUnpaired ds → AreUnpaired es → flat_map encode_utf16 cs ++ flat_map encode_utf16 ds ≡ flat_map encode_utf16 es
@@ -107,7 +107,7 @@ join_surrogates l r front rest u v h k a b c d e f =
 abbrev pub NoneMeet : List ℕ → List ℕ → Type 0
 NoneMeet l r = (u v : ℕ) → 0xD800 ≤ u → u < 0xDC00 → 0xDC00 ≤ v → v < 0xE000 → EndsWithCodePoint l u → BeginsWithCodePoint r v → ⊥
 
-surrogates_of : (u v : ℕ) → (is_high_surrogate u && is_low_surrogate v) ≡ true → (0xD800 ≤ u) × (u < 0xDC00) × (0xDC00 ≤ v) × (v < 0xE000)
+pub surrogates_of : (u v : ℕ) → (is_high_surrogate u && is_low_surrogate v) ≡ true → (0xD800 ≤ u) × (u < 0xDC00) × (0xDC00 ≤ v) × (v < 0xE000)
 surrogates_of u v e = (grind (arith, nat_tests), grind (arith, nat_tests), grind (arith, nat_tests), grind (arith, nat_tests))
 
 apart_where_none_meet : (l r : List ℕ) → NoneMeet l r → (front : List ℕ) (d : ℕ) (ds : List ℕ) → l ≡ front ++ encode_utf8 d → encode_utf8_all ds ≡ r → IsApart d ds

@@ -13,6 +13,7 @@ mod latin1;
 mod local;
 mod subset;
 mod theorems;
+mod units;
 mod utf8;
 mod wtf8;
 
@@ -26,5 +27,6 @@ pub use latin1::Latin1;
 pub use local::{utf8_ends, wtf8_ends};
 pub use subset::SubsetOf;
 pub use theorems::laws;
+pub use units::{Wtf8Units, decode_wtf8, encode_wtf8, wtf8_len};
 pub use utf8::UTF8;
 pub use wtf8::WTF8;

@@ -8,7 +8,7 @@ ghost use Rattle.tendril_fmt.specs.CodePoints.{IsContinuation, AreContinuations}
 
 mod decode;
 
-pub(crate) use decode::{decode, split_code_point};
+pub(crate) use decode::{decode, split_code_point, split_text};
 use decode::{is_continuation, sequence_len_of};
 
 /// What a sequence of bytes means, whole or in part.

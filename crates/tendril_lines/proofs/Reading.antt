@@ -1,88 +1,63 @@
-use Rattle.std.proofs.Common.{ℕ, ◌≡◌, ◌↔◌, List, ◌∷◌, Option, Some, None, refl, Result, Ok, Err}
-use Rattle.std.specs.Result.{IfOk}
+use Rattle.std.proofs.Common.{◌≡◌, ◌↔◌, ℕ, List, [], ◌∷◌, Option, Some, None, Result, Ok, Err, true, false, bytes_eq, refl, sym, subst, ◌∙◌, arith}
+use Rattle.std.proofs.lemmas.Grind.{common_steps}
 use Rattle.std.specs.Option.{MatchOption, IsSomeAnd}
-use Rattle.tendril_lines.specs.Lines.{AreWords, words_of}
-use Rattle.tendril_lines.specs.Verbs.{ReadsCommand, verb_name}
+use Rattle.std.specs.Result.{IfOk}
+use Rattle.tendril_lines.specs.Lines.{Word, verb, verb_name, AreWords, words_of}
 use Rattle.tendril_lines.specs.declared.command.Command.{Command}
-use Rattle.tendril_lines.specs.declared.command.Command.TheVariants.{New, FromBytes, PushBytes, PushTendril, PushChar, PushZeros, Slice, PopFront, PopBack, PopChar, PopRun, Clone, Clear, Reserve, Reinterpret, ToSuperset, ToSubset, WriteByte, Compare, Text, ThroughSend, Drop}
-use Rattle.tendril_lines.specs.declared.words.Verb.{Verb}
-use Rattle.tendril_lines.specs.declared.words.Verb.TheVariants as verb
+use Rattle.tendril_lines.specs.declared.command.Command.TheVariants.{New}
+use Rattle.tendril_lines.specs.declared.line.Verb.{Verb}
 
--- what `map` makes of a reader's answer, where the reader answers just the values of which P holds
-pub taken : {A : Type 0} (P : A → Type 0) (F : A → Command) (Q : A → Command → Type 0) (found : Option A) (r : Option Command) → ((x : A) (y : Command) → Q x y → y ≡ F x) → ((x : A) → (found ≡ Some x) ↔ P x) → MatchOption found (r ≡ None) (λ x. IsSomeAnd r (Q x)) → (c : Command) → (r ≡ Some c) ↔ ((x : A) × (c ≡ F x) × P x)
-taken P F Q None r made reads h c = (λ e. cc, λ (x, e, p). let k : None ≡ Some x = (reads x).1 p in cc)
-taken P F Q (Some x) None made reads h c = absurd h
-taken P F Q (Some x) (Some y) made reads h c = (
-  λ e. let k : y ≡ F x = made x y h in let l : c ≡ F x = cc in (x, l, (reads x).0 refl),
-  λ (x', e, p). let k : y ≡ F x = made x y h in let l : Some x ≡ Some x' = (reads x').1 p in cc,
+same_word : (word : List ℕ) → bytes_eq word word ≡ true
+same_word [] = refl
+same_word (b ∷ word) = grind (arith, common_steps, same_word word)
+
+-- two words that differ aren't one
+pub another : {X : Type 0} {verb other : List ℕ} → verb ≡ other → bytes_eq verb other ≡ false → X
+another {X} {verb} {other} is apart =
+    let k : true ≡ false = sym (same_word verb) ∙ subst (λ word. bytes_eq verb word ≡ false) (sym is) apart in cc
+
+-- if this verb begins the words of a command, that is one of these
+abbrev pub OnlyAfter : {A : Type 0} → Verb → List (List ℕ) → (A → Command) → Command → Type 0
+OnlyAfter {A} v args F c = AreWords (words_of c) (verb_name v ∷ args) → (x : A) × (c ≡ F x)
+
+-- the commands of a verb, where what reads the words after it is exact, and the verb is no other command's
+pub read_after : {A : Type 0} (v : Verb) (args : List (List ℕ)) (after : A → List Word) (F : A → Command) (Q : A → Command → Type 0) (found : Option A) (r : Option Command)
+    → ((x : A) → words_of (F x) ≡ verb v ∷ after x)
+    → ((c : Command) → OnlyAfter v args F c)
+    → ((x : A) (y : Command) → Q x y → y ≡ F x)
+    → ((x : A) → (found ≡ Some x) ↔ AreWords (after x) args)
+    → MatchOption found (r ≡ None) (λ x. IsSomeAnd r (Q x))
+    → (c : Command) → (r ≡ Some c) ↔ AreWords (words_of c) (verb_name v ∷ args)
+read_after v args after F Q None r words only made reads h c = (
+  λ e. cc,
+  λ are. let (x, is) = only c are in
+      let these : AreWords (verb v ∷ after x) (verb_name v ∷ args) = subst (λ ws. AreWords ws (verb_name v ∷ args)) (words x) (subst (λ c. AreWords (words_of c) (verb_name v ∷ args)) is are) in
+      let k : None ≡ Some x = (reads x).1 these.1 in cc,
 )
+read_after v args after F Q (Some x) None words only made reads h c = absurd h
+read_after v args after F Q (Some x) (Some y) words only made reads h c =
+    let k : y ≡ F x = made x y h in (
+      λ e. let l : c ≡ F x = cc in rw (l, words x) (refl, (reads x).0 refl),
+      λ are. let (x', is) = only c are in
+          let these : AreWords (verb v ∷ after x') (verb_name v ∷ args) = subst (λ ws. AreWords ws (verb_name v ∷ args)) (words x') (subst (λ c. AreWords (words_of c) (verb_name v ∷ args)) is are) in
+          let l : Some x ≡ Some x' = (reads x').1 these.1 in cc,
+    )
 
--- a command's words are a verb and the words after it
-pub to_verb : (c : Command) (word : List ℕ) (args : List (List ℕ)) → AreWords (words_of c) (word ∷ args) → (v : Verb) × (word ≡ verb_name v) × ReadsCommand v args c
-to_verb (New kind) word args h = (verb.New, h.0, (kind, refl, h.1))
-to_verb (FromBytes kind b) word args h = (verb.From, h.0, ((kind, b), refl, h.1))
-to_verb (PushBytes slot b) word args h = (verb.Push, h.0, ((slot, b), refl, h.1))
-to_verb (PushTendril to from) word args h = (verb.Join, h.0, ((to, from), refl, h.1))
-to_verb (PushChar slot c) word args h = (verb.Char, h.0, ((slot, c), refl, h.1))
-to_verb (PushZeros slot count) word args h = (verb.Zeros, h.0, ((slot, count), refl, h.1))
-to_verb (Slice slot offset length) word args h = (verb.Slice, h.0, ((slot, offset, length), refl, h.1))
-to_verb (PopFront slot count) word args h = (verb.Front, h.0, ((slot, count), refl, h.1))
-to_verb (PopBack slot count) word args h = (verb.Back, h.0, ((slot, count), refl, h.1))
-to_verb (PopChar slot) word args h = (verb.Pop, h.0, (slot, refl, h.1))
-to_verb (PopRun slot) word args h = (verb.Run, h.0, (slot, refl, h.1))
-to_verb (Clone slot) word args h = (verb.Clone, h.0, (slot, refl, h.1))
-to_verb (Clear slot) word args h = (verb.Clear, h.0, (slot, refl, h.1))
-to_verb (Reserve slot more) word args h = (verb.Reserve, h.0, ((slot, more), refl, h.1))
-to_verb (Reinterpret slot kind) word args h = (verb.As, h.0, ((slot, kind), refl, h.1))
-to_verb (ToSuperset slot kind) word args h = (verb.Up, h.0, ((slot, kind), refl, h.1))
-to_verb (ToSubset slot kind) word args h = (verb.Down, h.0, ((slot, kind), refl, h.1))
-to_verb (WriteByte slot index b) word args h = (verb.Set, h.0, ((slot, index, b), refl, h.1))
-to_verb (Compare first second) word args h = (verb.Compare, h.0, ((first, second), refl, h.1))
-to_verb (Text slot) word args h = (verb.Text, h.0, (slot, refl, h.1))
-to_verb (ThroughSend slot) word args h = (verb.Send, h.0, (slot, refl, h.1))
-to_verb (Drop slot) word args h = (verb.Drop, h.0, (slot, refl, h.1))
+-- a command's words begin with a verb
+begins : (c : Command) → (v : Verb) × (rest : List Word) × (words_of c ≡ verb v ∷ rest)
+begins (New kind) = (_, _, refl)
+begins other = (_, _, refl)
 
-pub from_verb : (v : Verb) (args : List (List ℕ)) (c : Command) → ReadsCommand v args c → AreWords (words_of c) (verb_name v ∷ args)
-from_verb verb.New args c (x, e, p) = rw e (refl, p)
-from_verb verb.From args c (x, e, p) = rw e (refl, p)
-from_verb verb.Push args c (x, e, p) = rw e (refl, p)
-from_verb verb.Join args c (x, e, p) = rw e (refl, p)
-from_verb verb.Char args c (x, e, p) = rw e (refl, p)
-from_verb verb.Zeros args c (x, e, p) = rw e (refl, p)
-from_verb verb.Slice args c (x, e, p) = rw e (refl, p)
-from_verb verb.Front args c (x, e, p) = rw e (refl, p)
-from_verb verb.Back args c (x, e, p) = rw e (refl, p)
-from_verb verb.Pop args c (x, e, p) = rw e (refl, p)
-from_verb verb.Run args c (x, e, p) = rw e (refl, p)
-from_verb verb.Clone args c (x, e, p) = rw e (refl, p)
-from_verb verb.Clear args c (x, e, p) = rw e (refl, p)
-from_verb verb.Reserve args c (x, e, p) = rw e (refl, p)
-from_verb verb.As args c (x, e, p) = rw e (refl, p)
-from_verb verb.Up args c (x, e, p) = rw e (refl, p)
-from_verb verb.Down args c (x, e, p) = rw e (refl, p)
-from_verb verb.Set args c (x, e, p) = rw e (refl, p)
-from_verb verb.Compare args c (x, e, p) = rw e (refl, p)
-from_verb verb.Text args c (x, e, p) = rw e (refl, p)
-from_verb verb.Send args c (x, e, p) = rw e (refl, p)
-from_verb verb.Drop args c (x, e, p) = rw e (refl, p)
+begun : (c : Command) (word : List ℕ) (args : List (List ℕ)) → AreWords (words_of c) (word ∷ args) → (v : Verb) × (word ≡ verb_name v)
+begun c word args are = let (v, rest, is) = begins c in
+    let these : AreWords (verb v ∷ rest) (word ∷ args) = subst (λ ws. AreWords ws (word ∷ args)) is are in (v, these.0)
 
--- a reader's answer after its verb is the words' command
-pub joined : (word : List ℕ) (args : List (List ℕ)) (v : Verb) (answer : Option Verb) (found : Option Command) → answer ≡ Some v → ((u : Verb) → (answer ≡ Some u) ↔ (word ≡ verb_name u)) → ((c : Command) → (found ≡ Some c) ↔ ReadsCommand v args c) → (c : Command) → (found ≡ Some c) ↔ AreWords (words_of c) (word ∷ args)
-joined word args v answer found is verbs reads c = (
-  λ e. rw ((verbs v).0 is) (from_verb v args c ((reads c).0 e)),
-  λ h. let (u, at, found_so) = to_verb c word args h in
-      let k : answer ≡ Some u = (verbs u).1 at in
-      let same : u ≡ v = cc in
-      (reads c).1 (rw same at found_so),
-)
+-- what is read after a verb that the first word is, is the words' command
+pub joined_ok : {E : Type 0} (word : List ℕ) (args : List (List ℕ)) (v : Verb) (answer : Option Verb) (r : Result (Option Command) E) → answer ≡ Some v → ((u : Verb) → (answer ≡ Some u) ↔ (word ≡ verb_name u)) → IfOk r (λ found. (c : Command) → (found ≡ Some c) ↔ AreWords (words_of c) (verb_name v ∷ args)) → IfOk r (λ found. (c : Command) → (found ≡ Some c) ↔ AreWords (words_of c) (word ∷ args))
+joined_ok word args v answer (Ok found) is verbs reads = rw ((verbs v).0 is) reads
+joined_ok word args v answer (Err e) is verbs reads = tt
 
 -- and without a verb there is none
 pub no_verb : (word : List ℕ) (args : List (List ℕ)) (answer : Option Verb) → answer ≡ None → ((u : Verb) → (answer ≡ Some u) ↔ (word ≡ verb_name u)) → (c : Command) → AreWords (words_of c) (word ∷ args) → ⊥
-no_verb word args answer is verbs c h =
-    let (u, at, found_so) = to_verb c word args h in
-    let k : answer ≡ Some u = (verbs u).1 at in
-    cc
-
-pub joined_ok : {E : Type 0} (word : List ℕ) (args : List (List ℕ)) (v : Verb) (answer : Option Verb) (r : Result (Option Command) E) → answer ≡ Some v → ((u : Verb) → (answer ≡ Some u) ↔ (word ≡ verb_name u)) → IfOk r (λ found. (c : Command) → (found ≡ Some c) ↔ ReadsCommand v args c) → IfOk r (λ found. (c : Command) → (found ≡ Some c) ↔ AreWords (words_of c) (word ∷ args))
-joined_ok word args v answer (Ok found) is verbs reads = joined word args v answer found is verbs reads
-joined_ok word args v answer (Err e) is verbs reads = tt
+no_verb word args answer is verbs c are = let (v, at) = begun c word args are in
+    let k : answer ≡ Some v = (verbs v).1 at in cc

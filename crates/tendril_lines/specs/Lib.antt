@@ -1,5 +1,4 @@
 -- The words of the contracts on lines.
 pub mod Names
 pub mod Lines
-pub mod Verbs
 pub mod Printed

@@ -26,26 +26,61 @@ use Rattle.tendril_lines.specs.declared.command.Command.TheVariants.{
   Text,
   ThroughSend,
   Drop,
+  FromUnits,
+  Units,
 }
-use Rattle.tendril_words.specs.Words.{words, IsNumber, IsCharWord, IsHex, IsByteWord}
+use Rattle.tendril_lines.specs.declared.line.Verb.{Verb}
+use Rattle.tendril_lines.specs.declared.line.Verb.TheVariants as verbs
+use Rattle.tendril_words.specs.Words.{words, IsNumber, IsLongNumber, IsCharWord, IsHex, IsByteWord, IsUnits}
+
+-- the first word of a command's line
+abbrev pub verb_name : Verb → List ℕ
+verb_name verbs.New = codes "new"
+verb_name verbs.From = codes "from"
+verb_name verbs.Push = codes "push"
+verb_name verbs.Join = codes "join"
+verb_name verbs.Char = codes "char"
+verb_name verbs.Zeros = codes "zeros"
+verb_name verbs.Slice = codes "slice"
+verb_name verbs.Front = codes "front"
+verb_name verbs.Back = codes "back"
+verb_name verbs.Pop = codes "pop"
+verb_name verbs.Run = codes "run"
+verb_name verbs.Clone = codes "clone"
+verb_name verbs.Clear = codes "clear"
+verb_name verbs.Reserve = codes "reserve"
+verb_name verbs.As = codes "as"
+verb_name verbs.Up = codes "up"
+verb_name verbs.Down = codes "down"
+verb_name verbs.Set = codes "set"
+verb_name verbs.Compare = codes "cmp"
+verb_name verbs.Text = codes "text"
+verb_name verbs.Send = codes "send"
+verb_name verbs.Drop = codes "drop"
+verb_name verbs.From16 = codes "from16"
+verb_name verbs.Units = codes "units"
 
 -- what a word of a line stands for
 pub data Word : Type 0 where
-  name : List ℕ → Word
+  verb : Verb → Word
   number : ℕ → Word
+  long : ℕ → Word
   scalar : ℕ → Word
   format : Kind → Word
   bytes : List ℕ → Word
   byte : ℕ → Word
+  units : List ℕ → Word
 
--- the word that stands for it: a name for itself
+-- the word that stands for it
 abbrev pub IsWord : Word → List ℕ → Type 0
-IsWord (name text) word = word ≡ text
+IsWord (verb v) word = word ≡ verb_name v
 IsWord (number n) word = IsNumber n word
+IsWord (long n) word = IsLongNumber n word
 IsWord (scalar c) word = IsCharWord c word
 IsWord (format kind) word = word ≡ kind_name kind
 IsWord (bytes b) word = IsHex b word
 IsWord (byte b) word = IsByteWord b word
+IsWord (units us) word = IsUnits us word
 
 -- one word each, and no more
 abbrev pub AreWords : List Word → List (List ℕ) → Type 0
@@ -56,28 +91,30 @@ AreWords (x ∷ xs) [] = ⊥
 
 -- the words of a command
 abbrev pub words_of : Command → List Word
-words_of (New kind) = name (codes "new") ∷ format kind ∷ []
-words_of (FromBytes kind b) = name (codes "from") ∷ format kind ∷ bytes b ∷ []
-words_of (PushBytes slot b) = name (codes "push") ∷ number slot ∷ bytes b ∷ []
-words_of (PushTendril to from) = name (codes "join") ∷ number to ∷ number from ∷ []
-words_of (PushChar slot c) = name (codes "char") ∷ number slot ∷ scalar c ∷ []
-words_of (PushZeros slot count) = name (codes "zeros") ∷ number slot ∷ number count ∷ []
-words_of (Slice slot offset length) = name (codes "slice") ∷ number slot ∷ number offset ∷ number length ∷ []
-words_of (PopFront slot count) = name (codes "front") ∷ number slot ∷ number count ∷ []
-words_of (PopBack slot count) = name (codes "back") ∷ number slot ∷ number count ∷ []
-words_of (PopChar slot) = name (codes "pop") ∷ number slot ∷ []
-words_of (PopRun slot) = name (codes "run") ∷ number slot ∷ []
-words_of (Clone slot) = name (codes "clone") ∷ number slot ∷ []
-words_of (Clear slot) = name (codes "clear") ∷ number slot ∷ []
-words_of (Reserve slot more) = name (codes "reserve") ∷ number slot ∷ number more ∷ []
-words_of (Reinterpret slot kind) = name (codes "as") ∷ number slot ∷ format kind ∷ []
-words_of (ToSuperset slot kind) = name (codes "up") ∷ number slot ∷ format kind ∷ []
-words_of (ToSubset slot kind) = name (codes "down") ∷ number slot ∷ format kind ∷ []
-words_of (WriteByte slot index b) = name (codes "set") ∷ number slot ∷ number index ∷ byte b ∷ []
-words_of (Compare first second) = name (codes "cmp") ∷ number first ∷ number second ∷ []
-words_of (Text slot) = name (codes "text") ∷ number slot ∷ []
-words_of (ThroughSend slot) = name (codes "send") ∷ number slot ∷ []
-words_of (Drop slot) = name (codes "drop") ∷ number slot ∷ []
+words_of (New kind) = verb verbs.New ∷ format kind ∷ []
+words_of (FromBytes kind b) = verb verbs.From ∷ format kind ∷ bytes b ∷ []
+words_of (PushBytes slot b) = verb verbs.Push ∷ number slot ∷ bytes b ∷ []
+words_of (PushTendril to from) = verb verbs.Join ∷ number to ∷ number from ∷ []
+words_of (PushChar slot c) = verb verbs.Char ∷ number slot ∷ scalar c ∷ []
+words_of (PushZeros slot count) = verb verbs.Zeros ∷ number slot ∷ number count ∷ []
+words_of (Slice slot offset length) = verb verbs.Slice ∷ number slot ∷ number offset ∷ number length ∷ []
+words_of (PopFront slot count) = verb verbs.Front ∷ number slot ∷ number count ∷ []
+words_of (PopBack slot count) = verb verbs.Back ∷ number slot ∷ number count ∷ []
+words_of (PopChar slot) = verb verbs.Pop ∷ number slot ∷ []
+words_of (PopRun slot) = verb verbs.Run ∷ number slot ∷ []
+words_of (Clone slot) = verb verbs.Clone ∷ number slot ∷ []
+words_of (Clear slot) = verb verbs.Clear ∷ number slot ∷ []
+words_of (Reserve slot more) = verb verbs.Reserve ∷ number slot ∷ number more ∷ []
+words_of (Reinterpret slot kind) = verb verbs.As ∷ number slot ∷ format kind ∷ []
+words_of (ToSuperset slot kind) = verb verbs.Up ∷ number slot ∷ format kind ∷ []
+words_of (ToSubset slot kind) = verb verbs.Down ∷ number slot ∷ format kind ∷ []
+words_of (WriteByte slot index b) = verb verbs.Set ∷ number slot ∷ number index ∷ byte b ∷ []
+words_of (Compare first second) = verb verbs.Compare ∷ number first ∷ number second ∷ []
+words_of (Text slot) = verb verbs.Text ∷ number slot ∷ []
+words_of (ThroughSend slot) = verb verbs.Send ∷ number slot ∷ []
+words_of (Drop slot) = verb verbs.Drop ∷ number slot ∷ []
+words_of (FromUnits us) = verb verbs.From16 ∷ units us ∷ []
+words_of (Units slot) = verb verbs.Units ∷ number slot ∷ []
 
 -- the line is the command's
 abbrev pub IsLine : Command → List ℕ → Type 0

@@ -4,8 +4,17 @@ use Rattle.std.specs.Fmt.{decimal}
 use Rattle.tendril_block.specs.Refusals.{number_of, name_of}
 use Rattle.tendril_lines.specs.Names.{kind_name, comparison_name}
 use Rattle.tendril_lines.specs.declared.command.Reply.{Reply}
-use Rattle.tendril_lines.specs.declared.command.Reply.TheVariants.{Done, Made, Char, Run, Compared, Text, Refused}
-use Rattle.tendril_words.specs.Words.{hex_text}
+use Rattle.tendril_lines.specs.declared.command.Reply.TheVariants.{
+  Done,
+  Made,
+  Char,
+  Run,
+  Compared,
+  Text,
+  Units,
+  Refused,
+}
+use Rattle.tendril_words.specs.Words.{hex_text, big_endian}
 
 -- a reply's line
 abbrev pub printed : Reply → List ℕ
@@ -17,4 +26,5 @@ printed (Run None) = codes "none"
 printed (Run (Some (slot, class))) = codes "run " ++ decimal slot ++ codes " " ++ decimal class
 printed (Compared comparison) = comparison_name comparison
 printed (Text kind b) = kind_name kind ++ codes " " ++ hex_text b
+printed (Units us) = codes "units " ++ hex_text (big_endian us)
 printed (Refused r) = codes "refused " ++ decimal (number_of r) ++ codes " " ++ name_of r

@@ -1,7 +1,7 @@
 //! What a table is asked, and what it answers.
 
 use tendril_block::Refusal;
-use tendril_words::ByteList;
+use tendril_words::{ByteList, UnitList};
 
 /// A format, by its name.
 #[derive(Clone, Copy, Debug, PartialEq, Eq)]
@@ -70,6 +70,10 @@ pub enum Command {
     ThroughSend(usize),
     /// The slot is gone for good. Its number isn't used again.
     Drop(usize),
+    /// A new slot with the text of these 16-bit units, in WTF-8.
+    FromUnits(UnitList),
+    /// The 16-bit units of the slot's text, which is in WTF-8.
+    Units(usize),
 }
 
 /// What is answered to a command.
@@ -87,6 +91,8 @@ pub enum Reply {
     Compared(Comparison),
     /// The text.
     Text(Kind, ByteList),
+    /// The units of the text.
+    Units(UnitList),
     /// It is refused, and nothing has changed.
     Refused(Refusal),
 }

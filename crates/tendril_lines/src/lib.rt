@@ -11,4 +11,5 @@ mod words;
 pub use command::{Command, Comparison, Kind, Reply};
 pub use line::parse_line;
 pub use reply::print_reply;
-pub use tendril_words::ByteList;
+pub use tendril_words::{ByteList, UnitList};
+pub use words::{one_number, two_slots};

@@ -1,16 +1,44 @@
 //! The lines of commands.
-ghost use Rattle.std.specs.Prelude.{◌≡◌, ◌↔◌, ℕ, map, Some, IfOk, IfErr};
-ghost use Rattle.tendril_lines.specs.Lines.{AreWords, IsLine, words_of};
-ghost use Rattle.tendril_lines.specs.Verbs.{ReadsCommand};
+ghost use Rattle.std.specs.Prelude.{◌≡◌, ◌↔◌, ◌∷◌, ℕ, map, Some, IfOk, IfErr};
+ghost use Rattle.tendril_lines.specs.Lines.{AreWords, IsLine, verb_name, words_of};
 
 use crate::command::Command;
 use crate::words::{
-    Verb, kind_and_bytes, number_and_bytes, number_and_char, number_and_kind, one_kind, one_number,
-    three_numbers, two_numbers, two_numbers_and_byte, two_slots, verb_of,
+    kind_and_bytes, number_and_bytes, number_and_char, number_and_kind, one_kind, one_number,
+    three_numbers, two_numbers, two_numbers_and_byte, two_slots, units_alone,
 };
 use std::alloc::{AllocError, Global};
 use tendril_block::Refusal;
 use tendril_words::split_words;
+
+// The first word of a command's line.
+#[derive(Clone, Copy, Debug, PartialEq, Eq)]
+enum Verb {
+    New,
+    From,
+    Push,
+    Join,
+    Char,
+    Zeros,
+    Slice,
+    Front,
+    Back,
+    Pop,
+    Run,
+    Clone,
+    Clear,
+    Reserve,
+    As,
+    Up,
+    Down,
+    Set,
+    Compare,
+    Text,
+    Send,
+    Drop,
+    From16,
+    Units,
+}
 
 /// The command of a line without its line feed, or `None` where no command has this line.
 ///
@@ -18,7 +46,7 @@ use tendril_words::split_words;
 /// 4294967295 without leading zeros; bytes are hexadecimal digits in either case, or `-` for none:
 /// `new F`, `from F H`, `push S H`, `join S S`, `char S C`, `zeros S N`, `slice S O L`, `front S N`, `back S N`,
 /// `pop S`, `run S`, `clone S`, `clear S`, `reserve S N`, `as S F`, `up S F`, `down S F`, `set S I H` (one byte),
-/// `cmp S S`, `text S`, `send S`, `drop S`.
+/// `cmp S S`, `text S`, `send S`, `drop S`, `from16 U` (four digits a 16-bit unit, or `-`), `units S`.
 pub fn parse_line(alloc: Global, line: &[u8]) -> Result<Option<Command>, Refusal>
     ensures found { IfOk result (λ found. (c : _) → (found ≡ Some c) ↔ IsLine c line.now) }
     ensures refusal { IfErr result (λ r. r ≡ Refusal.Memory) }
@@ -39,9 +67,43 @@ fn read_words(alloc: Global, words: &[&[u8]]) -> Result<Option<Command>, AllocEr
     read(alloc, verb, arguments)
 }
 
+// The verb of a word.
+fn verb_of(word: &[u8]) -> Option<Verb>
+    ensures { (verb : _) → (result ≡ Some verb) ↔ (word.now ≡ verb_name verb) }
+{
+    match word {
+        b"new" => Some(Verb::New),
+        b"from" => Some(Verb::From),
+        b"push" => Some(Verb::Push),
+        b"join" => Some(Verb::Join),
+        b"char" => Some(Verb::Char),
+        b"zeros" => Some(Verb::Zeros),
+        b"slice" => Some(Verb::Slice),
+        b"front" => Some(Verb::Front),
+        b"back" => Some(Verb::Back),
+        b"pop" => Some(Verb::Pop),
+        b"run" => Some(Verb::Run),
+        b"clone" => Some(Verb::Clone),
+        b"clear" => Some(Verb::Clear),
+        b"reserve" => Some(Verb::Reserve),
+        b"as" => Some(Verb::As),
+        b"up" => Some(Verb::Up),
+        b"down" => Some(Verb::Down),
+        b"set" => Some(Verb::Set),
+        b"cmp" => Some(Verb::Compare),
+        b"text" => Some(Verb::Text),
+        b"send" => Some(Verb::Send),
+        b"drop" => Some(Verb::Drop),
+        b"from16" => Some(Verb::From16),
+        b"units" => Some(Verb::Units),
+        _ => None,
+    }
+}
+
 // The command of a verb and the words after it.
 fn read(alloc: Global, verb: Verb, arguments: &[&[u8]]) -> Result<Option<Command>, AllocError>
-    ensures { IfOk result (λ found. (c : _) → (found ≡ Some c) ↔ ReadsCommand verb (map (λ word. word.now) arguments.now) c) }
+    ensures { IfOk result (λ found. (c : _) → (found ≡ Some c)
+        ↔ AreWords (words_of c) (verb_name verb ∷ map (λ word. word.now) arguments.now)) }
 {
     match verb {
         Verb::New => Ok(one_kind(arguments).map(|kind| Command::New(kind))),
@@ -92,5 +154,7 @@ fn read(alloc: Global, verb: Verb, arguments: &[&[u8]]) -> Result<Option<Command
         Verb::Text => Ok(one_number(arguments).map(|slot| Command::Text(slot))),
         Verb::Send => Ok(one_number(arguments).map(|slot| Command::ThroughSend(slot))),
         Verb::Drop => Ok(one_number(arguments).map(|slot| Command::Drop(slot))),
+        Verb::From16 => Ok(units_alone(alloc, arguments)?.map(|units| Command::FromUnits(units))),
+        Verb::Units => Ok(one_number(arguments).map(|slot| Command::Units(slot))),
     }
 }

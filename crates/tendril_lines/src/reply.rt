@@ -7,10 +7,11 @@ ghost use Rattle.tendril_lines.specs.Printed.{printed};
 use crate::command::{Comparison, Kind, Reply};
 use std::alloc::{AllocError, Global};
 use tendril_block::Refusal;
-use tendril_words::hex_of;
+use tendril_words::{hex_of, hex_of_units};
 
 /// A reply's line, without its line feed: `ok`, `slot N`, `char C`, `run N K`, `none`, `less`, `equal`, `greater`,
-/// `differ`, a format's name with the bytes in lower-case digits or `-`, or `refused N Name`.
+/// `differ`, a format's name with the bytes in lower-case digits or `-`, `units` with the units so, or
+/// `refused N Name`.
 pub fn print_reply(alloc: Global, reply: &Reply) -> Result<String, Refusal>
     ensures printed { IfOk result (λ text. string_bytes text ≡ printed reply.now) }
     ensures refusal { IfErr result (λ r. r ≡ Refusal.Memory) }
@@ -29,6 +30,10 @@ pub fn print_reply(alloc: Global, reply: &Reply) -> Result<String, Refusal>
             let name = name_of_kind(*kind);
             let digits = hex_of(alloc, bytes.as_slice())?;
             format!(in alloc; "{name} {digits}")?
+        }
+        Reply::Units(units) => {
+            let digits = hex_of_units(alloc, units.as_slice())?;
+            format!(in alloc; "units {digits}")?
         }
         Reply::Refused(refusal) => refused_text(alloc, refusal.number(), refusal.name())?,
     })

@@ -1,70 +1,11 @@
 //! The words of commands.
 ghost use Rattle.std.specs.Prelude.{◌≡◌, ◌↔◌, ℕ, List, [], ◌∷◌, map, Some, IfOk};
-ghost use Rattle.tendril_lines.specs.Lines.{AreWords, number as number_word, scalar as scalar_word, format as format_word, bytes as bytes_word, byte as byte_word};
+ghost use Rattle.tendril_lines.specs.Lines.{AreWords, number as number_word, scalar as scalar_word, format as format_word, bytes as bytes_word, byte as byte_word, units as units_word};
 ghost use Rattle.tendril_lines.specs.Names.{kind_name};
-ghost use Rattle.tendril_lines.specs.Verbs.{verb_name};
 
 use crate::command::Kind;
 use std::alloc::{AllocError, Global};
-use tendril_words::{ByteList, byte, bytes, number, scalar};
-
-/// The first word of a command's line.
-#[derive(Clone, Copy, Debug, PartialEq, Eq)]
-pub(crate) enum Verb {
-    New,
-    From,
-    Push,
-    Join,
-    Char,
-    Zeros,
-    Slice,
-    Front,
-    Back,
-    Pop,
-    Run,
-    Clone,
-    Clear,
-    Reserve,
-    As,
-    Up,
-    Down,
-    Set,
-    Compare,
-    Text,
-    Send,
-    Drop,
-}
-
-/// The verb of a word.
-pub(crate) fn verb_of(word: &[u8]) -> Option<Verb>
-    ensures { (verb : _) → (result ≡ Some verb) ↔ (word.now ≡ verb_name verb) }
-{
-    match word {
-        b"new" => Some(Verb::New),
-        b"from" => Some(Verb::From),
-        b"push" => Some(Verb::Push),
-        b"join" => Some(Verb::Join),
-        b"char" => Some(Verb::Char),
-        b"zeros" => Some(Verb::Zeros),
-        b"slice" => Some(Verb::Slice),
-        b"front" => Some(Verb::Front),
-        b"back" => Some(Verb::Back),
-        b"pop" => Some(Verb::Pop),
-        b"run" => Some(Verb::Run),
-        b"clone" => Some(Verb::Clone),
-        b"clear" => Some(Verb::Clear),
-        b"reserve" => Some(Verb::Reserve),
-        b"as" => Some(Verb::As),
-        b"up" => Some(Verb::Up),
-        b"down" => Some(Verb::Down),
-        b"set" => Some(Verb::Set),
-        b"cmp" => Some(Verb::Compare),
-        b"text" => Some(Verb::Text),
-        b"send" => Some(Verb::Send),
-        b"drop" => Some(Verb::Drop),
-        _ => None,
-    }
-}
+use tendril_words::{ByteList, UnitList, byte, bytes, number, scalar, units};
 
 /// The format of a name.
 pub(crate) fn kind(word: &[u8]) -> Option<Kind>
@@ -90,8 +31,8 @@ pub(crate) fn one_kind(args: &[&[u8]]) -> Option<Kind>
     kind(name)
 }
 
-/// The number that the words are.
-pub(crate) fn one_number(args: &[&[u8]]) -> Option<usize>
+/// The number that the words are, `None` where they are anything but one number up to 4294967295.
+pub fn one_number(args: &[&[u8]]) -> Option<usize>
     ensures { (n : ℕ) → (result ≡ Some n) ↔ AreWords (number_word n ∷ []) (map (λ word. word.now) args.now) }
 {
     let [slot] = args else {
@@ -100,8 +41,8 @@ pub(crate) fn one_number(args: &[&[u8]]) -> Option<usize>
     Some(number(slot)? as usize)
 }
 
-/// The two slots that the words are.
-pub(crate) fn two_slots(args: &[&[u8]]) -> Option<(usize, usize)>
+/// The two slots that the words are, `None` where they are anything but two numbers up to 4294967295.
+pub fn two_slots(args: &[&[u8]]) -> Option<(usize, usize)>
     ensures { (a b : ℕ) → (result ≡ Some (a, b))
         ↔ AreWords (number_word a ∷ number_word b ∷ []) (map (λ word. word.now) args.now) }
 {
@@ -219,4 +160,15 @@ pub(crate) fn two_numbers_and_byte(
         return Ok(None);
     };
     Ok(Some((slot as usize, index, byte)))
+}
+
+/// The units that the words are.
+pub(crate) fn units_alone(alloc: Global, args: &[&[u8]]) -> Result<Option<UnitList>, AllocError>
+    ensures { IfOk result (λ found. (us : List ℕ) → (found ≡ Some us)
+        ↔ AreWords (units_word us ∷ []) (map (λ word. word.now) args.now)) }
+{
+    let [word] = args else {
+        return Ok(None);
+    };
+    units(alloc, word)
 }

@@ -1,16 +1,19 @@
-use Rattle.std.proofs.Common.{◌≡◌, ◌≢◌, ℕ, ◌<◌, ◌≤◌, ◌⊎◌, List, length, get_or, set, map, ap, refl, sym, subst, ◌∙◌, Option, Some, None, Bool, true, false, if◌then◌else◌, [], ◌∷◌, ◌++◌, All}
+use Rattle.std.proofs.Common.{◌≡◌, ◌≢◌, ℕ, ◌<◌, ◌≤◌, ◌⊎◌, List, length, get_or, set, map, ap, refl, sym, subst, ◌∙◌, Option, Some, None, Result, Ok, Err, Bool, true, false, if◌then◌else◌, [], ◌∷◌, ◌++◌, All}
 use Rattle.std.proofs.lemmas.List.{map-set, map-append, set-set, get_or-map, get_or-set_other, get_or_past, length-map}
 use Rattle.std.proofs.lemmas.List.Elements.{All-set, All-push, All-get_or}
 use Rattle.std.proofs.Math.Seq.{map-set_same}
 use Rattle.tendril_block.specs.declared.refusal.Refusal.{Refusal}
+use Rattle.std.specs.Result.{MatchResult}
+use Rattle.tendril_block.specs.Outcomes.{Gives}
 use Rattle.tendril_run.specs.Cells.{Cell, IsCell, gone, cell_at}
+use Rattle.tendril_run.specs.Steps.{AddsCell}
 use Rattle.tendril_run.specs.Rules.{Replied, Answered, Changed}
 use Rattle.tendril_block.specs.declared.refusal.Refusal.TheVariants.{NoSuchSlot}
 use Rattle.tendril_run.specs.OneCell.{ChangeMust}
 use Rattle.tendril_run.specs.declared.change.Change.{Change}
 use Rattle.tendril_run.specs.declared.change.Change.TheVariants.{PushChar, PopChar, Edit, EditBytes, Convert, ThroughSend, Drop}
 use Rattle.tendril_lines.specs.declared.command.Reply.{Reply}
-use Rattle.tendril_lines.specs.declared.command.Reply.TheVariants.{Done, Made, Char, Run, Compared, Text, Refused}
+use Rattle.tendril_lines.specs.declared.command.Reply.TheVariants.{Done, Made, Refused}
 
 -- one cell of a table was old, and after it is new
 pub record OneChanged (cells : List Cell) (slot : ℕ) (old new : Cell) (after : List Cell) : Type 0 where
@@ -48,12 +51,7 @@ changed must answer effect cells slot old new after reply one h =
 pub table_answered : (must : Cell → Option Refusal → Type 0) (may : Cell → Refusal → Type 0) (answer : Cell → Reply) (effect : Cell → Cell) (cells : List Cell) (slot : ℕ) (old new : Cell) (after : List Cell) (reply : Reply) → OneChanged cells slot old new after → Answered (must old) (may old) (answer old) (effect old) old reply new → Replied (must (cell_at cells slot)) (may (cell_at cells slot)) (λ reply new. (reply ≡ answer (cell_at cells slot)) × (new ≡ set cells slot (effect (cell_at cells slot)))) cells reply after
 table_answered must may answer effect cells slot old new after (Refused r) one h =
     (subst (λ c. must c (Some r) ⊎ (must c None × may c r)) (sym one.here) h.0, one.kept h.1)
-table_answered must may answer effect cells slot old new after Done one h = changed must answer effect cells slot old new after Done one h
-table_answered must may answer effect cells slot old new after (Made n) one h = changed must answer effect cells slot old new after (Made n) one h
-table_answered must may answer effect cells slot old new after (Char c) one h = changed must answer effect cells slot old new after (Char c) one h
-table_answered must may answer effect cells slot old new after (Run found) one h = changed must answer effect cells slot old new after (Run found) one h
-table_answered must may answer effect cells slot old new after (Compared order) one h = changed must answer effect cells slot old new after (Compared order) one h
-table_answered must may answer effect cells slot old new after (Text kind z) one h = changed must answer effect cells slot old new after (Text kind z) one h
+table_answered must may answer effect cells slot old new after reply one h = changed must answer effect cells slot old new after reply one h
 
 -- the change of one cell is that of its table
 pub table_changed : (must : Cell → Option Refusal → Type 0) (may : Cell → Refusal → Type 0) (effect : Cell → Cell) (cells : List Cell) (slot : ℕ) (old new : Cell) (after : List Cell) (reply : Reply) → OneChanged cells slot old new after → Changed (must old) (may old) (effect old) old reply new → Replied (must (cell_at cells slot)) (may (cell_at cells slot)) (λ reply new. (reply ≡ Done) × (new ≡ set cells slot (effect (cell_at cells slot)))) cells reply after
@@ -79,9 +77,12 @@ added_cells f true items after s e h one =
     subst (λ xs. All IsCell (map f xs)) (sym e) (subst (λ cells. All IsCell cells) (sym (map-append f items (s ∷ []))) (All-push IsCell (map f items) (f s) h one))
 added_cells f false items after s e h one = subst (λ xs. All IsCell (map f xs)) (sym e) h
 
--- a cell that is added, by another name
-pub added_as : (cells after : List Cell) (one other : Cell) → after ≡ cells ++ one ∷ [] → one ≡ other → after ≡ cells ++ other ∷ []
-added_as cells after one other h e = h ∙ ap (λ c. cells ++ c ∷ []) e
+-- where the slot of a cell is added, if it can be made, the cell is
+pub made_added : {S : Type 0} (f : S → Cell) (must : Option Refusal → Type 0) (may : Refusal → Type 0) (cell : Cell) (cells after : List Cell) (made : Result S Refusal) (reply : Reply)
+    → MatchResult made (λ s. (reply ≡ Made (length cells)) × (after ≡ cells ++ f s ∷ [])) (λ r. (reply ≡ Refused r) × (after ≡ cells))
+    → Gives must may (λ s. f s ≡ cell) made → Replied must may (AddsCell cells cell) cells reply after
+made_added f must may cell cells after (Ok s) reply added gives = rw added.0 (gives.0, (refl, added.1 ∙ ap (λ c. cells ++ c ∷ []) gives.1))
+made_added f must may cell cells after (Err r) reply added gives = rw added.0 (gives, added.1)
 
 gone_refused : (change : Change) → ChangeMust gone change (Some NoSuchSlot)
 gone_refused (PushChar c) = refl

@@ -1,5 +1,5 @@
 -- Edits of a cell's text, which keep its format.
-use Rattle.std.specs.Prelude.{ℕ, ◌≡◌, ◌<◌, ◌+◌, ◌-◌, ◌++◌, List, [], length, take, drop, replicate, slice_set, Option}
+use Rattle.std.specs.Prelude.{ℕ, ◌<◌, ◌+◌, ◌-◌, ◌++◌, List, [], length, take, drop, replicate, slice_set, Option}
 use Rattle.tendril_block.specs.declared.refusal.Refusal.{Refusal}
 use Rattle.tendril_block.specs.declared.refusal.Refusal.TheVariants.{OutOfBounds}
 use Rattle.tendril_block.specs.Outcomes.{NoneMust, First, LengthMust, PopMust, MemoryMay}

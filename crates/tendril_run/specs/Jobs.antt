@@ -20,3 +20,9 @@ abbrev pub JobEnds : (ℕ → ℕ) → List Cell → List Command → Outcome �
 JobEnds class old commands (Done table replies) = Chain class old commands replies.items table.cells
 JobEnds class old commands (Refused table refusal) = (refusal ≡ Memory) × (table.cells ≡ old)
 JobEnds class old commands NotStarted = Unit {0}
+
+-- a thread was started for the job
+abbrev pub IsBegun : Outcome → Type 0
+IsBegun (Done table replies) = Unit {0}
+IsBegun (Refused table refusal) = Unit {0}
+IsBegun NotStarted = ⊥

@@ -2,6 +2,7 @@
 use Rattle.std.specs.Prelude.{ℕ, ◌≡◌, ◌⊎◌, List, [], length, take, drop, Option, Some, None, Result, MatchResult, IfOk}
 use Rattle.tendril_block.specs.declared.refusal.Refusal.{Refusal}
 use Rattle.tendril_block.specs.declared.refusal.Refusal.TheVariants.{Memory, NoSuchSlot, WrongFormat}
+use Rattle.tendril_fmt.specs.Wtf8.{units}
 use Rattle.tendril_run.specs.Cells.{Cell, IsCell, gone, text, valid_in, join_in, IsPartOf}
 use Rattle.tendril_run.specs.Characters.{
   HasChars,
@@ -33,9 +34,9 @@ use Rattle.tendril_run.specs.declared.change.Conversion.TheVariants.{Reinterpret
 use Rattle.tendril_run.specs.declared.change.ByteEdit.{ByteEdit}
 use Rattle.tendril_run.specs.declared.change.Edit.{Edit}
 use Rattle.tendril_lines.specs.declared.command.Kind.{Kind}
-use Rattle.tendril_lines.specs.declared.command.Kind.TheVariants.{Bytes}
+use Rattle.tendril_lines.specs.declared.command.Kind.TheVariants.{Bytes, Wtf8}
 use Rattle.tendril_lines.specs.declared.command.Reply.{Reply}
-use Rattle.tendril_lines.specs.declared.command.Reply.TheVariants.{Char, Done, Text}
+use Rattle.tendril_lines.specs.declared.command.Reply.TheVariants.{Char, Done, Text, Units}
 
 -- the refusals that no state rules out where so many bytes are made sendable and taken back
 abbrev pub SendMay : ℕ → Refusal → Type 0
@@ -207,6 +208,16 @@ abbrev pub TellsCell : Cell → Reply → Type 0
 TellsCell gone reply = ⊥
 TellsCell (text kind b) reply = reply ≡ Text kind b
 
+-- the first refusal of a question for a cell's units
+abbrev pub UnitsMust : Cell → Option Refusal → Type 0
+UnitsMust gone must = must ≡ Some NoSuchSlot
+UnitsMust (text kind b) must = First (kind ≡ Wtf8) WrongFormat NoneMust must
+
+-- the reply that tells the cell's units
+abbrev pub TellsUnits : Cell → Reply → Type 0
+TellsUnits gone reply = ⊥
+TellsUnits (text kind b) reply = reply ≡ Units (units b)
+
 -- a push onto a cell
 abbrev pub CellPushed : Cell → List ℕ → Reply → Cell → Type 0
 CellPushed cell y reply new = Changed (PushMust cell y) (PushMay cell y) (pushed cell y) cell reply new
@@ -258,3 +269,8 @@ CellChanged cell change reply new =
 -- what is answered to a question for the cell's text
 abbrev pub CellTold : Cell → Reply → Type 0
 CellTold cell reply = Replied (CellMust cell) (λ r. r ≡ Memory) (λ reply new. TellsCell cell reply) cell reply cell
+
+-- what is answered to a question for the cell's units
+abbrev pub CellUnitsTold : Cell → Reply → Type 0
+CellUnitsTold cell reply =
+    Replied (UnitsMust cell) (λ r. r ≡ Memory) (λ reply new. TellsUnits cell reply) cell reply cell

@@ -1,7 +1,9 @@
 -- What each command does to a table, and what it replies.
 use Rattle.std.specs.Prelude.{ℕ, ◌≡◌, List, [], ◌∷◌, ◌++◌, length, slice_set, None, Some, MatchOption}
-use Rattle.tendril_block.specs.Outcomes.{NoneMust, BytesMust, NoneMay, MemoryMay, CountMay}
+use Rattle.tendril_block.specs.Outcomes.{NoneMust, LengthMust, BytesMust, NoneMay, MemoryMay, CountMay}
 use Rattle.tendril_block.specs.declared.refusal.Refusal.TheVariants.{Memory}
+use Rattle.tendril_fmt.specs.Wtf8.{wtf8}
+use Rattle.tendril_lines.specs.declared.command.Kind.TheVariants as format
 use Rattle.tendril_run.specs.Cells.{Cell, text, valid_in, cell_at}
 use Rattle.tendril_run.specs.Comparisons.{CompareMust, TellsComparison}
 use Rattle.tendril_run.specs.OneCell.{
@@ -25,6 +27,8 @@ use Rattle.tendril_run.specs.OneCell.{
   changed,
   change_reply,
   TellsCell,
+  UnitsMust,
+  TellsUnits,
 }
 use Rattle.tendril_run.specs.Rules.{Replied}
 use Rattle.tendril_run.specs.declared.change.ByteEdit.TheVariants as byte_edit
@@ -56,6 +60,8 @@ use Rattle.tendril_lines.specs.declared.command.Command.TheVariants.{
   Text,
   ThroughSend,
   Drop,
+  FromUnits,
+  Units,
 }
 use Rattle.tendril_lines.specs.declared.command.Reply.{Reply}
 use Rattle.tendril_lines.specs.declared.command.Reply.TheVariants as reply
@@ -130,3 +136,9 @@ Step class old (Text slot) answer new =
     (λ answer new. TellsCell (cell_at old slot) answer × (new ≡ old)) old answer new
 Step class old (ThroughSend slot) answer new = TableChanged old slot change.ThroughSend answer new
 Step class old (Drop slot) answer new = TableChanged old slot change.Drop answer new
+Step class old (FromUnits us) answer new =
+    Replied (LengthMust (length (wtf8 us))) (MemoryMay (length (wtf8 us)))
+    (AddsCell old (text format.Wtf8 (wtf8 us))) old answer new
+Step class old (Units slot) answer new =
+    Replied (UnitsMust (cell_at old slot)) (λ r. r ≡ Memory)
+    (λ answer new. TellsUnits (cell_at old slot) answer × (new ≡ old)) old answer new

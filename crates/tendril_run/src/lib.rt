@@ -16,5 +16,7 @@ pub use classifier::Classifier;
 pub use gate::Gate;
 pub use slot::Slot;
 pub use table::{Table, run};
-pub use tendril_lines::{ByteList, Command, Comparison, Kind, Reply, parse_line, print_reply};
+pub use tendril_lines::{
+    ByteList, Command, Comparison, Kind, Reply, UnitList, parse_line, print_reply,
+};
 pub use workers::{Job, Outcome, run_tables};

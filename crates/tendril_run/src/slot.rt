@@ -3,8 +3,9 @@ ghost use Rattle.std.specs.Prelude.{◌≡◌, ◌⊎◌, ℕ, [], length, Match
 ghost use Rattle.tendril_run.specs.CellOf.{cell_of};
 ghost use Rattle.tendril_run.specs.Cells.{IsCell, text as text_cell, valid_in};
 ghost use Rattle.tendril_run.specs.Comparisons.{CellsCompared};
-ghost use Rattle.tendril_run.specs.OneCell.{CellPushed, CellChanged, CellJoined, CellTold, CellMust, CharsMust, char_of, RunMay, IsRunOf, CellSliceMust, CellCloneMay, part};
-ghost use Rattle.tendril_block.specs.Outcomes.{BytesMust, MemoryMay, CountMay, Gives, Outcome};
+ghost use Rattle.tendril_fmt.specs.Wtf8.{wtf8};
+ghost use Rattle.tendril_run.specs.OneCell.{CellPushed, CellChanged, CellJoined, CellTold, CellUnitsTold, CellMust, CharsMust, char_of, RunMay, IsRunOf, CellSliceMust, CellCloneMay, part};
+ghost use Rattle.tendril_block.specs.Outcomes.{LengthMust, BytesMust, MemoryMay, CountMay, Gives, Outcome};
 
 mod convert;
 
@@ -12,7 +13,7 @@ use crate::change::{ByteEdit, Change, Edit};
 use crate::classifier::Classifier;
 use crate::text;
 use std::alloc::Global;
-use tendril_lines::{ByteList, Kind, Reply};
+use tendril_lines::{ByteList, Kind, Reply, UnitList};
 use tendril_text::block::Refusal;
 use tendril_text::fmt::{ASCII, Bytes, Latin1, UTF8, WTF8};
 use tendril_text::{Atomicity, Tendril};
@@ -110,6 +111,14 @@ impl<A: Atomicity> Slot<A> {
             Kind::Wtf8 => Ok(Slot::Wtf8(text::from_bytes(alloc, bytes)?)),
             Kind::Latin1 => Ok(Slot::Latin1(text::from_bytes(alloc, bytes)?)),
         }
+    }
+
+    /// A text of these units.
+    pub(crate) fn from_units(alloc: Global, units: &UnitList) -> Result<Self, Refusal>
+        ensures { Gives (LengthMust (length (wtf8 units.now))) (MemoryMay (length (wtf8 units.now)))
+            (λ s. cell_of s ≡ text_cell Kind.Wtf8 (wtf8 units.now)) result }
+    {
+        Ok(Slot::Wtf8(Tendril::<WTF8, A>::from_units(alloc, units.as_slice())?))
     }
 
     /// The format of the text, `None` where it is gone.
@@ -287,6 +296,17 @@ impl<A: Atomicity> Slot<A> {
         ensures { CellTold (cell_of self.now) result }
     {
         on_text!(self, kind, text => text::told(alloc, kind, text.as_byte_slice()), gone())
+    }
+
+    /// The units of the text, where it is in WTF-8.
+    pub(crate) fn units(&self) -> Reply
+        ensures { CellUnitsTold (cell_of self.now) result }
+    {
+        match self {
+            Slot::Wtf8(text) => text::told_units(text),
+            Slot::Gone => gone(),
+            _ => Reply::Refused(Refusal::WrongFormat),
+        }
     }
 
     // The slot is gone.

@@ -1,5 +1,5 @@
 //! Texts in numbered slots.
-ghost use Rattle.std.specs.Prelude.{◌≡◌, ◌≤◌, ◌<◌, ◌+◌, ◌⊎◌, ◌++◌, ◌∷◌, ◌≢◌, [], length, IfErr, OnOk, OnErr, IsOk, Some, None, MatchOption, All};
+ghost use Rattle.std.specs.Prelude.{◌≡◌, ◌≤◌, ◌<◌, ◌+◌, ◌⊎◌, ◌++◌, ◌∷◌, ◌≢◌, [], length, IfErr, OnOk, OnErr, IsOk, Some, None, MatchOption, MatchResult, All};
 ghost use Rattle.tendril_run.specs.CellOf.{cell_of};
 ghost use Rattle.tendril_run.specs.Cells.{IsCell, gone, cell_at};
 ghost use Rattle.tendril_run.specs.OneCell.{CellMust, CellSliceMust, CellCloneMay, part};
@@ -108,17 +108,21 @@ impl<A: Atomicity> Table<A> {
     {
         match command {
             Command::New(kind) => self.new_text(*kind),
-            Command::FromBytes(kind, bytes) => self.from_bytes(*kind, bytes),
+            Command::FromBytes(kind, bytes) => self.add_made(Slot::from_bytes(
+                self.allocator(),
+                *kind,
+                bytes,
+            )),
             Command::PushBytes(slot, bytes) => self.push_bytes(*slot, bytes),
             Command::PushTendril(to, from) => self.join(*to, *from),
             Command::PushChar(slot, character) => self.change(*slot, Change::PushChar(*character)),
             Command::PushZeros(slot, count) => self.change(*slot, EditBytes(PushZeros(*count))),
-            Command::Slice(slot, offset, count) => self.slice(*slot, *offset, *count),
+            Command::Slice(slot, offset, count) => self.add_made(self.part(*slot, *offset, *count)),
             Command::PopFront(slot, count) => self.change(*slot, Change::Edit(PopFront(*count))),
             Command::PopBack(slot, count) => self.change(*slot, Change::Edit(PopBack(*count))),
             Command::PopChar(slot) => self.change(*slot, Change::PopChar),
             Command::PopRun(slot) => self.pop_run(*slot, classifier),
-            Command::Clone(slot) => self.clone_slot(*slot),
+            Command::Clone(slot) => self.add_made(self.copy(*slot)),
             Command::Clear(slot) => self.change(*slot, Change::Edit(Clear)),
             Command::Reserve(slot, more) => self.change(*slot, Change::Edit(Reserve(*more))),
             Command::Reinterpret(slot, kind) => self.change(*slot, Convert(Reinterpret(*kind))),
@@ -132,6 +136,8 @@ impl<A: Atomicity> Table<A> {
             Command::Text(slot) => self.text(*slot),
             Command::ThroughSend(slot) => self.change(*slot, Change::ThroughSend),
             Command::Drop(slot) => self.change(*slot, Change::Drop),
+            Command::FromUnits(units) => self.add_made(Slot::from_units(self.allocator(), units)),
+            Command::Units(slot) => self.units(*slot),
         }
     }
 
@@ -152,23 +158,26 @@ impl<A: Atomicity> Table<A> {
         Reply::Made(number)
     }
 
+    // Puts a slot at the end, where there is room and it could be made.
+    fn add_made(&mut self, made: Result<Slot<A>, Refusal>) -> Reply
+        requires { 1 ≤ self.old.room }
+        ensures added { MatchResult made
+            (λ slot. (result ≡ Reply.Made (length self.old.cells)) × (self.new.cells ≡ self.old.cells ++ cell_of slot ∷ []))
+            (λ refusal. (result ≡ Reply.Refused refusal) × (self.new.cells ≡ self.old.cells)) }
+        ensures room { self.old.room ≤ self.new.room + 1 }
+    {
+        match made {
+            Ok(slot) => self.add(slot),
+            Err(refusal) => Reply::Refused(refusal),
+        }
+    }
+
     fn new_text(&mut self, kind: Kind) -> Reply
         requires { 1 ≤ self.old.room }
         ensures step { (class : _) → Step class self.old.cells (Command.New kind) result self.new.cells }
         ensures room { self.old.room ≤ self.new.room + 1 }
     {
         self.add(Slot::empty(self.allocator(), kind))
-    }
-
-    fn from_bytes(&mut self, kind: Kind, bytes: &ByteList) -> Reply
-        requires { 1 ≤ self.old.room }
-        ensures step { (class : _) → Step class self.old.cells (Command.FromBytes kind bytes.now) result self.new.cells }
-        ensures room { self.old.room ≤ self.new.room + 1 }
-    {
-        match Slot::from_bytes(self.allocator(), kind, bytes) {
-            Ok(slot) => self.add(slot),
-            Err(refusal) => Reply::Refused(refusal),
-        }
     }
 
     fn push_bytes(&mut self, slot: usize, bytes: &ByteList) -> Reply
@@ -247,17 +256,6 @@ impl<A: Atomicity> Table<A> {
         self.slots[slot].change(change)
     }
 
-    fn slice(&mut self, slot: usize, offset: u32, count: u32) -> Reply
-        requires { 1 ≤ self.old.room }
-        ensures step { (class : _) → Step class self.old.cells (Command.Slice slot offset count) result self.new.cells }
-        ensures room { self.old.room ≤ self.new.room + 1 }
-    {
-        match self.part(slot, offset, count) {
-            Ok(slot) => self.add(slot),
-            Err(refusal) => Reply::Refused(refusal),
-        }
-    }
-
     fn part(&self, slot: usize, offset: u32, count: u32) -> Result<Slot<A>, Refusal>
         ensures { Gives (CellSliceMust (cell_at self.now.cells slot) offset count) (CountMay count)
             (λ s. cell_of s ≡ part (cell_at self.now.cells slot) offset count) result }
@@ -265,17 +263,6 @@ impl<A: Atomicity> Table<A> {
         match self.slot(slot) {
             Some(slot) => slot.slice(offset, count),
             None => Err(Refusal::NoSuchSlot),
-        }
-    }
-
-    fn clone_slot(&mut self, slot: usize) -> Reply
-        requires { 1 ≤ self.old.room }
-        ensures step { (class : _) → Step class self.old.cells (Command.Clone slot) result self.new.cells }
-        ensures room { self.old.room ≤ self.new.room + 1 }
-    {
-        match self.copy(slot) {
-            Ok(slot) => self.add(slot),
-            Err(refusal) => Reply::Refused(refusal),
         }
     }
 
@@ -303,6 +290,15 @@ impl<A: Atomicity> Table<A> {
     {
         match self.slot(slot) {
             Some(slot) => slot.text(self.alloc),
+            None => gone(),
+        }
+    }
+
+    fn units(&self, slot: usize) -> Reply
+        ensures { (class : _) → Step class self.now.cells (Command.Units slot) result self.now.cells }
+    {
+        match self.slot(slot) {
+            Some(slot) => slot.units(),
             None => gone(),
         }
     }

@@ -7,7 +7,7 @@ ghost use Rattle.tendril_run.specs.Characters.{first_of, without_first, TakesFir
 ghost use Rattle.std.specs.Cmp.Lexicographic.{pointwise};
 ghost use Rattle.tendril_run.specs.Comparisons.{in_order};
 ghost use Rattle.tendril_run.specs.Edits.{TextEdited, BytesEdited};
-ghost use Rattle.tendril_run.specs.OneCell.{CellTold, SendMay};
+ghost use Rattle.tendril_run.specs.OneCell.{CellTold, CellUnitsTold, SendMay};
 ghost use Rattle.tendril_run.specs.Rules.{TextPushed, Answered, Changed};
 ghost use Rattle.tendril_text.specs.Making.{MakesValidText};
 ghost use Rattle.tendril_block.specs.Outcomes.{NoneMust, LengthMust, CharMust, BytesMust, SliceMust, NoneMay, MemoryMay, CountMay, Gives};
@@ -17,9 +17,9 @@ use crate::classifier::Classifier;
 use crate::slot::Slot;
 use std::alloc::Global;
 use std::cmp::Ordering;
-use tendril_lines::{ByteList, Comparison, Kind, Reply};
+use tendril_lines::{ByteList, Comparison, Kind, Reply, UnitList};
 use tendril_text::block::{MAX_LEN, Refusal};
-use tendril_text::fmt::{CharFormat, Format};
+use tendril_text::fmt::{CharFormat, Format, WTF8};
 use tendril_text::{Atomicity, ByteTendril, SubtendrilError, Tendril};
 
 /// A text of these bytes.
@@ -250,6 +250,16 @@ pub(crate) fn told(alloc: Global, kind: Kind, bytes: &[u8]) -> Reply
 {
     match Vec::from_slice(alloc, bytes) {
         Ok(bytes) => Reply::Text(kind, ByteList::new(bytes)),
+        Err(_) => Reply::Refused(Refusal::Memory),
+    }
+}
+
+/// The reply that tells a text's units.
+pub(crate) fn told_units<A: Atomicity>(text: &Tendril<WTF8, A>) -> Reply
+    ensures { CellUnitsTold (text_cell Kind.Wtf8 text.now.bytes) result }
+{
+    match text.to_units() {
+        Ok(units) => Reply::Units(UnitList::new(units)),
         Err(_) => Reply::Refused(Refusal::Memory),
     }
 }

@@ -1,7 +1,7 @@
 //! A thread for each table.
-ghost use Rattle.std.specs.Prelude.{◌≡◌, ◌≤◌, ◌+◌, [], IfOk, IfErr, IfSome, MatchOption, vec_len, vec_capacity};
+ghost use Rattle.std.specs.Prelude.{◌≡◌, ◌≤◌, ◌+◌, [], IfOk, IfErr, IfSome, OnSome, MatchOption, vec_len, vec_capacity};
 ghost use Rattle.std.specs.List.{AllZip};
-ghost use Rattle.tendril_run.specs.Jobs.{Worked, JobEnds};
+ghost use Rattle.tendril_run.specs.Jobs.{Worked, JobEnds, IsBegun};
 
 use crate::classifier::Classifier;
 use crate::gate::Gate;
@@ -134,8 +134,9 @@ fn join_all<R: Threads, C: Classifier, G>(
 }
 
 fn join<R: Threads, C: Classifier, G>(rt: &R, worker: Worker<C, G>) -> Outcome
-    ensures { MatchOption worker (result ≡ Outcome.NotStarted)
+    ensures ends { MatchOption worker (result ≡ Outcome.NotStarted)
         (λ h. let job = h.promise.0.value in JobEnds (C.class job.class) job.table.cells job.commands.items result) }
+    ensures started { OnSome worker (IsBegun result) }
 {
     match worker {
         Some(handle) => match handle.join(rt) {

@@ -16,6 +16,12 @@ view_part o l s c xs h =
     let e : l ≡ s + (l - s) = omega arith in
     ap (λ n. take c (drop s (take n (drop o xs)))) e ∙ ap (take c) (drop-take s (l - s) (drop o xs)) ∙ take-take c (l - s) (drop s (drop o xs)) (omega arith) ∙ ap (take c) (drop-drop s o xs)
 
+-- what is left of a view behind its first bytes is a view
+pub view_rest : (o l c : ℕ) (xs : List ℕ) → c ≤ l → take (l - c) (drop (o + c) xs) ≡ drop c (take l (drop o xs))
+view_rest o l c xs h =
+    let e : c + (l - c) ≡ l = omega arith in
+    ap (take (l - c)) (sym (drop-drop c o xs)) ∙ sym (drop-take c (l - c) (drop o xs)) ∙ ap (λ n. drop c (take n (drop o xs))) e
+
 -- a view of a block whose end was replaced behind the first `keep` bytes of the view
 pub view_replaced : (o l keep : ℕ) (xs ys : List ℕ) → o + l ≤ length xs → keep ≤ l → take (keep + length ys) (drop o (take (o + keep) xs ++ ys)) ≡ take keep (take l (drop o xs)) ++ ys
 view_replaced o l keep xs ys h k =
@@ -42,7 +48,7 @@ view_grown o l n xs = take-add l n (drop o xs) ∙ ap (λ v. take l (drop o xs) 
 
 pub ruleset grows = (inline_length, view_length, view_grown)
 
-pub ruleset slices = (inline_length, view_length, view_part)
+pub ruleset slices = (inline_length, view_length, view_part, view_rest)
 
 pub ruleset replaces = (inline_length, view_length, view_replaced, length-append, append_assoc)
 

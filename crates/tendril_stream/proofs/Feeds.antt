@@ -1,10 +1,10 @@
 -- What was sent to a sink, one run after another.
-use Rattle.std.proofs.Common.{◌≡◌, List, [], ◌∷◌, ◌++◌, refl, sym, ap, ap₂, subst, ◌∙◌, append_assoc, append-nil}
+use Rattle.std.proofs.Common.{◌≡◌, List, [], ◌∷◌, ◌++◌, refl, sym, ap, ap₂, subst, inl, inr, ◌∙◌, append_assoc, append-nil}
 use Rattle.std.specs.List.{FoldsTo}
 use Rattle.tendril_text.specs.Texts.{Text}
 use Rattle.std.proofs.lemmas.List.Elements.{All-append, All-nil, All-cons}
 use Rattle.tendril_lossy.specs.Lossy.{Told}
-use Rattle.tendril_stream.specs.Sinks.{Sent, told, told_of, IsSentOf, Feeds, IsStop, Stops}
+use Rattle.tendril_stream.specs.Sinks.{Sent, told, told_of, IsSentOf, Feeds, IsStop, RefusesCall, Stops}
 use Rattle.tendril_block.specs.declared.refusal.Refusal.{Refusal}
 
 pub FoldsTo-append : {S A : Type 0} (R : S → A → S → Type 0) (a : S) (xs : List A) (b : S) (ys : List A) (c : S) → FoldsTo R a xs b → FoldsTo R b ys c → FoldsTo R a (xs ++ ys) c
@@ -33,8 +33,12 @@ pub Feeds-same : {S : Type 0} (takes : S → Sent → S → Type 0) (piece : Tex
 Feeds-same takes piece a b x y e h = subst (λ l. Feeds takes piece a l b) e h
 
 -- a call is refused where nothing was sent yet
-pub Stops-here : {S : Type 0} (takes : S → Sent → S → Type 0) (refuses : S → Sent → Refusal → S → Type 0) (piece : Text) (a : S) (due : List Told) (e : Refusal) (c : S) → IsStop refuses piece a e c → Stops takes refuses piece a due e c
+pub Stops-here : {S : Type 0} (takes : S → Sent → S → Type 0) (refuses : S → Sent → Refusal → S → Type 0) (piece : Text) (a : S) (due : List Told) (e : Refusal) (c : S) → IsStop refuses piece a due e c → Stops takes refuses piece a due e c
 Stops-here takes refuses piece a due e c h = record { sent = []; each = All-nil (IsSentOf piece); mid = a; calls = refl; rest = due; front = refl; stop = h }
+
+-- the call that tells the first of what is due is refused
+pub Stops-call : {S : Type 0} (takes : S → Sent → S → Type 0) (refuses : S → Sent → Refusal → S → Type 0) (piece : Text) (a : S) (call : Sent) (x due : List Told) (e : Refusal) (c : S) → IsSentOf piece call → told_of call ++ x ≡ due → RefusesCall refuses a call e c → Stops takes refuses piece a due e c
+Stops-call takes refuses piece a call x due e c fit front h = Stops-here takes refuses piece a due e c (inr (record { call = call; fit = fit; rest = x; front = front; refused = h }))
 
 pub Stops-after : {S : Type 0} (takes : S → Sent → S → Type 0) (refuses : S → Sent → Refusal → S → Type 0) (piece : Text) (a b c : S) (x y z : List Told) (e : Refusal) → Feeds takes piece a x b → Stops takes refuses piece b y e c → x ++ y ≡ z → Stops takes refuses piece a z e c
 Stops-after takes refuses piece a b c x y z e h k is = record {
@@ -47,6 +51,11 @@ Stops-after takes refuses piece a b c x y z e h k is = record {
   stop = k.stop;
 }
 
+-- and more is due behind
+stop_more : {S : Type 0} (refuses : S → Sent → Refusal → S → Type 0) (piece : Text) (mid : S) (x y : List Told) (e : Refusal) (c : S) → IsStop refuses piece mid x e c → IsStop refuses piece mid (x ++ y) e c
+stop_more refuses piece mid x y e c (inl h) = inl h
+stop_more refuses piece mid x y e c (inr h) = inr (record { call = h.call; fit = h.fit; rest = h.rest ++ y; front = sym (append_assoc (told_of h.call) h.rest y) ∙ ap (λ l. l ++ y) h.front; refused = h.refused })
+
 pub Stops-more : {S : Type 0} (takes : S → Sent → S → Type 0) (refuses : S → Sent → Refusal → S → Type 0) (piece : Text) (a c : S) (x y z : List Told) (e : Refusal) → Stops takes refuses piece a x e c → x ++ y ≡ z → Stops takes refuses piece a z e c
 Stops-more takes refuses piece a c x y z e k is = record {
   sent = k.sent;
@@ -55,5 +64,5 @@ Stops-more takes refuses piece a c x y z e k is = record {
   calls = k.calls;
   rest = k.rest ++ y;
   front = sym (append_assoc (told k.sent) k.rest y) ∙ ap (λ l. l ++ y) k.front ∙ is;
-  stop = k.stop;
+  stop = stop_more refuses piece k.mid k.rest y e c k.stop;
 }

@@ -1,15 +1,17 @@
 -- A text that reads fill from behind.
-use Rattle.std.proofs.Common.{◌≡◌, ℕ, zero, suc, ◌+◌, ◌<◌, ◌≤◌, List, [], ◌∷◌, ◌++◌, slice_index, length, take, drop, Option, Result, Ok, Err, refl, inl, inr, subst, sym, ap, ◌∙◌, arith, append_assoc, append-nil, take-add, take_all}
+use Rattle.std.proofs.Common.{◌≡◌, ℕ, zero, suc, ◌+◌, ◌<◌, ◌≤◌, List, [], ◌∷◌, ◌++◌, slice_index, length, take, drop, Option, Result, Ok, Err, refl, inl, inr, subst, sym, ap, ◌∙◌, arith, append_assoc, append-nil, length-append, length-take, length-drop, take-add, take_all}
 use Rattle.std.proofs.KnownBytes.{Consumes-kept, Consumes-nil}
-use Rattle.std.specs.Io.KnownBytes.{ReadConsumes}
+use Rattle.std.proofs.lemmas.List.Elements.{All-nil, All-push}
+use Rattle.std.specs.Io.KnownBytes.{Consumes, ReadConsumes}
+use Rattle.std.specs.Prelude.{All}
 use Rattle.tendril_block.specs.declared.refusal.Refusal.TheVariants.{Io}
-use Rattle.tendril_stream.proofs.Fed.{end_adds_up, failure_adds_up, giving_adds_up, going, MakesReads-none, MakesReads-on}
+use Rattle.tendril_stream.proofs.Fed.{given-push, MakesReads-none, MakesReads-on}
 use Rattle.tendril_stream.specs.Readings.{Fills, MakesReads}
-use Rattle.tendril_stream.specs.Reads.{Reads, ReadsOn, giving, interrupted, failure, end, read_of}
+use Rattle.tendril_stream.specs.Reads.{OneRead, Gave, WasInterrupted, HasFailed, CameToEnd, MayReadOn, given, given_by, read_of}
 use Rattle.tendril_stream.specs.declared.counted_read.ReadFault.{ReadFault}
-use Rattle.tendril_stream.specs.declared.counted_read.ReadFault.TheVariants.{Failed}
+use Rattle.tendril_stream.specs.declared.counted_read.ReadFault.TheVariants.{Failed, Interrupted}
 
-pub read_some : (n : ℕ) (buffer : List ℕ) → 0 < n → read_of (Ok n) buffer ≡ giving (take n buffer)
+pub read_some : (n : ℕ) (buffer : List ℕ) → 0 < n → read_of (Ok n) buffer ≡ Gave (take n buffer)
 read_some zero buffer h = absurd (omega arith)
 read_some (suc n) buffer h = refl
 
@@ -20,56 +22,88 @@ front_bytes (suc n) [] h i = omega arith
 front_bytes (suc n) (x ∷ xs) h zero = h zero
 front_bytes (suc n) (x ∷ xs) h (suc i) = front_bytes n xs (λ j. h (suc j)) i
 
-module _ {R : Type 0} (history : R → Reads) (remaining : R → Option (List ℕ)) (reader : R) (old : List ℕ) where
+module _ {R : Type 0} (history : R → List OneRead) (remaining : R → Option (List ℕ)) (reader : R) (old : List ℕ) where
   -- so many reads were made, and the first so many bytes are the old ones and what they gave
   pub record Filled (made filled : ℕ) (bytes : List ℕ) (at : R) : Type 0 where
-    pub given : List ℕ
-    pub makes : MakesReads history remaining reader (going given made) at
-    pub front : take filled bytes ≡ old ++ given
+    pub these : List OneRead
+    pub makes : MakesReads history remaining reader these at
+    pub on : All MayReadOn these
+    pub count : length these ≡ made
+    pub front : take filled bytes ≡ old ++ given these
 
   pub filled_nothing : (filled : ℕ) → filled ≡ length old → Filled 0 filled old reader
-  filled_nothing filled is = record { given = []; makes = MakesReads-none history remaining reader; front = take_all filled old (omega (arith, is)) ∙ sym (append-nil old) }
+  filled_nothing filled is = record { these = []; makes = MakesReads-none history remaining reader; on = All-nil MayReadOn; count = refl; front = take_all filled old (omega (arith, is)) ∙ sym (append-nil old) }
 
   -- the bytes behind are others
   pub filled_front : (made filled : ℕ) (bytes new : List ℕ) (at : R) → Filled made filled bytes at → take filled new ≡ take filled bytes → Filled made filled new at
-  filled_front made filled bytes new at f same = record { given = f.given; makes = f.makes; front = same ∙ f.front }
+  filled_front made filled bytes new at f same = record { these = f.these; makes = f.makes; on = f.on; count = f.count; front = same ∙ f.front }
 
-  pub filled_idle : (made filled : ℕ) (bytes new : List ℕ) (at next : R) → Filled made filled bytes at → take filled new ≡ take filled bytes → MakesReads history remaining at interrupted next → Filled (made + 1) filled new next
-  filled_idle made filled bytes new at next f same read = record { given = f.given; makes = MakesReads-on history remaining reader at next f.given f.given made interrupted f.makes read (append-nil f.given); front = same ∙ f.front }
+  one_more : (made : ℕ) (these : List OneRead) (r : OneRead) → length these ≡ made → length (these ++ r ∷ []) ≡ made + 1
+  one_more made these r is = length-append these (r ∷ []) ∙ ap (λ n. n + 1) is
 
-  pub filled_more : (made filled n : ℕ) (bytes new : List ℕ) (at next : R) → Filled made filled bytes at → take filled new ≡ take filled bytes → MakesReads history remaining at (giving (take n (drop filled new))) next → Filled (made + 1) (filled + n) new next
-  filled_more made filled n bytes new at next f same read =
-      let part = take n (drop filled new) in record {
-        given = f.given ++ part;
-        makes = MakesReads-on history remaining reader at next f.given (f.given ++ part) made (giving part) f.makes read refl;
-        front = take-add filled n new ∙ ap (λ l. l ++ part) (same ∙ f.front) ∙ append_assoc old f.given part;
+  pub filled_idle : (made filled : ℕ) (bytes new : List ℕ) (at next : R) → Filled made filled bytes at → take filled new ≡ take filled bytes → MakesReads history remaining at (WasInterrupted ∷ []) next → Filled (made + 1) filled new next
+  filled_idle made filled bytes new at next f same read = record {
+    these = f.these ++ WasInterrupted ∷ [];
+    makes = MakesReads-on history remaining reader at next f.these (WasInterrupted ∷ []) f.makes read;
+    on = All-push MayReadOn f.these WasInterrupted f.on tt;
+    count = one_more made f.these WasInterrupted f.count;
+    front = same ∙ f.front ∙ ap (λ l. old ++ l) (sym (given-push f.these WasInterrupted ∙ append-nil (given f.these)));
+  }
+
+  pub filled_more : (made filled n : ℕ) (bytes new : List ℕ) (at next : R) → Filled made filled bytes at → take filled new ≡ take filled bytes → MakesReads history remaining at (Gave (take n (drop filled new)) ∷ []) next → 0 < n → filled + n ≤ length new → Filled (made + 1) (filled + n) new next
+  filled_more made filled n bytes new at next f same read some within =
+      let part = take n (drop filled new) in
+      let long : 0 < length part = omega (arith, length-take n (drop filled new), length-drop filled new, some, within) in record {
+        these = f.these ++ Gave part ∷ [];
+        makes = MakesReads-on history remaining reader at next f.these (Gave part ∷ []) f.makes read;
+        on = All-push MayReadOn f.these (Gave part) f.on long;
+        count = one_more made f.these (Gave part) f.count;
+        front = take-add filled n new ∙ ap (λ l. l ++ part) (same ∙ f.front) ∙ append_assoc old (given f.these) part ∙ ap (λ l. old ++ l) (sym (given-push f.these (Gave part)));
       }
 
+  -- a last read that gave nothing
+  last_front : (filled : ℕ) (bytes new : List ℕ) (these : List OneRead) (r : OneRead) → given_by r ≡ [] → take filled bytes ≡ old ++ given these → take filled new ≡ take filled bytes → take filled new ≡ old ++ given (these ++ r ∷ [])
+  last_front filled bytes new these r none front same = same ∙ front ∙ ap (λ l. old ++ l) (sym (given-push these r ∙ ap (λ l. given these ++ l) none ∙ append-nil (given these)))
+
+  within_most : (most made : ℕ) (these : List OneRead) (r : OneRead) → length these ≡ made → made + 1 ≤ most → length (these ++ r ∷ []) ≤ most
+  within_most most made these r count within = omega (arith, one_more made these r count, within)
+
   -- all is read
-  pub filled_end : {T : Type 0} (count : T) (most made filled : ℕ) (bytes new : List ℕ) (at next : R) → Filled made filled bytes at → take filled new ≡ take filled bytes → MakesReads history remaining at end next → made + 1 ≤ most → filled < 4294967295
-      → (these : Reads) × MakesReads history remaining reader these next × (take filled new ≡ old ++ these.given) × Fills {T = T} most these (Ok count) filled
-  filled_end count most made filled bytes new at next f same read within short = (record { given = f.given; reads = made + 1; failed = 0; empty = 1 }, MakesReads-on history remaining reader at next f.given f.given made end f.makes read (append-nil f.given), same ∙ f.front, (refl, refl, within, short))
+  pub filled_end : {T : Type 0} (count : T) (most made filled : ℕ) (bytes new : List ℕ) (at next : R) → Filled made filled bytes at → take filled new ≡ take filled bytes → MakesReads history remaining at (CameToEnd ∷ []) next → made + 1 ≤ most → filled < 4294967295
+      → (these : List OneRead) × MakesReads history remaining reader these next × (take filled new ≡ old ++ given these) × Fills {T = T} most these (Ok count) filled
+  filled_end count most made filled bytes new at next f same read within short = (
+    f.these ++ CameToEnd ∷ [],
+    MakesReads-on history remaining reader at next f.these (CameToEnd ∷ []) f.makes read,
+    last_front filled bytes new f.these CameToEnd refl f.front same,
+    (record { before = f.these; on = f.on; is = refl }, within_most most made f.these CameToEnd f.count within, short),
+  )
 
   -- a read failed
-  pub filled_failed : (T : Type 0) (most made filled : ℕ) (bytes new : List ℕ) (at next : R) → Filled made filled bytes at → take filled new ≡ take filled bytes → MakesReads history remaining at failure next → made + 1 ≤ most → filled < 4294967295
-      → (these : Reads) × MakesReads history remaining reader these next × (take filled new ≡ old ++ these.given) × Fills {T = T} most these (Err Io) filled
-  filled_failed T most made filled bytes new at next f same read within short = (record { given = f.given; reads = made + 1; failed = 1; empty = 0 }, MakesReads-on history remaining reader at next f.given f.given made failure f.makes read (append-nil f.given), same ∙ f.front, inr (inr (inl (refl, refl, within)), refl, short))
+  pub filled_failed : (T : Type 0) (most made filled : ℕ) (bytes new : List ℕ) (at next : R) → Filled made filled bytes at → take filled new ≡ take filled bytes → MakesReads history remaining at (HasFailed ∷ []) next → made + 1 ≤ most → filled < 4294967295
+      → (these : List OneRead) × MakesReads history remaining reader these next × (take filled new ≡ old ++ given these) × Fills {T = T} most these (Err Io) filled
+  filled_failed T most made filled bytes new at next f same read within short = (
+    f.these ++ HasFailed ∷ [],
+    MakesReads-on history remaining reader at next f.these (HasFailed ∷ []) f.makes read,
+    last_front filled bytes new f.these HasFailed refl f.front same,
+    inr (inr (inl (refl, record { before = f.these; on = f.on; is = refl }, within_most most made f.these HasFailed f.count within)), short),
+  )
 
 -- the read that came to this answer
-module _ {R : Type 0} (history : R → Reads) (remaining : R → Option (List ℕ)) (at next : R) (answer : Result ℕ ReadFault) (buffer : List ℕ) (read : ReadsOn (history at) (read_of answer buffer) (history next)) (consumed : ReadConsumes (remaining at) (remaining next) answer buffer) where
-  pub read_ended : answer ≡ Ok 0 → MakesReads history remaining at end next
-  read_ended is = (subst (λ a. ReadsOn (history at) (read_of a buffer) (history next)) is read, (subst (λ a. ReadConsumes (remaining at) (remaining next) a buffer) is consumed).0, end_adds_up)
+module _ {R : Type 0} (history : R → List OneRead) (remaining : R → Option (List ℕ)) (at next : R) (answer : Result ℕ ReadFault) (buffer : List ℕ) (read : history next ≡ history at ++ read_of answer buffer ∷ []) (consumed : ReadConsumes (remaining at) (remaining next) answer buffer) where
+  pub read_ended : answer ≡ Ok 0 → MakesReads history remaining at (CameToEnd ∷ []) next
+  read_ended is = (subst (λ a. history next ≡ history at ++ read_of a buffer ∷ []) is read, (subst (λ a. ReadConsumes (remaining at) (remaining next) a buffer) is consumed).0)
 
-  pub read_gave : (n : ℕ) → answer ≡ Ok n → 0 < n → MakesReads history remaining at (giving (take n buffer)) next
+  pub read_gave : (n : ℕ) → answer ≡ Ok n → 0 < n → MakesReads history remaining at (Gave (take n buffer) ∷ []) next
   read_gave n is some = (
-    subst (λ t. ReadsOn (history at) t (history next)) (ap (λ a. read_of a buffer) is ∙ read_some n buffer some) read,
-    (subst (λ a. ReadConsumes (remaining at) (remaining next) a buffer) is consumed).0,
-    giving_adds_up (take n buffer),
+    subst (λ t. history next ≡ history at ++ t ∷ []) (ap (λ a. read_of a buffer) is ∙ read_some n buffer some) read,
+    subst (Consumes (remaining at) (remaining next)) (sym (append-nil (take n buffer))) (subst (λ a. ReadConsumes (remaining at) (remaining next) a buffer) is consumed).0,
   )
 
-  pub read_failed : answer ≡ Err Failed → MakesReads history remaining at failure next
-  read_failed is = (
-    subst (λ a. ReadsOn (history at) (read_of a buffer) (history next)) is read,
-    Consumes-kept (remaining at) (remaining at) (remaining next) [] (Consumes-nil (remaining at)) (subst (λ a. ReadConsumes (remaining at) (remaining next) a buffer) is consumed),
-    failure_adds_up,
-  )
+  kept : (f : ReadFault) → answer ≡ Err f → Consumes (remaining at) (remaining next) []
+  kept f is = Consumes-kept (remaining at) (remaining at) (remaining next) [] (Consumes-nil (remaining at)) (subst (λ a. ReadConsumes (remaining at) (remaining next) a buffer) is consumed)
+
+  pub read_interrupted : answer ≡ Err Interrupted → MakesReads history remaining at (WasInterrupted ∷ []) next
+  read_interrupted is = (subst (λ a. history next ≡ history at ++ read_of a buffer ∷ []) is read, kept Interrupted is)
+
+  pub read_failed : answer ≡ Err Failed → MakesReads history remaining at (HasFailed ∷ []) next
+  read_failed is = (subst (λ a. history next ≡ history at ++ read_of a buffer ∷ []) is read, kept Failed is)

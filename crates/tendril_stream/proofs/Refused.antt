@@ -4,18 +4,32 @@ use Rattle.tendril_text.specs.Texts.{Text}
 use Rattle.tendril_block.specs.declared.refusal.Refusal.{Refusal}
 use Rattle.tendril_block.specs.declared.refusal.Refusal.TheVariants.{Failed}
 use Rattle.tendril_lossy.specs.Lossy.{Told, due_open, kept}
+use Rattle.tendril_stream.proofs.Fed.{received}
 use Rattle.tendril_stream.proofs.Own.{unfailed}
 use Rattle.tendril_stream.proofs.Stands.{stands_from_nothing}
 use Rattle.tendril_stream.specs.Compositions.{FollowsCalls, StandsAt, StreamStops}
 use Rattle.tendril_stream.specs.Decoders.{Decodes, DecodingStops, EndStops}
-use Rattle.tendril_stream.specs.Readings.{Halts, IsOfReading, StopsBetween}
-use Rattle.tendril_stream.specs.Reads.{Reads}
+use Rattle.tendril_stream.specs.Readings.{Halts, IsOfReading, Receives, StopsBetween}
+use Rattle.tendril_stream.specs.Reads.{OneRead, given}
 use Rattle.tendril_stream.specs.Sinks.{Sent, Piece, Stops}
 
-between_is_of_reading : (most : ℕ) (these : Reads) (r : Refusal) → StopsBetween most these r → IsOfReading r
+between_is_of_reading : (most : ℕ) (these : List OneRead) (r : Refusal) → StopsBetween most these r → IsOfReading r
 between_is_of_reading most these r (inl k) = inl k.0
 between_is_of_reading most these r (inr (inl k)) = inr (inl k.0)
 between_is_of_reading most these r (inr (inr k)) = inr (inr k.0)
+
+module _ {S D : Type 0} (takes : S → Sent → S → Type 0) (inner : D → S) (held : D → List ℕ) (failed : D → Bool) where
+  abbrev pub DecoderTakes : D → Sent → D → Type 0
+  DecoderTakes d e n = (failed d ≡ false) × (failed n ≡ false) × Decodes takes (inner d) (held d) e (inner n) (held n)
+
+  -- a new decoder that accepted what was read
+  pub stands_read : (after : S → List Told → Type 0) → FollowsCalls takes after → (sink : S) (d last : D) (these : List OneRead) → inner d ≡ sink → held d ≡ [] → failed d ≡ false → after sink []
+      → Receives DecoderTakes d these last → StandsAt after (inner last) (held last) (given these) × (failed last ≡ false)
+  stands_read after goes sink d last these is none alive new h =
+      let r = received DecoderTakes these d last h in (
+        subst (StandsAt after (inner last) (held last)) r.2 (stands_from_nothing takes after goes inner held failed r.0 d last sink is none new r.1),
+        unfailed failed (λ s p t. Decodes takes (inner s) (held s) (Piece p) (inner t) (held t)) r.0 d last alive r.1,
+      )
 
 module _ {S D : Type 0} (takes : S → Sent → S → Type 0) (refuses : S → Sent → Refusal → S → Type 0) (inner : D → S) (held : D → List ℕ) (failed : D → Bool) where
   -- at a piece, where the cut end of b is kept
@@ -35,7 +49,7 @@ module _ {S D : Type 0} (takes : S → Sent → S → Type 0) (refuses : S → S
       (λ k. subst (λ l. EndStops takes refuses ends (inner d) l r) keeps k.1) h
 
   -- while it was read into, as a new one
-  pub stream_stops : (ends : S → Refusal → Type 0) (after : S → List Told → Type 0) → FollowsCalls takes after → (sink : S) (d : D) (most : ℕ) (these : Reads) (r : Refusal) (handed : Option D)
+  pub stream_stops : (ends : S → Refusal → Type 0) (after : S → List Told → Type 0) → FollowsCalls takes after → (sink : S) (d : D) (most : ℕ) (these : List OneRead) (r : Refusal) (handed : Option D)
       → inner d ≡ sink → held d ≡ [] → failed d ≡ false → after sink []
       → Halts (λ d e n. (failed d ≡ false) × (failed n ≡ false) × Decodes takes (inner d) (held d) e (inner n) (held n))
       (λ d e r n. (failed n ≡ true) × (((failed d ≡ true) × (r ≡ Failed) × (inner n ≡ inner d)) ⊎ ((failed d ≡ false) × DecodingStops takes refuses (inner d) (held d) e r (inner n))))
@@ -44,33 +58,31 @@ module _ {S D : Type 0} (takes : S → Sent → S → Type 0) (refuses : S → S
       → IsOfReading r ⊎ StreamStops takes refuses ends after inner failed most these r handed
   stream_stops ends after goes sink d most these r handed is none alive new (inl h) = inl (between_is_of_reading most these r h.stops)
   stream_stops ends after goes sink d most these r handed is none alive new (inr (inl h)) =
-      let pieces = h.receives.0 in
-      let at = subst (StandsAt after (inner h.sink) (held h.sink)) h.receives.2 (stands_from_nothing takes after goes inner held failed pieces d h.sink sink is none new h.receives.1) in
-      let running = unfailed failed _ pieces d h.sink alive h.receives.1 in
+      let stands = stands_read takes inner held failed after goes sink d h.sink h.before is none alive new h.receives in
+      let at = stands.0 in
+      let running = stands.1 in
       inr (inl (record {
         before = h.before;
         piece = h.piece;
         sink = inner h.sink;
         decoder = h.last;
-        given = h.given;
+        is = h.is;
         tells = at.tells;
-        stops = stops_at_piece h.sink h.piece r h.last h.before running at.keeps h.refused;
+        stops = stops_at_piece h.sink h.piece r h.last (given h.before) running at.keeps h.refused;
         has_failed = h.refused.0;
         back = h.back;
-        none_failed = h.none_failed;
-        empty = h.empty;
+        on = h.on;
         within = h.within;
       }))
   stream_stops ends after goes sink d most these r handed is none alive new (inr (inr h)) =
-      let pieces = h.receives.0 in
-      let at = subst (StandsAt after (inner h.sink) (held h.sink)) h.receives.2 (stands_from_nothing takes after goes inner held failed pieces d h.sink sink is none new h.receives.1) in
-      let running = unfailed failed _ pieces d h.sink alive h.receives.1 in
+      let stands = stands_read takes inner held failed after goes sink d h.sink these is none alive new h.receives in
+      let at = stands.0 in
+      let running = stands.1 in
       inr (inr (record {
         sink = inner h.sink;
         tells = at.tells;
-        stops = stops_at_end ends h.sink r these.given running at.keeps h.refused;
+        stops = stops_at_end ends h.sink r (given these) running at.keeps h.refused;
         gone = h.gone;
-        none_failed = h.none_failed;
-        empty = h.empty;
+        at_end = h.at_end;
         within = h.within;
       }))

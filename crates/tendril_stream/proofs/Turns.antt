@@ -5,7 +5,7 @@ use Rattle.std.specs.Str.{chars}
 use Rattle.std.proofs.lemmas.List.{drop-drop}
 use Rattle.std.proofs.lemmas.List.Elements.{All-weaker}
 use Rattle.std.proofs.lemmas.Str.{chars-nil}
-use Rattle.std.specs.Prelude.{IfSome}
+use Rattle.std.specs.Prelude.{IfSome, IsSomeAnd}
 use Rattle.tendril_text.proofs.Decoding.{rest-through, handed-through, long-behind}
 use Rattle.tendril_text.specs.Decoding.{IsHandedOn, IsRest, LongPieceMay, PopsText, broken_len, bytes_of, listed}
 use Rattle.tendril_text.specs.Texts.{Text, Keeps}
@@ -18,8 +18,8 @@ use Rattle.tendril_lossy.proofs.Streams.{only_lossy}
 use Rattle.tendril_lossy.specs.Lossy.{Told, Keep, Bad, Cut, Char, IsOpen, lossy, closed_of, due_open, cut_bytes, kept, replaced}
 use Rattle.tendril_lossy.specs.declared.search.Ending.{Ending}
 use Rattle.tendril_lossy.specs.declared.search.Ending.TheVariants.{Whole, Broken, Open}
-use Rattle.tendril_stream.proofs.Feeds.{Feeds-append, Feeds-none, Feeds-one, Feeds-same, Stops-after, Stops-more}
-use Rattle.tendril_stream.specs.Sinks.{Sent, Piece, Fault, Feeds, IsStop, Stops, IsSentOf}
+use Rattle.tendril_stream.proofs.Feeds.{Feeds-append, Feeds-none, Feeds-one, Feeds-same, Stops-after, Stops-call, Stops-more}
+use Rattle.tendril_stream.specs.Sinks.{Sent, Piece, Fault, Feeds, IsStop, RefusesCall, Stops, IsSentOf}
 
 -- what is left of a piece isn't longer
 rest_shorter : (input rest : List ℕ) (n : ℕ) → rest ≡ drop n input → length rest ≤ length input
@@ -128,7 +128,17 @@ module _ {S : Type 0} (takes : S → Sent → S → Type 0) (refuses : S → Sen
       (sym p.due))
       (sym so.due)
 
-  -- the next text is refused
+  -- the text is refused
+  pub unsent : (piece b c : Text) (old s u : S) (text : Option Text) (ending : Ending) (r : Refusal) → SoFar takes piece old b s → PopsText b text ending c → IsSomeAnd text (λ t. RefusesCall refuses s (Piece t) r u) → Stops takes refuses piece old (due_open piece.bytes) r u
+  unsent piece b c old s u None ending r so h refused = absurd refused
+  unsent piece b c old s u (Some t) ending r so h refused =
+      let p = popped b c (Some t) ending h in
+      let fit = handed-through piece b so.part (rest_shorter piece.bytes b.bytes so.end.0 so.end.1) t h.handed in
+      Stops-after takes refuses piece old s u so.told (due_open b.bytes) (due_open piece.bytes) r so.feeds
+      (Stops-call takes refuses piece s (Piece t) (told_by ending ++ due_open c.bytes) (due_open b.bytes) r u fit (sym p.due) refused)
+      (sym so.due)
+
+  -- no further text could be taken out
   pub unpopped : (piece b : Text) (old s : S) (r : Refusal) → SoFar takes piece old b s → LongPieceMay b.bytes r → Stops takes refuses piece old (due_open piece.bytes) r s
   unpopped piece b old s r so may = record {
     sent = so.feeds.sent;
@@ -153,12 +163,12 @@ module _ {S : Type 0} (takes : S → Sent → S → Type 0) (refuses : S → Sen
   pub Feeds-through : (a b : S) (told : List Told) → Feeds takes rest a told b → Feeds takes piece a told b
   Feeds-through a b told h = record { sent = h.sent; each = All-weaker (IsSentOf rest) (IsSentOf piece) (sent_through piece rest part less) h.sent h.each; calls = h.calls; tells = h.tells }
 
-  stop_through : (mid new : S) (r : Refusal) → IsStop refuses rest mid r new → IsStop refuses piece mid r new
-  stop_through mid new r (inl k) = inl (long-behind piece.bytes rest.bytes end.0 r end.1 k.0, k.1)
-  stop_through mid new r (inr k) = inr k
+  stop_through : (mid new : S) (due : List Told) (r : Refusal) → IsStop refuses rest mid due r new → IsStop refuses piece mid due r new
+  stop_through mid new due r (inl k) = inl (long-behind piece.bytes rest.bytes end.0 r end.1 k.0, k.1)
+  stop_through mid new due r (inr k) = inr (record { call = k.call; fit = sent_through piece rest part less k.call k.fit; rest = k.rest; front = k.front; refused = k.refused })
 
   pub Stops-through : (a b : S) (told : List Told) (r : Refusal) → Stops takes refuses rest a told r b → Stops takes refuses piece a told r b
-  Stops-through a b told r h = record { sent = h.sent; each = All-weaker (IsSentOf rest) (IsSentOf piece) (sent_through piece rest part less) h.sent h.each; mid = h.mid; calls = h.calls; rest = h.rest; front = h.front; stop = stop_through h.mid b r h.stop }
+  Stops-through a b told r h = record { sent = h.sent; each = All-weaker (IsSentOf rest) (IsSentOf piece) (sent_through piece rest part less) h.sent h.each; mid = h.mid; calls = h.calls; rest = h.rest; front = h.front; stop = stop_through h.mid b h.rest r h.stop }
 
 -- a text of few bytes, which kept ones and a piece begin with
 pub short_handed : (piece t : Text) (k input rest : List ℕ) → 0 < length k → CompletesTo k input t.bytes rest → t.copied ≡ length t.bytes → IsHandedOn piece t

@@ -1,11 +1,28 @@
 -- A decoder over a sink whose state is known by what it was told.
-use Rattle.std.specs.Prelude.{◌≡◌, ◌≤◌, ℕ, Bool, true, ◌⊎◌, List, [], ◌++◌, flat_map, Option, Some, None}
+use Rattle.std.specs.Prelude.{
+  ◌≡◌,
+  ◌≤◌,
+  ℕ,
+  Bool,
+  true,
+  ◌⊎◌,
+  List,
+  [],
+  ◌∷◌,
+  ◌++◌,
+  length,
+  flat_map,
+  All,
+  Option,
+  Some,
+  None,
+}
 use Rattle.std.specs.Iterator.{YieldsThen}
 use Rattle.tendril_block.specs.declared.refusal.Refusal.{Refusal}
 use Rattle.tendril_text.specs.Texts.{Text}
 use Rattle.tendril_lossy.specs.Lossy.{Told, due, due_open, kept}
 use Rattle.tendril_stream.specs.Decoders.{Decodes, Ends, EndStops}
-use Rattle.tendril_stream.specs.Reads.{Reads}
+use Rattle.tendril_stream.specs.Reads.{OneRead, Gave, CameToEnd, MayReadOn, StopsWith, given}
 use Rattle.tendril_stream.specs.Sinks.{Sent, Piece, Stops, told_of}
 
 -- if `after a told` and the sink accepts e, then `after b (told ++ told_of e)`
@@ -45,39 +62,38 @@ pub record PiecesStop {I It S : Type 0} (becomes : I → It → Type 0) (steps :
       ⊎ (YieldsThen steps iterator read None last
       × EndStops takes refuses ends sink (kept (flat_map (λ p. p.bytes) read)) refusal)
 
--- A new decoder refused the last piece of a stream that was read through it, and comes back failed. By then its sink
--- was told what is due of what was read before, and of that piece a beginning.
+-- A new decoder refused what the last read of a stream gave, and comes back failed. By then its sink was told what is
+-- due of what was read before, and of that piece a beginning.
 pub record StreamStopsAtPiece {S D : Type 0} (takes : S → Sent → S → Type 0) (refuses : S → Sent → Refusal → S → Type 0)
-    (after : S → List Told → Type 0) (inner : D → S) (failed : D → Bool) (most : ℕ) (these : Reads) (refusal : Refusal)
-    (handed : Option D) : Type 0 where
-  pub before : List ℕ
+    (after : S → List Told → Type 0) (inner : D → S) (failed : D → Bool) (most : ℕ) (these : List OneRead)
+    (refusal : Refusal) (handed : Option D) : Type 0 where
+  pub before : List OneRead
   pub piece : Text
   pub sink : S
   pub decoder : D
-  pub given : these.given ≡ before ++ piece.bytes
-  pub tells : after sink (due_open before)
-  pub stops : Stops takes refuses piece sink (due_open (kept before ++ piece.bytes)) refusal (inner decoder)
+  pub is : these ≡ before ++ Gave piece.bytes ∷ []
+  pub tells : after sink (due_open (given before))
+  pub stops : Stops takes refuses piece sink (due_open (kept (given before) ++ piece.bytes)) refusal (inner decoder)
   pub has_failed : failed decoder ≡ true
   pub back : handed ≡ Some decoder
-  pub none_failed : these.failed ≡ 0
-  pub empty : these.empty ≡ 0
-  pub within : these.reads ≤ most
+  pub on : All MayReadOn these
+  pub within : length these ≤ most
 
 -- It refused the end, and is gone. By then its sink was told what is due of what was read, and of the end a beginning.
 pub record StreamStopsAtEnd {S D : Type 0} (takes : S → Sent → S → Type 0) (refuses : S → Sent → Refusal → S → Type 0)
-    (ends : S → Refusal → Type 0) (after : S → List Told → Type 0) (most : ℕ) (these : Reads) (refusal : Refusal)
+    (ends : S → Refusal → Type 0) (after : S → List Told → Type 0) (most : ℕ) (these : List OneRead) (refusal : Refusal)
     (handed : Option D) : Type 0 where
   pub sink : S
-  pub tells : after sink (due_open these.given)
-  pub stops : EndStops takes refuses ends sink (kept these.given) refusal
+  pub tells : after sink (due_open (given these))
+  pub stops : EndStops takes refuses ends sink (kept (given these)) refusal
   pub gone : handed ≡ None
-  pub none_failed : these.failed ≡ 0
-  pub empty : these.empty ≡ 1
-  pub within : these.reads ≤ most
+  pub at_end : StopsWith CameToEnd these
+  pub within : length these ≤ most
 
 -- where a new decoder stopped the stream that was read through it
 abbrev pub StreamStops : {S D : Type 0} → (S → Sent → S → Type 0) → (S → Sent → Refusal → S → Type 0)
-    → (S → Refusal → Type 0) → (S → List Told → Type 0) → (D → S) → (D → Bool) → ℕ → Reads → Refusal → Option D → Type 0
+    → (S → Refusal → Type 0) → (S → List Told → Type 0) → (D → S) → (D → Bool) → ℕ → List OneRead → Refusal → Option D
+    → Type 0
 StreamStops takes refuses ends after inner failed most these refusal handed =
     StreamStopsAtPiece takes refuses after inner failed most these refusal handed
     ⊎ StreamStopsAtEnd takes refuses ends after most these refusal handed

@@ -5,7 +5,7 @@ use Rattle.tendril_text.specs.Texts.{Text}
 use Rattle.tendril_block.specs.declared.refusal.Refusal.{Refusal}
 use Rattle.tendril_block.specs.declared.refusal.Refusal.TheVariants.{SinkRefused}
 use Rattle.tendril_lossy.specs.Lossy.{Told, due, due_open, kept}
-use Rattle.tendril_stream.specs.Sinks.{Sent, Piece, Fault, Feeds, Stops}
+use Rattle.tendril_stream.specs.Sinks.{Sent, Piece, Fault, Feeds, RefusesCall, Stops}
 
 -- no piece: at the end of a stream a decoder sends short texts alone
 abbrev pub no_piece : Text
@@ -32,7 +32,7 @@ abbrev pub DecodingStops : {S : Type 0} → (S → Sent → S → Type 0) → (S
 DecodingStops takes refuses old k (Piece p) refusal new =
     Stops takes refuses p old (due_open (k ++ p.bytes)) refusal new
 DecodingStops takes refuses old k (Fault words) refusal new =
-    (refusal ≡ SinkRefused) × ((r : Refusal) × refuses old (Fault words) r new)
+    RefusesCall refuses old (Fault words) refusal new
 
 -- an accepted end
 abbrev pub Ends : {S O : Type 0} → (S → Sent → S → Type 0) → (S → O → Type 0) → S → List ℕ → O → Type 0

@@ -5,10 +5,15 @@ use Rattle.std.specs.Prelude.{
   ◌<◌,
   ◌≤◌,
   ◌⊎◌,
+  Bool,
+  true,
+  false,
   List,
+  [],
+  ◌∷◌,
   ◌++◌,
   length,
-  flat_map,
+  All,
   Option,
   Some,
   None,
@@ -22,108 +27,144 @@ use Rattle.std.specs.List.{FoldsTo}
 use Rattle.tendril_text.specs.Texts.{Text}
 use Rattle.tendril_block.specs.declared.refusal.Refusal.{Refusal}
 use Rattle.tendril_block.specs.declared.refusal.Refusal.TheVariants.{Io, Memory, TooLong, TooManyReads}
-use Rattle.tendril_stream.specs.Reads.{AddUp, Reads, ReadsOn, giving, interrupted, end}
+use Rattle.tendril_stream.specs.Reads.{
+  OneRead,
+  Gave,
+  WasInterrupted,
+  HasFailed,
+  CameToEnd,
+  MayReadOn,
+  StopsWith,
+  given,
+}
 use Rattle.tendril_stream.specs.Sinks.{Sent, Piece}
 use Rattle.tendril_stream.specs.declared.reading.Part.{Part}
 use Rattle.tendril_stream.specs.declared.reading.Part.TheVariants.{Bytes, Interrupted, End}
 
 -- a reader made these reads, and where it tells what it will give, it has given that
-abbrev pub MakesReads : {R : Type 0} → (R → Reads) → (R → Option (List ℕ)) → R → Reads → R → Type 0
+abbrev pub MakesReads : {R : Type 0} → (R → List OneRead) → (R → Option (List ℕ)) → R → List OneRead → R → Type 0
 MakesReads history remaining old these new =
-    ReadsOn (history old) these (history new) × Consumes (remaining old) (remaining new) these.given × AddUp these
+    (history new ≡ history old ++ these) × Consumes (remaining old) (remaining new) (given these)
 
 -- the read that came to this
-abbrev pub reads_of : {A B : _} → Part A B → Reads
-reads_of (Bytes t) = giving t.bytes
-reads_of Interrupted = interrupted
-reads_of End = end
+abbrev pub read_for : {A B : _} → Part A B → OneRead
+read_for (Bytes t) = Gave t.bytes
+read_for Interrupted = WasInterrupted
+read_for End = CameToEnd
 
--- at the end, a reader that tells what it will give has no more
-abbrev pub EndsAt : {A B : _} → Part A B → Option (List ℕ) → Type 0
-EndsAt (Bytes t) left = Unit {0}
-EndsAt Interrupted left = Unit {0}
-EndsAt End left = IsAtEnd left
+-- a piece that one read gave: a byte at least, and 4096 at most
+abbrev pub IsReadPiece : Text → Type 0
+IsReadPiece piece = (0 < length piece.bytes) × (length piece.bytes ≤ 4096)
 
--- a sink accepted these bytes, in pieces
-abbrev pub Receives : {S : Type 0} → (S → Sent → S → Type 0) → S → List ℕ → S → Type 0
-Receives takes old bytes new =
-    (pieces : List Text) × FoldsTo (λ s p t. takes s (Piece p) t) old pieces new
-    × (flat_map (λ p. p.bytes) pieces ≡ bytes)
+-- what came of a read is such a piece, or at the end a reader that tells what it will give has no more
+abbrev pub IsReadPart : {A B : _} → Part A B → Option (List ℕ) → Type 0
+IsReadPart (Bytes t) left = IsReadPiece t
+IsReadPart Interrupted left = Unit {0}
+IsReadPart End left = IsAtEnd left
+
+-- a sink accepts the piece that a read gave, and of other reads hears nothing
+abbrev pub Hears : {S : Type 0} → (S → Sent → S → Type 0) → S → OneRead → S → Type 0
+Hears takes old (Gave bytes) new =
+    (piece : Text) × (piece.bytes ≡ bytes) × IsReadPiece piece × takes old (Piece piece) new
+Hears takes old WasInterrupted new = new ≡ old
+Hears takes old HasFailed new = new ≡ old
+Hears takes old CameToEnd new = new ≡ old
+
+-- a sink accepts what these reads gave, a piece for each that gave bytes
+abbrev pub Receives : {S : Type 0} → (S → Sent → S → Type 0) → S → List OneRead → S → Type 0
+Receives takes old these new = FoldsTo (Hears takes) old these new
+
+-- One read into a sink.
+module _ {R S : Type 0} (history : R → List OneRead) (remaining : R → Option (List ℕ)) (reader reader' : R)
+    (sink sink' : S) where
+  -- it came to the end, and the sink stays as it is; or the next may be made, and the sink has heard of this one
+  abbrev pub ReadsOnce : (S → Sent → S → Type 0) → Bool → Type 0
+  ReadsOnce takes true =
+      MakesReads history remaining reader (CameToEnd ∷ []) reader' × IsAtEnd (remaining reader') × (sink' ≡ sink)
+  ReadsOnce takes false =
+      (one : OneRead) × MayReadOn one × MakesReads history remaining reader (one ∷ []) reader'
+      × Hears takes sink one sink'
+
+  -- There was no memory for it; it failed; or the sink refused the piece that it gave.
+  abbrev pub ReadStops : (S → Sent → Refusal → S → Type 0) → Refusal → Type 0
+  ReadStops refuses refusal =
+      ((refusal ≡ Memory) × (reader' ≡ reader) × (sink' ≡ sink))
+      ⊎ (((refusal ≡ Io) × MakesReads history remaining reader (HasFailed ∷ []) reader' × (sink' ≡ sink))
+      ⊎ ((piece : Text) × IsReadPiece piece × MakesReads history remaining reader (Gave piece.bytes ∷ []) reader'
+      × refuses sink (Piece piece) refusal sink'))
 
 -- all was read, up to the first read of none, and the sink accepted it and its end; so many reads at most
 pub record ReadsAll {S O : Type 0} (takes : S → Sent → S → Type 0) (finishes : S → O → Type 0) (most : ℕ) (sink : S)
-    (these : Reads) (out : O) : Type 0 where
+    (these : List OneRead) (out : O) : Type 0 where
   pub last : S
-  pub receives : Receives takes sink these.given last
+  pub receives : Receives takes sink these last
   pub finished : finishes last out
-  pub failed : these.failed ≡ 0
-  pub empty : these.empty ≡ 1
-  pub within : these.reads ≤ most
+  pub ends : StopsWith CameToEnd these
+  pub within : length these ≤ most
 
 -- no read was left, or one failed, or there was no memory for one that was left
-abbrev pub StopsBetween : ℕ → Reads → Refusal → Type 0
+abbrev pub StopsBetween : ℕ → List OneRead → Refusal → Type 0
 StopsBetween most these refusal =
-    ((refusal ≡ TooManyReads) × (these.reads ≡ most) × (these.failed ≡ 0))
-    ⊎ (((refusal ≡ Io) × (these.failed ≡ 1) × (these.reads ≤ most))
-    ⊎ ((refusal ≡ Memory) × (these.failed ≡ 0) × (these.reads < most)))
+    ((refusal ≡ TooManyReads) × All MayReadOn these × (length these ≡ most))
+    ⊎ (((refusal ≡ Io) × StopsWith HasFailed these × (length these ≤ most))
+    ⊎ ((refusal ≡ Memory) × All MayReadOn these × (length these < most)))
 
 -- a refusal of reading itself
 abbrev pub IsOfReading : Refusal → Type 0
 IsOfReading refusal = (refusal ≡ TooManyReads) ⊎ ((refusal ≡ Io) ⊎ (refusal ≡ Memory))
 
 -- Reading stopped between two pieces. The sink comes back, and has accepted all that was read.
-pub record HaltsBetween {S : Type 0} (takes : S → Sent → S → Type 0) (most : ℕ) (old : S) (these : Reads)
+pub record HaltsBetween {S : Type 0} (takes : S → Sent → S → Type 0) (most : ℕ) (old : S) (these : List OneRead)
     (refusal : Refusal) (handed : Option S) : Type 0 where
   pub sink : S
-  pub receives : Receives takes old these.given sink
+  pub receives : Receives takes old these sink
   pub back : handed ≡ Some sink
   pub stops : StopsBetween most these refusal
-  pub empty : these.empty ≡ 0
 
--- The sink refused the last piece, and comes back. It had accepted all that was read before.
+-- The sink refused what the last read gave, and comes back. It had accepted all that was read before.
 pub record HaltsAtPiece {S : Type 0} (takes : S → Sent → S → Type 0) (refuses : S → Sent → Refusal → S → Type 0)
-    (most : ℕ) (old : S) (these : Reads) (refusal : Refusal) (handed : Option S) : Type 0 where
+    (most : ℕ) (old : S) (these : List OneRead) (refusal : Refusal) (handed : Option S) : Type 0 where
   pub sink : S
-  pub before : List ℕ
+  pub before : List OneRead
   pub piece : Text
   pub last : S
   pub receives : Receives takes old before sink
-  pub given : these.given ≡ before ++ piece.bytes
+  pub is : these ≡ before ++ Gave piece.bytes ∷ []
+  pub read : IsReadPiece piece
   pub refused : refuses sink (Piece piece) refusal last
   pub back : handed ≡ Some last
-  pub none_failed : these.failed ≡ 0
-  pub empty : these.empty ≡ 0
-  pub within : these.reads ≤ most
+  pub on : All MayReadOn these
+  pub within : length these ≤ most
 
 -- The sink refused its end, and is gone. It had accepted all that was read.
 pub record HaltsAtEnd {S : Type 0} (takes : S → Sent → S → Type 0) (ends : S → Refusal → Type 0) (most : ℕ) (old : S)
-    (these : Reads) (refusal : Refusal) (handed : Option S) : Type 0 where
+    (these : List OneRead) (refusal : Refusal) (handed : Option S) : Type 0 where
   pub sink : S
-  pub receives : Receives takes old these.given sink
+  pub receives : Receives takes old these sink
   pub refused : ends sink refusal
   pub gone : handed ≡ None
-  pub none_failed : these.failed ≡ 0
-  pub empty : these.empty ≡ 1
-  pub within : these.reads ≤ most
+  pub at_end : StopsWith CameToEnd these
+  pub within : length these ≤ most
 
 -- where reading into a sink stopped
 abbrev pub Halts : {S : Type 0} → (S → Sent → S → Type 0) → (S → Sent → Refusal → S → Type 0) → (S → Refusal → Type 0)
-    → ℕ → S → Reads → Refusal → Option S → Type 0
+    → ℕ → S → List OneRead → Refusal → Option S → Type 0
 Halts takes refuses ends most old these refusal handed =
     HaltsBetween takes most old these refusal handed
     ⊎ (HaltsAtPiece takes refuses most old these refusal handed ⊎ HaltsAtEnd takes ends most old these refusal handed)
 
 -- Why reading into a text ended, and how long the text is then: it was read to the end; or it is as long as a text can
 -- be; or no read was left, or one failed, or there was no memory for one.
-abbrev pub Fills : {T : Type 0} → ℕ → Reads → Result T Refusal → ℕ → Type 0
-Fills most these (Ok count) len = (these.failed ≡ 0) × (these.empty ≡ 1) × (these.reads ≤ most) × (len < 4294967295)
+abbrev pub Fills : {T : Type 0} → ℕ → List OneRead → Result T Refusal → ℕ → Type 0
+Fills most these (Ok count) len = StopsWith CameToEnd these × (length these ≤ most) × (len < 4294967295)
 Fills most these (Err refusal) len =
-    ((refusal ≡ TooLong) × (len ≡ 4294967295) × (these.failed ≡ 0) × (these.empty ≡ 0) × (these.reads ≤ most))
-    ⊎ (StopsBetween most these refusal × (these.empty ≡ 0) × (len < 4294967295))
+    ((refusal ≡ TooLong) × (len ≡ 4294967295) × All MayReadOn these × (length these ≤ most))
+    ⊎ (StopsBetween most these refusal × (len < 4294967295))
 
 -- all that was read went behind a text, and the answer is how many bytes that is
-abbrev pub Adds : {R : Type 0} → (R → Reads) → (R → Option (List ℕ)) → ℕ → R → R → Text → Text → Result ℕ Refusal
-    → Type 0
+abbrev pub Adds : {R : Type 0} → (R → List OneRead) → (R → Option (List ℕ)) → ℕ → R → R → Text → Text
+    → Result ℕ Refusal → Type 0
 Adds history remaining most reader reader' text text' result =
-    (these : Reads) × MakesReads history remaining reader these reader' × (text'.bytes ≡ text.bytes ++ these.given)
-    × IfOk result (λ n. n ≡ length these.given) × Fills most these result (length text'.bytes)
+    (these : List OneRead) × MakesReads history remaining reader these reader'
+    × (text'.bytes ≡ text.bytes ++ given these) × IfOk result (λ n. n ≡ length (given these))
+    × Fills most these result (length text'.bytes)

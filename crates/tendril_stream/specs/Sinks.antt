@@ -35,14 +35,23 @@ pub record Feeds {S : Type 0} (takes : S → Sent → S → Type 0) (piece : Tex
   pub calls : FoldsTo takes old sent new
   pub tells : told sent ≡ due
 
--- a call was refused by the sink
-abbrev pub SinkRefuses : {S : Type 0} → (S → Sent → Refusal → S → Type 0) → S → Refusal → S → Type 0
-SinkRefuses refuses mid refusal new = (refusal ≡ SinkRefused) × (e : Sent) × (r : Refusal) × refuses mid e r new
+-- the sink refused this call
+abbrev pub RefusesCall : {S : Type 0} → (S → Sent → Refusal → S → Type 0) → S → Sent → Refusal → S → Type 0
+RefusesCall refuses mid call refusal new = (refusal ≡ SinkRefused) × ((r : Refusal) × refuses mid call r new)
 
--- or wasn't made, since no text could be taken out of a long piece
-abbrev pub IsStop : {S : Type 0} → (S → Sent → Refusal → S → Type 0) → Text → S → Refusal → S → Type 0
-IsStop refuses piece mid refusal new =
-    (LongPieceMay piece.bytes refusal × (new ≡ mid)) ⊎ SinkRefuses refuses mid refusal new
+-- it refused a call that is one of the piece, and tells a beginning of what is still due
+pub record SinkRefuses {S : Type 0} (refuses : S → Sent → Refusal → S → Type 0) (piece : Text) (mid : S)
+    (due : List Told) (refusal : Refusal) (new : S) : Type 0 where
+  pub call : Sent
+  pub fit : IsSentOf piece call
+  pub rest : List Told
+  pub front : told_of call ++ rest ≡ due
+  pub refused : RefusesCall refuses mid call refusal new
+
+-- or no call was made, since no text could be taken out of a long piece
+abbrev pub IsStop : {S : Type 0} → (S → Sent → Refusal → S → Type 0) → Text → S → List Told → Refusal → S → Type 0
+IsStop refuses piece mid due refusal new =
+    (LongPieceMay piece.bytes refusal × (new ≡ mid)) ⊎ SinkRefuses refuses piece mid due refusal new
 
 -- a sink accepted calls that tell a beginning of these, and then there was a refusal
 pub record Stops {S : Type 0} (takes : S → Sent → S → Type 0) (refuses : S → Sent → Refusal → S → Type 0)
@@ -53,30 +62,39 @@ pub record Stops {S : Type 0} (takes : S → Sent → S → Type 0) (refuses : S
   pub calls : FoldsTo takes old sent mid
   pub rest : List Told
   pub front : told sent ++ rest ≡ due
-  pub stop : IsStop refuses piece mid refusal new
+  pub stop : IsStop refuses piece mid rest refusal new
 
 -- The texts of an iterator, sent one after another.
 module _ {I It T S : Type 0} (becomes : I → It → Type 0) (steps : It → Option T → It → Type 0) (text : T → Text)
     (takes : S → Sent → S → Type 0) where
-  -- each of them is accepted, and so is the end
-  pub record SendsAll {O : Type 0} (finishes : S → O → Type 0) (sink : S) (texts : I) (out : O) : Type 0 where
+  -- each of them is accepted
+  pub record AcceptsAll (old : S) (texts : I) (new : S) : Type 0 where
     pub iterator : It
     pub made : becomes texts iterator
     pub sent : List T
     pub last : It
     pub yields : YieldsThen steps iterator sent None last
-    pub sunk : S
-    pub calls : FoldsTo (λ s x t. takes s (Piece (text x)) t) sink sent sunk
-    pub ends : finishes sunk out
+    pub calls : FoldsTo (λ s x t. takes s (Piece (text x)) t) old sent new
 
-  -- some are accepted, and then one is refused, or the end
-  pub record SendsSome (refuses : S → Sent → Refusal → S → Type 0) (ends : S → Refusal → Type 0) (sink : S) (texts : I)
-      (refusal : Refusal) : Type 0 where
+  -- some are accepted, then one is refused, and it is the last that is sent
+  pub record AcceptsUpTo (refuses : S → Sent → Refusal → S → Type 0) (old : S) (texts : I) (refusal : Refusal)
+      (new : S) : Type 0 where
     pub iterator : It
     pub made : becomes texts iterator
     pub sent : List T
+    pub next : T
     pub last : It
+    pub yields : YieldsThen steps iterator sent (Some next) last
     pub sunk : S
-    pub calls : FoldsTo (λ s x t. takes s (Piece (text x)) t) sink sent sunk
-    pub stop : ((x : T) × YieldsThen steps iterator sent (Some x) last × (s : S)
-        × refuses sunk (Piece (text x)) refusal s) ⊎ (YieldsThen steps iterator sent None last × ends sunk refusal)
+    pub calls : FoldsTo (λ s x t. takes s (Piece (text x)) t) old sent sunk
+    pub refused : refuses sunk (Piece (text next)) refusal new
+
+  -- each of them is accepted, and so is the end
+  abbrev pub SendsAll : {O : Type 0} → (S → O → Type 0) → S → I → O → Type 0
+  SendsAll finishes sink texts out = (sunk : S) × AcceptsAll sink texts sunk × finishes sunk out
+
+  -- one is refused, or the end
+  abbrev pub SendsSome : (S → Sent → Refusal → S → Type 0) → (S → Refusal → Type 0) → S → I → Refusal → Type 0
+  SendsSome refuses ends sink texts refusal =
+      ((new : S) × AcceptsUpTo refuses sink texts refusal new)
+      ⊎ ((sunk : S) × AcceptsAll sink texts sunk × ends sunk refusal)

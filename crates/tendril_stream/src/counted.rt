@@ -1,14 +1,13 @@
-//! Any reader, with its reads counted.
-ghost use Rattle.std.specs.Prelude.{◌≡◌, ◌↔◌};
+//! Any reader, with its reads.
+ghost use Rattle.std.specs.Prelude.{◌≡◌, ◌↔◌, []};
 ghost use Rattle.std.specs.IoError.{error_kind};
-ghost use Rattle.tendril_stream.specs.Reads.{no_reads};
 
 use crate::counted_read::{CountedRead, ReadFault};
 use crate::log::Log;
 use std::io;
 use std::io::{ErrorKind, Read};
 
-/// A reader whose reads are counted, for contracts alone: the counts take no memory.
+/// A reader whose reads are kept for contracts alone: their list takes no memory.
 #[derive(Drop)]
 pub struct Counted<R: Read + Drop> {
     reader: R,
@@ -19,10 +18,7 @@ impl<R: Read + Drop> Counted<R> {
     /// A reader that wasn't read yet.
     pub fn new(reader: R) -> Self
         ensures reader { result.reader ≡ reader }
-        ensures given { result.log.given ≡ no_reads.given }
-        ensures reads { result.log.reads ≡ 0 }
-        ensures failed { result.log.failed ≡ 0 }
-        ensures empty { result.log.empty ≡ 0 }
+        ensures reads { result.log.reads ≡ [] }
     {
         Counted {
             reader,
@@ -32,28 +28,27 @@ impl<R: Read + Drop> Counted<R> {
 }
 
 impl<R: Read + Drop> CountedRead for Counted<R> {
-    ghost history = { λ c.
-        record { given = c.log.given; reads = c.log.reads; failed = c.log.failed; empty = c.log.empty } };
+    ghost history = { λ c. c.log.reads };
 
     ghost remaining = { λ c. R.remaining c.reader };
 
     fn read_some(&mut self, buffer: &mut [u8]) -> Result<usize, ReadFault> {
         match self.reader.read(buffer) {
             Ok(0) => {
-                self.log = self.log.after(buffer, 0, 0, 1);
+                self.log = self.log.after_end();
                 Ok(0)
             }
             Ok(count) => {
-                self.log = self.log.after(buffer, count, 0, 0);
+                self.log = self.log.after_bytes(buffer, count);
                 Ok(count)
             }
             Err(error) => match fault_of(&error) {
                 ReadFault::Interrupted => {
-                    self.log = self.log.after(buffer, 0, 0, 0);
+                    self.log = self.log.after_interrupted();
                     Err(ReadFault::Interrupted)
                 }
                 ReadFault::Failed => {
-                    self.log = self.log.after(buffer, 0, 1, 0);
+                    self.log = self.log.after_failed();
                     Err(ReadFault::Failed)
                 }
             },

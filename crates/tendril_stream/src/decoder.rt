@@ -1,11 +1,11 @@
 //! Lossy decoding of a stream of bytes that should be UTF-8.
-ghost use Rattle.std.specs.Prelude.{◌≡◌, ◌<◌, ◌≤◌, [], ◌++◌, length, OnOk, IfOk, IfErr, false};
+ghost use Rattle.std.specs.Prelude.{◌≡◌, ◌<◌, ◌≤◌, [], ◌++◌, length, IsSomeAnd, OnOk, IfOk, IfErr, false};
 ghost use Rattle.tendril_lossy.specs.Lossy.{IsOpen, due, due_open, kept, replaced};
 ghost use Rattle.std.specs.Borrow.{Lends, sem};
 ghost use Rattle.std.specs.List.{FoldsTo};
 ghost use Rattle.tendril_text.specs.Decoding.{listed};
 ghost use Rattle.tendril_stream.specs.Decoders.{ResumesPiece, no_piece};
-ghost use Rattle.tendril_stream.specs.Sinks.{Piece, Feeds, SinkRefuses, Stops};
+ghost use Rattle.tendril_stream.specs.Sinks.{Piece, Feeds, RefusesCall, Stops};
 
 use crate::sink::TendrilSink;
 use std::alloc::Global;
@@ -136,7 +136,7 @@ fn send<S: TendrilSink<StrTendril<A>>, A: Atomicity>(
     text: StrTendril<A>,
 ) -> Result<(), Refusal>
     ensures ok { OnOk result (S.takes sink.old (Piece text) sink.new) }
-    ensures err { IfErr result (λ r. SinkRefuses S.refuses sink.old r sink.new) }
+    ensures err { IfErr result (λ r. RefusesCall S.refuses sink.old (Piece text) r sink.new) }
 {
     if let Err(_refusal) = sink.process(text) {
         return Err(Refusal::SinkRefused);
@@ -192,7 +192,7 @@ fn send_some<S: TendrilSink<StrTendril<A>>, A: Atomicity>(
     text: Option<StrTendril<A>>,
 ) -> Result<(), Refusal>
     ensures ok { OnOk result (FoldsTo (λ s t u. S.takes s (Piece t) u) sink.old (listed text) sink.new) }
-    ensures err { IfErr result (λ r. SinkRefuses S.refuses sink.old r sink.new) }
+    ensures err { IfErr result (λ r. IsSomeAnd text (λ t. RefusesCall S.refuses sink.old (Piece t) r sink.new)) }
 {
     match text {
         Some(text) => send(sink, text),

@@ -1,8 +1,8 @@
 //! Reading into a text.
-ghost use Rattle.std.specs.Prelude.{◌≡◌, ◌<◌, ◌≤◌, ◌++◌, length, take, OnOk, IfErr};
+ghost use Rattle.std.specs.Prelude.{◌≡◌, ◌<◌, ◌≤◌, List, ◌++◌, length, take, OnOk, IfErr};
 ghost use Rattle.std.specs.Io.KnownBytes.{IsAtEnd};
 ghost use Rattle.tendril_stream.specs.Readings.{Adds, Fills, MakesReads};
-ghost use Rattle.tendril_stream.specs.Reads.{Reads};
+ghost use Rattle.tendril_stream.specs.Reads.{OneRead, given};
 
 use crate::counted_read::{CountedRead, ReadFault};
 use crate::reading::read_into;
@@ -60,8 +60,8 @@ fn fill<A: Atomicity, R: CountedRead>(
     most: u64,
 ) -> (u32, Result<(), Refusal>)
     ensures within { result.0 ≤ length text.new.bytes }
-    ensures read { (these : Reads) × MakesReads R.history R.remaining reader.old these reader.new
-        × (take result.0 text.new.bytes ≡ text.old.bytes ++ these.given) × Fills most these result.1 result.0 }
+    ensures read { (these : List OneRead) × MakesReads R.history R.remaining reader.old these reader.new
+        × (take result.0 text.new.bytes ≡ text.old.bytes ++ given these) × Fills most these result.1 result.0 }
     ensures end { OnOk result.1 (IsAtEnd (R.remaining reader.new)) }
 {
     let mut filled = text.len32();

@@ -19,7 +19,7 @@ pub use counted_read::{CountedRead, ReadFault};
 pub use decoder::{LossyDecoder, Utf8LossyDecoder};
 pub use fill::ReadExt;
 pub use pieces::{decode_pieces, decode_pieces_into};
-pub use reading::{Stopped, decode_reader, from_file, read_decoded, read_from};
+pub use reading::{Stopped, decode_reader, from_file, read_decoded, read_from, read_once};
 pub use sink::{Streamed, TendrilSink};
 pub use theorems::laws;
 pub use tracks::Tracks;

@@ -1,16 +1,14 @@
-//! What a reader gave, and how often it was read. It takes no memory, and its functions do nothing at run time.
-ghost use Rattle.std.specs.Prelude.{◌≡◌, ℕ, ◌+◌, List, [], ◌++◌, take};
+//! The reads of a reader, for contracts alone. The list takes no memory, and these functions do nothing at run time.
+ghost use Rattle.std.specs.Prelude.{◌≡◌, List, [], ◌∷◌, ◌++◌, take};
 ghost use Rattle.std.specs.Borrow.{ftrue};
+ghost use Rattle.tendril_stream.specs.Reads.{OneRead, Gave, WasInterrupted, HasFailed, CameToEnd};
 
 use std::marker::Model;
 
-/// Bytes and numbers that only proofs read.
+/// Reads, one after another, that only proofs see.
 #[derive(Drop)]
 pub(crate) struct Log {
-    pub ghost given: { List ℕ },
-    pub ghost reads: { ℕ },
-    pub ghost failed: { ℕ },
-    pub ghost empty: { ℕ },
+    pub ghost reads: { List OneRead },
 }
 
 impl Model for Log {
@@ -20,15 +18,35 @@ impl Model for Log {
 impl Log {
     /// Nothing was read yet.
     pub(crate) fn new() -> Log
-        ensures { (result.given ≡ []) × (result.reads ≡ 0) × (result.failed ≡ 0) × (result.empty ≡ 0) }
+        ensures { result.reads ≡ [] }
     {
         Log {}
     }
 
-    /// After a further read, which gave so many bytes of the buffer.
-    pub(crate) fn after(&self, _buffer: &[u8], _count: usize, _failed: usize, _empty: usize) -> Log
-        ensures { (result.given ≡ self.now.given ++ take _count _buffer.now) × (result.reads ≡ self.now.reads + 1)
-            × (result.failed ≡ self.now.failed + _failed) × (result.empty ≡ self.now.empty + _empty) }
+    /// After a read that gave so many bytes of the buffer.
+    pub(crate) fn after_bytes(&self, _buffer: &[u8], _count: usize) -> Log
+        ensures { result.reads ≡ self.now.reads ++ Gave (take _count _buffer.now) ∷ [] }
+    {
+        Log {}
+    }
+
+    /// After one that was interrupted.
+    pub(crate) fn after_interrupted(&self) -> Log
+        ensures { result.reads ≡ self.now.reads ++ WasInterrupted ∷ [] }
+    {
+        Log {}
+    }
+
+    /// After one that failed.
+    pub(crate) fn after_failed(&self) -> Log
+        ensures { result.reads ≡ self.now.reads ++ HasFailed ∷ [] }
+    {
+        Log {}
+    }
+
+    /// After one that came to the end.
+    pub(crate) fn after_end(&self) -> Log
+        ensures { result.reads ≡ self.now.reads ++ CameToEnd ∷ [] }
     {
         Log {}
     }

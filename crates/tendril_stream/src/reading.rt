@@ -1,11 +1,11 @@
 //! Reading into a sink.
-ghost use Rattle.std.specs.Prelude.{◌≡◌, ◌≤◌, ◌+◌, ◌⊎◌, length, take, drop, Some, false, IfOk, IfErr, OnErr};
+ghost use Rattle.std.specs.Prelude.{◌≡◌, ◌≤◌, ◌+◌, ◌⊎◌, List, [], ◌∷◌, ◌++◌, length, take, drop, Some, false, IfOk, IfErr, OnErr};
 ghost use Rattle.std.specs.Io.KnownBytes.{IsAtEnd, Keeps, ReadConsumes};
 ghost use Rattle.tendril_lossy.specs.Lossy.{due};
 ghost use Rattle.tendril_stream.specs.Compositions.{StandsAt, StreamStops};
 ghost use Rattle.tendril_stream.specs.Events.{sent};
-ghost use Rattle.tendril_stream.specs.Readings.{EndsAt, Halts, IsOfReading, MakesReads, ReadsAll, StopsBetween, reads_of};
-ghost use Rattle.tendril_stream.specs.Reads.{Reads, ReadsOn, failure, read_of};
+ghost use Rattle.tendril_stream.specs.Readings.{Halts, IsOfReading, IsReadPart, MakesReads, ReadStops, ReadsAll, ReadsOnce, StopsBetween, read_for};
+ghost use Rattle.tendril_stream.specs.Reads.{OneRead, CameToEnd, HasFailed, StopsWith, given, read_of};
 ghost use Rattle.tendril_stream.specs.Sinks.{told};
 
 use crate::accumulate::{Accumulate, Event};
@@ -39,25 +39,16 @@ pub fn read_from<A: Atomicity, S: TendrilSink<ByteTendril<A>>, R: CountedRead>(
     reader: &mut R,
     most: u64,
 ) -> Result<S::Output, Stopped<S>>
-    ensures ok { IfOk result (λ out. (these : Reads) × MakesReads R.history R.remaining reader.old these reader.new
+    ensures ok { IfOk result (λ out. (these : List OneRead) × MakesReads R.history R.remaining reader.old these reader.new
         × IsAtEnd (R.remaining reader.new) × ReadsAll S.takes S.finishes most sink these out) }
-    ensures stopped { IfErr result (λ s. (these : Reads) × MakesReads R.history R.remaining reader.old these reader.new
+    ensures stopped { IfErr result (λ s. (these : List OneRead) × MakesReads R.history R.remaining reader.old these reader.new
         × Halts S.takes S.refuses S.ends most sink these s.refusal s.sink) }
 {
     let mut made = 0;
     while made < most {
         made += 1;
-        match read_part(alloc, reader) {
-            Ok(Part::Bytes(piece)) => {
-                if let Err(refusal) = sink.process(piece) {
-                    return Err(Stopped {
-                        refusal,
-                        sink: Some(sink),
-                    });
-                }
-            }
-            Ok(Part::Interrupted) => {}
-            Ok(Part::End) => {
+        match read_once(alloc, &mut sink, reader) {
+            Ok(true) => {
                 return match sink.finish() {
                     Ok(out) => Ok(out),
                     Err(refusal) => Err(Stopped {
@@ -66,6 +57,7 @@ pub fn read_from<A: Atomicity, S: TendrilSink<ByteTendril<A>>, R: CountedRead>(
                     }),
                 };
             }
+            Ok(false) => {}
             Err(refusal) => {
                 return Err(Stopped {
                     refusal,
@@ -80,6 +72,29 @@ pub fn read_from<A: Atomicity, S: TendrilSink<ByteTendril<A>>, R: CountedRead>(
     })
 }
 
+/// Reads once, and gives the sink what is read, which is at most 4096 bytes. It answers whether the end came, which the
+/// sink isn't told; of an interrupted read it hears nothing either.
+pub fn read_once<A: Atomicity, S: TendrilSink<ByteTendril<A>>, R: CountedRead>(
+    alloc: Global,
+    sink: &mut S,
+    reader: &mut R,
+) -> Result<bool, Refusal>
+    ensures ok { IfOk result (ReadsOnce R.history R.remaining reader.old reader.new sink.old sink.new S.takes) }
+    ensures err { IfErr result (ReadStops R.history R.remaining reader.old reader.new sink.old sink.new S.refuses) }
+{
+    match read_part(alloc, reader) {
+        Ok(Part::Bytes(piece)) => {
+            if let Err(refusal) = sink.process(piece) {
+                return Err(refusal);
+            }
+            Ok(false)
+        }
+        Ok(Part::Interrupted) => Ok(false),
+        Ok(Part::End) => Ok(true),
+        Err(refusal) => Err(refusal),
+    }
+}
+
 /// Reads a file to its end into a sink, as `read_from` does.
 ///
 /// A file that can't be opened is refused as Io, as is a folder, of which no read succeeds.
@@ -90,9 +105,9 @@ pub fn from_file<A: Atomicity, S: TendrilSink<ByteTendril<A>>, F: Files>(
     path: &str,
     most: u64,
 ) -> Result<S::Output, Stopped<S>>
-    ensures ok { IfOk result (λ out. (these : Reads) × ReadsAll S.takes S.finishes most sink these out) }
+    ensures ok { IfOk result (λ out. (these : List OneRead) × ReadsAll S.takes S.finishes most sink these out) }
     ensures stopped { IfErr result (λ s. ((s.refusal ≡ Refusal.Io) × (s.sink ≡ Some sink))
-        ⊎ ((these : Reads) × Halts S.takes S.refuses S.ends most sink these s.refusal s.sink)) }
+        ⊎ ((these : List OneRead) × Halts S.takes S.refuses S.ends most sink these s.refusal s.sink)) }
 {
     match fs::open(files, path) {
         Ok(file) => read_from(alloc, sink, &mut Counted::new(file), most),
@@ -112,13 +127,13 @@ pub fn decode_reader<A: Atomicity, R: CountedRead>(
     reader: &mut R,
     most: u64,
 ) -> Result<Vec<Event<A>>, Stopped<Utf8LossyDecoder<Accumulate<A>, A>>>
-    ensures ok { IfOk result (λ events. (these : Reads) × MakesReads R.history R.remaining reader.old these reader.new
-        × IsAtEnd (R.remaining reader.new) × (told (sent events.items) ≡ due these.given)
-        × (these.failed ≡ 0) × (these.empty ≡ 1) × (these.reads ≤ most)) }
-    ensures stopped { IfErr result (λ s. (these : Reads) × MakesReads R.history R.remaining reader.old these reader.new
-        × (IsOfReading s.refusal → StopsBetween most these s.refusal × (these.empty ≡ 0)
+    ensures ok { IfOk result (λ events. (these : List OneRead) × MakesReads R.history R.remaining reader.old these reader.new
+        × IsAtEnd (R.remaining reader.new) × (told (sent events.items) ≡ due (given these))
+        × StopsWith CameToEnd these × (length these ≤ most)) }
+    ensures stopped { IfErr result (λ s. (these : List OneRead) × MakesReads R.history R.remaining reader.old these reader.new
+        × (IsOfReading s.refusal → StopsBetween most these s.refusal
         × ((d : _) × (s.sink ≡ Some d) × (d.failed ≡ false)
-        × StandsAt (λ a t. told (sent a.events.items) ≡ t) d.inner_sink d.kept these.given))
+        × StandsAt (λ a t. told (sent a.events.items) ≡ t) d.inner_sink d.kept (given these)))
         × (IsOfReading s.refusal ⊎ StreamStops ⟦<Accumulate<A> as TendrilSink<StrTendril<A>>>⟧.takes
         ⟦<Accumulate<A> as TendrilSink<StrTendril<A>>>⟧.refuses ⟦<Accumulate<A> as TendrilSink<StrTendril<A>>>⟧.ends
         ⟦<Accumulate<A> as Tracks<StrTendril<A>>>⟧.after (λ d. d.inner_sink) (λ d. d.failed) most these s.refusal s.sink)) }
@@ -135,11 +150,11 @@ pub fn read_decoded<A: Atomicity, S: TendrilSink<StrTendril<A>>, R: CountedRead>
     reader: &mut R,
     most: u64,
 ) -> Result<S::Output, Stopped<Utf8LossyDecoder<S, A>>>
-    ensures ok { IfOk result (λ out. (these : Reads) × MakesReads R.history R.remaining reader.old these reader.new
+    ensures ok { IfOk result (λ out. (these : List OneRead) × MakesReads R.history R.remaining reader.old these reader.new
         × IsAtEnd (R.remaining reader.new)
         × ReadsAll ⟦<Utf8LossyDecoder<S, A> as TendrilSink<ByteTendril<A>>>⟧.takes
         ⟦<Utf8LossyDecoder<S, A> as TendrilSink<ByteTendril<A>>>⟧.finishes most decoder these out) }
-    ensures stopped { IfErr result (λ s. (these : Reads) × MakesReads R.history R.remaining reader.old these reader.new
+    ensures stopped { IfErr result (λ s. (these : List OneRead) × MakesReads R.history R.remaining reader.old these reader.new
         × Halts ⟦<Utf8LossyDecoder<S, A> as TendrilSink<ByteTendril<A>>>⟧.takes
         ⟦<Utf8LossyDecoder<S, A> as TendrilSink<ByteTendril<A>>>⟧.refuses
         ⟦<Utf8LossyDecoder<S, A> as TendrilSink<ByteTendril<A>>>⟧.ends most decoder these s.refusal s.sink) }
@@ -160,11 +175,11 @@ fn read_part<A: Atomicity, R: CountedRead>(
     alloc: Global,
     reader: &mut R,
 ) -> Result<Part<A>, Refusal>
-    ensures part { IfOk result (λ part. MakesReads R.history R.remaining reader.old (reads_of part) reader.new) }
-    ensures end { IfOk result (λ part. EndsAt part (R.remaining reader.new)) }
+    ensures reads { IfOk result (λ part. MakesReads R.history R.remaining reader.old (read_for part ∷ []) reader.new) }
+    ensures part { IfOk result (λ part. IsReadPart part (R.remaining reader.new)) }
     ensures err { IfErr result (λ r.
         ((r ≡ Refusal.Memory) × (reader.new ≡ reader.old))
-        ⊎ ((r ≡ Refusal.Io) × MakesReads R.history R.remaining reader.old failure reader.new)) }
+        ⊎ ((r ≡ Refusal.Io) × MakesReads R.history R.remaining reader.old (HasFailed ∷ []) reader.new)) }
 {
     let mut piece = ByteTendril::new(alloc);
     piece.push_uninitialized(PIECE)?;
@@ -190,7 +205,7 @@ pub(crate) fn read_into<A: Atomicity, R: CountedRead>(
     ensures front { take start text.new.bytes ≡ take start text.old.bytes }
     ensures within { IfOk result (λ answer. IfOk answer (λ n. start + n ≤ length text.new.bytes)) }
     ensures history { IfOk result (λ answer.
-        ReadsOn (R.history reader.old) (read_of answer (drop start text.new.bytes)) (R.history reader.new)) }
+        R.history reader.new ≡ R.history reader.old ++ read_of answer (drop start text.new.bytes) ∷ []) }
     ensures consumes { IfOk result (λ answer.
         ReadConsumes (R.remaining reader.old) (R.remaining reader.new) answer (drop start text.new.bytes)) }
     ensures refusal { IfErr result (λ r. r ≡ Refusal.Memory) }

@@ -32,7 +32,7 @@ pub trait TendrilSink<T: Streamed>: Drop {
     ghost use Rattle.std.specs.List.{FoldsTo};
     ghost use Rattle.std.specs.Iterator.{IsFiniteIterable};
     ghost use Rattle.tendril_block.specs.declared.refusal.Refusal.{Refusal};
-    ghost use Rattle.tendril_stream.specs.Sinks.{Sent, Piece, Fault, SendsAll, SendsSome};
+    ghost use Rattle.tendril_stream.specs.Sinks.{Sent, Piece, Fault, AcceptsAll, AcceptsUpTo, SendsAll, SendsSome};
 
     /// What comes of the stream at its end.
     type Output;
@@ -77,7 +77,25 @@ pub trait TendrilSink<T: Streamed>: Drop {
         self.finish()
     }
 
-    /// Takes each text that comes, up to the first that is refused, and ends the stream if none is.
+    /// Takes each text that comes, up to the first that is refused, behind which no call is made.
+    fn send_all<I: IntoIterator<Item = T>>(&mut self, texts: I) -> Result<(), Refusal>
+    where
+        Self: Sized,
+        requires { IsFiniteIterable I.into_iter_gives I.IntoIter.can_next I.IntoIter.remaining texts }
+        ensures ok { OnOk result (
+            AcceptsAll I.into_iter_gives I.IntoIter.next_gives T.text takes self.old texts self.new) }
+        ensures err { IfErr result (λ r.
+            AcceptsUpTo I.into_iter_gives I.IntoIter.next_gives T.text takes refuses self.old texts r self.new) }
+    {
+        for text in texts {
+            if let Err(refusal) = self.process(text) {
+                return Err(refusal);
+            }
+        }
+        Ok(())
+    }
+
+    /// Takes each text that comes, as `send_all` does, and ends the stream if none is refused.
     fn from_iter<I: IntoIterator<Item = T>>(mut self, texts: I) -> Result<Self::Output, Refusal>
     where
         Self: Sized,
@@ -87,10 +105,8 @@ pub trait TendrilSink<T: Streamed>: Drop {
         ensures err { IfErr result (λ r.
             SendsSome I.into_iter_gives I.IntoIter.next_gives T.text takes refuses ends self texts r) }
     {
-        for text in texts {
-            if let Err(refusal) = self.process(text) {
-                return Err(refusal);
-            }
+        if let Err(refusal) = self.send_all(texts) {
+            return Err(refusal);
         }
         self.finish()
     }

@@ -11,6 +11,7 @@ mod print;
 mod push;
 mod read;
 mod send;
+mod units;
 mod write;
 
 pub(crate) use make::share;

@@ -7,5 +7,6 @@ mod formats;
 mod joined;
 mod parts;
 mod table;
+mod units;
 mod valid;
 mod words;

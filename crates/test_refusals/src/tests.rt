@@ -20,4 +20,5 @@ mod streams;
 mod tables;
 mod texts;
 mod turn;
+mod units;
 mod worked_rows;

@@ -27,6 +27,18 @@ fn a_broken_sequence_is_replaced(rt: HostRuntime) -> Result<(), Fail> {
     Ok(())
 }
 
+// So many bytes of text, which 4096 bytes a read give.
+#[test]
+fn a_text_of_many_reads(rt: HostRuntime) -> Result<(), Fail> {
+    for count in [1000, 2_000_000] {
+        let mut text = Vec::new(rt.alloc());
+        repeat(&mut text, b"a\xf0\x9f\x92\xa9", count)?;
+        let seen = run_program(rt.alloc(), &["decode"], text.as_slice());
+        check(count, &seen, (0, text.as_slice(), b""))?;
+    }
+    Ok(())
+}
+
 /// A reader that gives its bytes one at a time, each after an interrupted read.
 #[derive(Drop)]
 struct Drips<'a> {

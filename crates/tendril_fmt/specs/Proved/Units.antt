@@ -51,7 +51,7 @@ by A a = a
 pub one_unit : (c : ℕ) → c < 0x1_0000 → encode_utf16 c ≡ c ∷ []
 one_unit c h = cond-true _ _ _ (by (nat_lt c 0x1_0000 ≡ true) (grind (arith, nat_tests)))
 
-two_units : (c : ℕ) → 0x1_0000 ≤ c
+pub two_units : (c : ℕ) → 0x1_0000 ≤ c
     → encode_utf16 c ≡ (0xD800 + (c - 0x1_0000) / 0x400) ∷ (0xDC00 + (c - 0x1_0000) % 0x400) ∷ []
 two_units c h = cond-false _ _ _ (by (nat_lt c 0x1_0000 ≡ false) (grind (arith, nat_tests)))
 

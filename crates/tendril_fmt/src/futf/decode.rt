@@ -1,6 +1,8 @@
 //! One code point from its bytes.
 ghost use Rattle.std.specs.Prelude.{◌≡◌, ◌∷◌, [], ◌<◌, ◌↔◌, IsTrue, MatchOption};
 ghost use Rattle.tendril_fmt.specs.CodePoints.{IsContinuation, sequence_len, IsMeaningOf, IsDecoded, EncodeNone, Encode, SplitsIntoNone, SplitsInto};
+ghost use Rattle.tendril_fmt.specs.Units.{SplitsText};
+ghost use Rattle.tendril_fmt.specs.Wtf8.{IsWtf8};
 
 use crate::futf::Meaning;
 
@@ -107,4 +109,30 @@ pub(crate) fn split_code_point(bytes: &[u8]) -> Option<(Meaning, &[u8])>
     }
     let (front, rest) = bytes.split_at(len);
     Some((decode(front)?, rest))
+}
+
+/// The code point at the front of valid WTF-8, and the bytes after it. What is valid isn't validated again.
+#[inline]
+pub(crate) fn split_text(bytes: &[u8]) -> Option<(u32, &[u8])>
+    requires { IsWtf8 bytes.now }
+    ensures { MatchOption result (bytes.now ≡ []) (λ p. SplitsText bytes.now p.0 p.1.now) }
+{
+    if bytes.is_empty() {
+        return None;
+    }
+    let first = bytes[0] as u32;
+    if first < 0x80 {
+        return Some((first, &bytes[1..]));
+    }
+    let second = bytes[1] as u32 - 0x80;
+    if first < 0xE0 {
+        return Some(((first - 0xC0) * 0x40 + second, &bytes[2..]));
+    }
+    let third = bytes[2] as u32 - 0x80;
+    if first < 0xF0 {
+        return Some(((first - 0xE0) * 0x1000 + second * 0x40 + third, &bytes[3..]));
+    }
+    let fourth = bytes[3] as u32 - 0x80;
+    let code = (first - 0xF0) * 0x4_0000 + second * 0x1000 + third * 0x40 + fourth;
+    Some((code, &bytes[4..]))
 }

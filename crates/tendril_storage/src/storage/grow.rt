@@ -8,8 +8,30 @@ use tendril_block::{Atomicity, Behind, MAX_LEN, Refusal};
 
 impl<A: Atomicity> Storage<A> {
     /// Puts two parts in the place of all bytes from `keep` on: where they stand, if the block has one holder, else in
-    /// a copy of the bytes that stay.
+    /// a copy of the bytes that stay. Where far more bytes were popped off the front of the block than stay, and it has
+    /// one holder and room, they are moved to its front.
+    #[inline(always)]
     pub fn replace_end(&mut self, keep: usize, middle: &[u8], more: &[u8]) -> Result<(), Refusal>
+        requires within { keep ≤ length self.old.bytes }
+        requires fits { keep + length middle.now + length more.now ≤ MAX_LEN }
+        ensures bytes { OnOk result (self.new.bytes ≡ take keep self.old.bytes ++ middle.now ++ more.now) }
+        ensures copied { self.new.copied ≤ max self.old.copied keep + length middle.now + length more.now }
+        ensures refusal { IfErr result (MemoryMay (keep + length middle.now + length more.now)) }
+        ensures err { OnErr result (self.new ≡ self.old) }
+    {
+        if middle.is_empty() && self.appends_in_place(keep, more) {
+            return Ok(());
+        }
+        self.replace_end_anywhere(keep, middle, more)
+    }
+
+    #[inline(never)]
+    fn replace_end_anywhere(
+        &mut self,
+        keep: usize,
+        middle: &[u8],
+        more: &[u8],
+    ) -> Result<(), Refusal>
         requires within { keep ≤ length self.old.bytes }
         requires fits { keep + length middle.now + length more.now ≤ MAX_LEN }
         ensures bytes { OnOk result (self.new.bytes ≡ take keep self.old.bytes ++ middle.now ++ more.now) }
@@ -99,7 +121,37 @@ impl<A: Atomicity> Storage<A> {
         true
     }
 
-    // The same where they stand, without memory for a new block; whether it could be done.
+    // Puts bytes behind the first `keep`, where these are a block's only bytes, more than few, no other holds it, and it has
+    // room; whether it could be done. Most pushes onto a long text find it so.
+    #[tactic(auto, using(crate::proofs::Views::replaces))]
+    #[inline(always)]
+    fn appends_in_place(&mut self, keep: usize, more: &[u8]) -> bool
+        requires within { keep ≤ length self.old.bytes }
+        requires fits { keep + length more.now ≤ MAX_LEN }
+        ensures bytes { result ≡ true → self.new.bytes ≡ take keep self.old.bytes ++ more.now }
+        ensures copied { result ≡ true → self.new.copied ≡ self.old.copied + length more.now }
+        ensures unchanged { result ≡ false → self.new ≡ self.old }
+    {
+        match &mut self.held {
+            Held::Inline { .. } => false,
+            Held::View {
+                shared,
+                block,
+                len,
+                ..
+            } => {
+                if !appends_alone::<A>(block, keep, more) {
+                    return false;
+                }
+                *len += more.len() as u32;
+                shared.set(false);
+                true
+            }
+        }
+    }
+
+    // Puts two parts in the place of all from `keep` on, where they stand, without memory for a new block; whether it could
+    // be done.
     #[tactic(auto, using(crate::proofs::Views::replaces))]
     fn replaces_in_place(&mut self, keep: usize, middle: &[u8], more: &[u8]) -> bool
         requires within { keep ≤ length self.old.bytes }
@@ -264,6 +316,21 @@ fn same_word(left: &[u8], right: &[u8], at: usize) -> bool
     ensures { result ≡ true → take 8 (drop at left.now) ≡ take 8 (drop at right.now) }
 {
     word_of(&left[at..at + 8]) == word_of(&right[at..at + 8])
+}
+
+// Puts bytes at the end of a block, where exactly `at` bytes stand, more than few, no other holds it, and there is room.
+#[inline(always)]
+fn appends_alone<A: Atomicity>(block: &mut A::Block, at: usize, more: &[u8]) -> bool
+    ensures bytes { result ≡ true → A.bytes_of block.new ≡ A.bytes_of block.old ++ more.now }
+    ensures at { result ≡ true → length (A.bytes_of block.old) ≡ at }
+    ensures copied { result ≡ true → A.copied block.new ≡ A.copied block.old + length more.now }
+    ensures bytes_kept { result ≡ false → A.bytes_of block.new ≡ A.bytes_of block.old }
+    ensures copied_kept { result ≡ false → A.copied block.new ≡ A.copied block.old }
+{
+    match A::alone_mut(block) {
+        Some(body) => body.append_at(at, more),
+        None => false,
+    }
 }
 
 /// Puts two parts in the place of all bytes of a block from `keep` on, where no other holds it and there is memory.

@@ -1,9 +1,10 @@
 //! Parts of stored bytes: few are copied inline, many are seen in the same block.
-ghost use Rattle.std.specs.Prelude.{◌≡◌, ◌<◌, ◌≤◌, ◌+◌, length, take, drop, IfOk, IfErr};
+ghost use Rattle.std.specs.Prelude.{◌≡◌, ◌<◌, ◌≤◌, ◌+◌, length, take, drop, IfOk, IfErr, IfSome, OnSome};
 ghost use Rattle.tendril_block.specs.Outcomes.{CountMay};
 ghost use Rattle.tendril_storage.specs.Partings.{TakesFront};
 
 use crate::storage::{Held, INLINE, Storage, word_of};
+use std::alloc::Global;
 use std::cell::Cell;
 use std::mem;
 use tendril_block::{Atomicity, Refusal};
@@ -53,12 +54,22 @@ impl<A: Atomicity> Storage<A> {
     {
         let start = offset as usize;
         let end = start + count as usize;
+        Self::few(self.alloc, &self.as_slice()[start..end])
+    }
+
+    // A copy of few bytes, made where it is called for.
+    #[inline(always)]
+    fn few(alloc: Global, bytes: &[u8]) -> Self
+        requires { length bytes.now ≤ 8 }
+        ensures bytes { result.bytes ≡ bytes.now }
+        ensures copied { result.copied ≡ length bytes.now }
+    {
         Storage {
             held: Held::Inline {
-                len: count as u64,
-                buffer: word_of(&self.as_slice()[start..end]).to_le_bytes(),
+                len: bytes.len() as u64,
+                buffer: word_of(bytes).to_le_bytes(),
             },
-            alloc: self.alloc,
+            alloc,
         }
     }
 
@@ -140,6 +151,11 @@ impl<A: Atomicity> Storage<A> {
         requires { count ≤ length self.old.bytes }
         ensures { TakesFront count self.old result self.new }
     {
+        // What most pops of characters and runs find.
+        if let Some(front) = self.few_before_many(count) {
+            self.skip_in_view(count);
+            return Ok(front);
+        }
         let rest = self.len32() - count;
         if count as usize <= INLINE {
             let front = self.inline_part(0, count);
@@ -150,5 +166,58 @@ impl<A: Atomicity> Storage<A> {
         let mut front = mem::replace(self, end);
         front.keep_part(0, count);
         Ok(front)
+    }
+
+    // The first few bytes of a view that leave many behind.
+    #[tactic(auto, using(crate::proofs::Views::slices))]
+    #[inline(always)]
+    fn few_before_many(&self, count: u32) -> Option<Self>
+        requires { count ≤ length self.now.bytes }
+        ensures bytes { IfSome result (λ front. front.bytes ≡ take count self.now.bytes) }
+        ensures copied { IfSome result (λ front. front.copied ≡ count) }
+        ensures few { OnSome result (count ≤ 8) }
+        ensures many { OnSome result (8 + count < length self.now.bytes) }
+    {
+        match &self.held {
+            Held::Inline { .. } => None,
+            Held::View {
+                block,
+                offset,
+                len,
+                ..
+            } => {
+                if count as usize > INLINE || (*len - count) as usize <= INLINE {
+                    return None;
+                }
+                let start = *offset as usize;
+                let end = start + count as usize;
+                Some(Self::few(self.alloc, &A::bytes(block)[start..end]))
+            }
+        }
+    }
+
+    // Lets go of the first bytes of a view, where many are left.
+    #[tactic(auto, using(crate::proofs::Views::slices))]
+    #[inline(always)]
+    fn skip_in_view(&mut self, count: u32)
+        requires { 8 + count < length self.old.bytes }
+        ensures bytes { self.new.bytes ≡ drop count self.old.bytes }
+        ensures copied { self.new.copied ≡ self.old.copied }
+    {
+        match &mut self.held {
+            Held::Inline { .. } => unreachable!(),
+            Held::View {
+                shared,
+                offset,
+                len,
+                ..
+            } => {
+                if count > 0 {
+                    shared.set(true);
+                }
+                *offset += count;
+                *len -= count;
+            }
+        }
     }
 }

@@ -5,14 +5,14 @@ use super::refuse_request;
 use super::session::{Step, left_pile, long_pile, pile, play, request_behind, take_string};
 use super::tables::{
     CHARACTERS, CUTS, FORTY, PARTED, PARTS, PUSH_BEHIND, PUSH_WHERE_IT_STANDS, PUSHED, QUEUE,
-    QUEUE_BESIDE_A_CLONE, ROOM, ROOM_BEHIND, RUN, SENT, WRITTEN, WRITTEN_BEHIND, ZEROS_BEHIND,
-    short,
+    QUEUE_BESIDE_A_CLONE, ROOM, ROOM_BEHIND, RUN, SENT, SHORT_UNITS, UNITS, WRITTEN,
+    WRITTEN_BEHIND, ZEROS_BEHIND, short,
 };
 use std::alloc::Global;
 use std::test::Fail;
-use tendril::fmt::{Bytes, Format, UTF8};
-use tendril::{Atomic, Atomicity, NonAtomic};
-use test_tools::same;
+use tendril::fmt::{Bytes, Format, UTF8, WTF8};
+use tendril::{Atomic, Atomicity, NonAtomic, Tendril};
+use test_tools::{same, same_at};
 
 // Rows on a long text, which make so many requests with it.
 fn long<A: Atomicity>(alloc: Global, count: usize, steps: &[Step]) -> Result<(), Fail> {
@@ -66,6 +66,57 @@ fn body_had<A: Atomicity>(mut block: A::Block) -> Result<(), Fail> {
     drop(A::share(&block)?);
     A::make_mut(&mut block)?.truncate(4);
     same(A::bytes(&block), b"a123".as_slice())
+}
+
+// Texts of units, which make so many requests.
+fn made_of_units<A: Atomicity>(alloc: Global, lists: &[&[u16]], count: usize) -> Result<(), Fail> {
+    let mut texts = Vec::with_capacity(alloc, lists.len())?;
+    refuse_request(alloc, count.saturating_add(2))?;
+    for units in lists {
+        let text: Tendril<WTF8, A> = Tendril::from_units(alloc, *units)?;
+        texts.push(text)?;
+    }
+    request_behind(alloc)
+}
+
+// The units of texts, one request each.
+fn units_taken<A: Atomicity>(alloc: Global) -> Result<(), Fail> {
+    let text: Tendril<WTF8, A> = Tendril::from_units(alloc, UNITS[0])?;
+    refuse_request(alloc, 4)?;
+    for row in 0..2 {
+        same_at(row, text.to_units()?.as_slice(), UNITS[0])?;
+    }
+    request_behind(alloc)
+}
+
+#[test]
+fn short_texts_of_units(rt: HostRuntime) -> Result<(), Fail> {
+    made_of_units::<NonAtomic>(rt.alloc(), &SHORT_UNITS, 0)
+}
+
+#[test]
+fn short_texts_of_units_over_atomic(rt: HostRuntime) -> Result<(), Fail> {
+    made_of_units::<Atomic>(rt.alloc(), &SHORT_UNITS, 0)
+}
+
+#[test]
+fn texts_of_units(rt: HostRuntime) -> Result<(), Fail> {
+    made_of_units::<NonAtomic>(rt.alloc(), &UNITS, 3)
+}
+
+#[test]
+fn texts_of_units_over_atomic(rt: HostRuntime) -> Result<(), Fail> {
+    made_of_units::<Atomic>(rt.alloc(), &UNITS, 3)
+}
+
+#[test]
+fn units_of_texts(rt: HostRuntime) -> Result<(), Fail> {
+    units_taken::<NonAtomic>(rt.alloc())
+}
+
+#[test]
+fn units_of_texts_over_atomic(rt: HostRuntime) -> Result<(), Fail> {
+    units_taken::<Atomic>(rt.alloc())
 }
 
 #[test]

@@ -264,3 +264,15 @@ pub(super) const PUSH_WHERE_IT_STANDS: &[Step] = &[
     Push(b"abc"),
     Is(b"4567890123abc"),
 ];
+
+/// Units whose text has at most 8 bytes.
+pub(super) const SHORT_UNITS: [&[u16]; 5] = [
+    &[],
+    &[0x61, 0x62, 0x63, 0x64, 0x65, 0x66, 0x67, 0x68],
+    &[0x0151, 0xA66E, 0xDCA9],
+    &[0xD83D, 0xDCA9, 0xD83D, 0xDCA9],
+    &[0xDCA9, 0xD83D],
+];
+
+/// Units whose text stands in one request, and in two.
+pub(super) const UNITS: [&[u16]; 2] = [&[0xA66E, 0xA66E, 0xA66E], &[0xA66E; 14]];

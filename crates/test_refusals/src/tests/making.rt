@@ -1,12 +1,12 @@
 //! Texts that are made. A making call that is refused makes nothing.
 
-use crate::tests::steps::{Change, Make, OfBytes, OfStrings, Step, play};
+use crate::tests::steps::{Change, Make, OfBytes, OfStrings, OfUnits, Step, play};
 use crate::tests::turn::Turn;
 use std::alloc::Global;
 use std::test::Fail;
 
 /// How many requests the session makes.
-const REQUESTS: usize = 24;
+const REQUESTS: usize = 30;
 
 const DIGITS: &str = "0123456789";
 
@@ -47,11 +47,29 @@ const OF_STRINGS: [Step<'static>; 14] = [
     Step::OfTexts(10, 12, TWICE),
 ];
 
+// Ten bytes, and more than stand in a block's node.
+const UNITS: &[u16] = &[0x61, 0x61, 0x61, 0xD83D, 0xDCA9, 0xD83D];
+
+const UNITS_BYTES: &[u8] = b"aaa\xF0\x9F\x92\xA9\xED\xA0\xBD";
+
+const MORE_UNITS: &[u16] = &[0xDCA9; 14];
+
+const MORE_BYTES: &[u8] =
+    b"\xED\xB2\xA9\xED\xB2\xA9\xED\xB2\xA9\xED\xB2\xA9\xED\xB2\xA9\xED\xB2\xA9\xED\xB2\xA9\xED\xB2\xA9\xED\xB2\xA9\xED\xB2\xA9\xED\xB2\xA9\xED\xB2\xA9\xED\xB2\xA9\xED\xB2\xA9";
+
+const OF_UNITS: [Step<'static>; 4] = [
+    Step::Make(Make::FromUnits(UNITS), UNITS_BYTES),
+    Step::Change(0, Change::ToUnits(UNITS), UNITS_BYTES, UNITS_BYTES),
+    Step::Make(Make::FromUnits(MORE_UNITS), MORE_BYTES),
+    Step::Change(1, Change::ToUnits(MORE_UNITS), MORE_BYTES, MORE_BYTES),
+];
+
 // Runs the session, of which the request of this number is refused.
 fn refuse(alloc: Global, number: usize) -> Result<(), Fail> {
     let turn = Turn::new(alloc, number)?;
     play::<OfBytes>(&turn, &OF_BYTES)?;
     play::<OfStrings>(&turn, &OF_STRINGS)?;
+    play::<OfUnits>(&turn, &OF_UNITS)?;
     turn.end()
 }
 

@@ -6,7 +6,7 @@ use std::test::Fail;
 use std::{fmt, io};
 use tendril::format_tendril;
 use tendril_block::Refusal;
-use tendril_fmt::fmt::{Bytes, Format, UTF8};
+use tendril_fmt::fmt::{Bytes, Format, UTF8, WTF8};
 use tendril_text::{ByteTendril, StrTendril, Tendril, slice_to_tendril, str_to_tendril};
 
 /// What is done with the texts of a session, which are numbered as they are made. A refused call leaves each text as it
@@ -55,6 +55,7 @@ pub(super) enum Make<'a> {
     FromChar(char),
     Format(u32),
     FormatWords(u32),
+    FromUnits(&'a [u16]),
 }
 
 /// A call that changes a text.
@@ -77,6 +78,8 @@ pub(super) enum Change<'a> {
     WriteStr(&'a str),
     // Changes nothing: a string is made that is the text's.
     ToString,
+    // Changes nothing: the text's units are these.
+    ToUnits(&'a [u16]),
 }
 
 /// The calls that texts of one format have. A step of another format's is refused.
@@ -213,6 +216,36 @@ fn write_string(text: &mut StrTendril, string: &str) -> Result<(), Refusal> {
 fn to_string(text: &StrTendril) -> Result<(), Refusal> {
     let string = text.to_string_value()?;
     if string.as_str() == text.as_str() {
+        Ok(())
+    } else {
+        Err(Refusal::Invalid)
+    }
+}
+
+/// The calls of texts of UTF-16 units.
+pub(super) struct OfUnits;
+
+impl Calls for OfUnits {
+    type Format = WTF8;
+
+    fn make(alloc: Global, how: Make) -> Result<Tendril<WTF8>, Refusal> {
+        match how {
+            Make::FromUnits(units) => Tendril::<WTF8>::from_units(alloc, units),
+            _ => Err(Refusal::WrongFormat),
+        }
+    }
+
+    fn change(text: &mut Tendril<WTF8>, how: Change) -> Result<(), Refusal> {
+        match how {
+            Change::ToUnits(due) => to_units(text, due),
+            _ => Err(Refusal::WrongFormat),
+        }
+    }
+}
+
+fn to_units(text: &Tendril<WTF8>, due: &[u16]) -> Result<(), Refusal> {
+    let units = text.to_units()?;
+    if units.as_slice() == due {
         Ok(())
     } else {
         Err(Refusal::Invalid)

@@ -10,7 +10,7 @@ use std::cell::Cell;
 use std::rc::Rc;
 use std::test::Fail;
 use tendril::block::Refusal;
-use tendril::slice_to_tendril;
+use tendril::{ByteTendril, slice_to_tendril};
 use tendril_stream::{Counted, Stopped, TendrilSink, Utf8LossyDecoder, read_from};
 use test_tools::{holds_at, same_at};
 
@@ -126,13 +126,18 @@ fn no_call_is_refused(rt: HostRuntime) -> Result<(), Fail> {
 }
 
 // All pieces, which one call hands over.
-fn check_refused_at_once(alloc: Global, at: u32) -> Result<(), Fail> {
-    let calls = no_calls(alloc)?;
+fn all_pieces(alloc: Global) -> Result<Vec<ByteTendril>, Fail> {
     let mut pieces = Vec::new(alloc);
     for bytes in PIECES {
         pieces.push(slice_to_tendril(alloc, bytes)?)?;
     }
-    let answer = new_decoder(alloc, at, &calls)?.from_iter(pieces).err();
+    Ok(pieces)
+}
+
+fn check_refused_at_once(alloc: Global, at: u32) -> Result<(), Fail> {
+    let calls = no_calls(alloc)?;
+    let decoder = new_decoder(alloc, at, &calls)?;
+    let answer = decoder.from_iter(all_pieces(alloc)?).err();
     same_at(at as usize, answer, Some(Refusal::SinkRefused))?;
     same_at(at as usize, calls.get(), at)
 }
@@ -141,6 +146,22 @@ fn check_refused_at_once(alloc: Global, at: u32) -> Result<(), Fail> {
 fn a_refused_call_of_from_iter_is_the_last(rt: HostRuntime) -> Result<(), Fail> {
     for at in 1..=LAST {
         check_refused_at_once(rt.alloc(), at)?;
+    }
+    Ok(())
+}
+
+fn check_refused_lent(alloc: Global, at: u32) -> Result<(), Fail> {
+    let calls = no_calls(alloc)?;
+    let mut decoder = new_decoder(alloc, at, &calls)?;
+    let answer = decoder.send_all(all_pieces(alloc)?);
+    same_at(at as usize, answer, Err(Refusal::SinkRefused))?;
+    check_failed(alloc, decoder, at, &calls)
+}
+
+#[test]
+fn a_refused_call_of_send_all_is_the_last(rt: HostRuntime) -> Result<(), Fail> {
+    for at in 1..LAST {
+        check_refused_lent(rt.alloc(), at)?;
     }
     Ok(())
 }

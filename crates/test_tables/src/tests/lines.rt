@@ -4,12 +4,12 @@ use crate::{play_on, reply_to};
 use std::alloc::Global;
 use std::test::Fail;
 use tendril_block::{Atomic, Atomicity, NonAtomic};
-use tendril_lines::parse_line;
+use tendril_lines::{one_number, parse_line, two_slots};
 use tendril_run::Table;
 use test_tools::{same, same_at};
 
 // Lines, and their commands.
-const LINES: [(&[u8], &str); 7] = [
+const LINES: [(&[u8], &str); 10] = [
     (b"new bytes", "New(Bytes)"),
     (b"slice 0 4294967295 1", "Slice(0, 4294967295, 1)"),
     (b"join 3 3", "PushTendril(3, 3)"),
@@ -20,6 +20,12 @@ const LINES: [(&[u8], &str); 7] = [
         b"push 2 aBAb",
         "PushBytes(2, ByteList { bytes: [171, 171] })",
     ),
+    (
+        b"from16 d83DDca9",
+        "FromUnits(UnitList { units: [55357, 56489] })",
+    ),
+    (b"from16 -", "FromUnits(UnitList { units: [] })"),
+    (b"units 4294967295", "Units(4294967295)"),
 ];
 
 #[test]
@@ -32,7 +38,15 @@ fn lines_of_commands(rt: HostRuntime) -> Result<(), Fail> {
     Ok(())
 }
 
-const LINES_OF_NO_COMMAND: [&[u8]; 76] = [
+#[test]
+fn words_behind_a_verb(_rt: HostRuntime) -> Result<(), Fail> {
+    same(one_number(&[b"4294967295".as_slice()]), Some(4294967295))?;
+    same(one_number(&[b"1".as_slice(), b"2"]), None)?;
+    same(two_slots(&[b"1".as_slice(), b"2"]), Some((1, 2)))?;
+    same(two_slots(&[b"1".as_slice(), b"02"]), None)
+}
+
+const LINES_OF_NO_COMMAND: [&[u8]; 93] = [
     b"",
     b" ",
     b"\r",
@@ -109,6 +123,23 @@ const LINES_OF_NO_COMMAND: [&[u8]; 76] = [
     b"text 0\xff",
     b"\xff",
     b"text 0\r",
+    b"from16",
+    b"from16 ",
+    b"from16 6",
+    b"from16 61",
+    b"from16 006",
+    b"from16 00610",
+    b"from16 006100",
+    b"from16 0061006",
+    b"from16 00g1",
+    b"from16 --",
+    b"from16 0061-",
+    b"from16 0061 0062",
+    b"from16 utf8 0061",
+    b"from 0061",
+    b"units",
+    b"units 00",
+    b"units 0 0061",
 ];
 
 #[test]

@@ -1,24 +1,23 @@
-use Rattle.std.proofs.Common.{◌≡◌, ◌∙◌, ap, subst, ⊎_elim}
+use Rattle.std.proofs.Common.{◌≡◌, ◌∙◌, ap, ⊎_elim}
 use Rattle.std.proofs.lemmas.Result.{IfErr-weaker, IfOk-weaker}
-use Rattle.tendril_stream.proofs.Own.{process_clash, end_clash, unfailed}
-use Rattle.tendril_stream.proofs.Refused.{stream_stops}
-use Rattle.tendril_stream.proofs.Stands.{ends_at, stands_from_nothing}
-use Rattle.tendril_stream.specs.Compositions.{StandsAt}
+use Rattle.tendril_stream.proofs.Own.{process_clash, end_clash}
+use Rattle.tendril_stream.proofs.Refused.{stands_read, stream_stops}
+use Rattle.tendril_stream.proofs.Stands.{ends_at}
+use Rattle.tendril_stream.specs.Reads.{given}
 use Rattle.std.specs.Prelude.{chars}
 use Rattle.rope_text.proofs.Decoded.{new_has}
 use Rattle.rope_text.specs.Ropes.{RopeText}
-use Rattle.rope_text.specs.Sink.{HasCharacters, goes_on_by}
+use Rattle.rope_text.specs.Sink.{HasCharacters, TakesSent, goes_on_by}
 use Rattle.rope_text.proofs.decode.read_rope.Goals as goal
 
 pub returns-clause-ok : goal.returns-clause-ok
 returns-clause-ok g c = IfOk-weaker c.read_decoded.result _ _ (λ out h.
     let d = c.new-decoder.result in
     let all = h.3 in
-    let r = all.receives in
-    let stands = subst (StandsAt HasCharacters all.last.inner_sink all.last.kept) r.2
-    (stands_from_nothing _ HasCharacters goes_on_by (λ d. d.inner_sink) (λ d. d.kept) (λ d. d.failed) r.0 d all.last c.new.result c.new-decoder.ensures.sink c.new-decoder.ensures.kept (new_has c.new.result c.new.ensures.bytes) r.1) in
-    let e = ends_at _ HasCharacters goes_on_by (λ a o. o ≡ a) all.last.inner_sink all.last.kept h.0.given out stands all.finished.1 in
-    (h.0, h.1, h.2, ap (λ (r : RopeText). chars r.bytes) e.2 ∙ e.1.1, all.failed, all.empty, all.within)) c.read_decoded.ensures.ok
+    let stands = stands_read TakesSent (λ d. d.inner_sink) (λ d. d.kept) (λ d. d.failed) HasCharacters goes_on_by
+    c.new.result d all.last h.0 c.new-decoder.ensures.sink c.new-decoder.ensures.kept c.new-decoder.ensures.failed (new_has c.new.result c.new.ensures.bytes) all.receives in
+    let e = ends_at _ HasCharacters goes_on_by (λ a o. o ≡ a) all.last.inner_sink all.last.kept (given h.0) out stands.0 all.finished.1 in
+    (h.0, h.1, h.2, ap (λ (r : RopeText). chars r.bytes) e.2 ∙ e.1.1, all.ends, all.within)) c.read_decoded.ensures.ok
 
 pub returns-clause-stopped : goal.returns-clause-stopped
 returns-clause-stopped g c = IfErr-weaker c.read_decoded.result _ _ (λ s h. (
@@ -28,10 +27,9 @@ returns-clause-stopped g c = IfErr-weaker c.read_decoded.result _ _ (λ s h. (
       let d = c.new-decoder.result in
       ⊎_elim
       (λ k.
-      let pieces = k.receives.0 in
-      let stands = subst (StandsAt HasCharacters k.sink.inner_sink k.sink.kept) k.receives.2
-      (stands_from_nothing _ HasCharacters goes_on_by (λ d. d.inner_sink) (λ d. d.kept) (λ d. d.failed) pieces d k.sink c.new.result c.new-decoder.ensures.sink c.new-decoder.ensures.kept (new_has c.new.result c.new.ensures.bytes) k.receives.1) in
-      (k.stops, k.empty, (k.sink, k.back, unfailed (λ d. d.failed) _ pieces d k.sink c.new-decoder.ensures.failed k.receives.1, stands)))
+      let stands = stands_read TakesSent (λ d. d.inner_sink) (λ d. d.kept) (λ d. d.failed) HasCharacters goes_on_by
+      c.new.result d k.sink h.0 c.new-decoder.ensures.sink c.new-decoder.ensures.kept c.new-decoder.ensures.failed (new_has c.new.result c.new.ensures.bytes) k.receives in
+      (k.stops, (k.sink, k.back, stands.1, stands.0)))
       (λ v. ⊎_elim
       (λ k. absurd (process_clash _ _ _ _ _ _ k.piece s.refusal k.refused.1 own))
       (λ k. absurd (end_clash _ _ _ _ _ _ s.refusal k.refused own))

@@ -1,5 +1,6 @@
 use Rattle.std.proofs.Common.{subst}
 use Rattle.std.specs.Io.KnownBytes.{Consumes}
+use Rattle.tendril_stream.specs.Reads.{given}
 use Rattle.tendril_cli.proofs.program.program.Goals as goal
 
 pub returns-in-Err-decode-clause-stopped : goal.returns-in-Err-decode-clause-stopped
@@ -10,7 +11,7 @@ returns-in-Err-decode-clause-stopped g c = λ asks refused.
       refusal = c.in-Err-decode.refusal;
       these = stops.0;
       left = left;
-      gave = subst (λ r. Consumes (g.R.Read.remaining r.now) left stops.0.given) c.new.ensures.reader stops.1.1;
+      gave = subst (λ r. Consumes (g.R.Read.remaining r.now) left (given stops.0)) c.new.ensures.reader stops.1.1;
       stops = stops.2;
       tells = c.refuse-in-Err-decode.ensures.told;
     }

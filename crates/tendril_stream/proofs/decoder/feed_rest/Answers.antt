@@ -2,7 +2,7 @@ use Rattle.std.proofs.Common.{◌∙◌, sym, subst, ⊎_elim}
 use Rattle.tendril_text.specs.Decoding.{PopsText}
 use Rattle.tendril_lossy.specs.Lossy.{IsOpen}
 use Rattle.tendril_lossy.specs.declared.search.Ending.TheVariants.{Broken}
-use Rattle.tendril_stream.proofs.Turns.{ended, more, stopped, unbroken, unpopped}
+use Rattle.tendril_stream.proofs.Turns.{ended, more, stopped, unbroken, unpopped, unsent}
 use Rattle.tendril_stream.proofs.decoder.feed_rest.Goals as goal
 
 pub incomplete-requires : goal.incomplete-requires
@@ -15,6 +15,11 @@ returns-in-Whole g c =
     let e = ended g.S.TendrilSink.takes g.S.TendrilSink.refuses c.args.piece c.loop-found.piece c.pop_text_after.new.self c.args.sink.now c.loop-found.sink c.send_some.new.sink c.in-Ok.found.0 c.in-Ok.found.1
     c.loop-found.invariant c.in-Ok.ensures.1 c.in_default.ensures.ok c.in-Whole.is in
     record { ok = (e.0, c.incomplete.ensures ∙ c.as_byte_slice.ensures.value ∙ e.1); err = tt }
+
+pub returns-in-Err-send_some-clause-err : goal.returns-in-Err-send_some-clause-err
+returns-in-Err-send_some-clause-err g c =
+    unsent g.S.TendrilSink.takes g.S.TendrilSink.refuses c.args.piece c.loop-found.piece c.pop_text_after.new.self c.args.sink.now c.loop-found.sink c.send_some.new.sink c.in-Ok.found.0 c.in-Ok.found.1 c.in-Err-send_some.refusal
+    c.loop-found.invariant c.in-Ok.ensures.1 c.in-Err-send_some.ensures.err
 
 pub returns-in-Err-replace-clause-err : goal.returns-in-Err-replace-clause-err
 returns-in-Err-replace-clause-err g c =

@@ -1,15 +1,23 @@
-use Rattle.std.proofs.Common.{◌∙◌, ◌∷◌, [], inr, length, ap, map, refl, sym}
+use Rattle.std.proofs.Common.{◌∙◌, ◌∷◌, [], ◌++◌, length, ap, map, refl, sym}
+use Rattle.tendril_block.specs.declared.refusal.Refusal.TheVariants.{SinkRefused}
 use Rattle.tendril_text.proofs.Decoding.{IsReplacement, replacement-handed, replacement-chars}
 use Rattle.tendril_lossy.specs.Lossy.{Char, Mark, replaced}
 use Rattle.tendril_stream.specs.Sinks.{Piece, Fault, told_of}
-use Rattle.tendril_stream.proofs.Feeds.{Feeds-one, Feeds-append, Feeds-same, Stops-here, Stops-after}
+use Rattle.tendril_stream.proofs.Feeds.{Feeds-one, Feeds-append, Feeds-same, Stops-after, Stops-call}
 use Rattle.tendril_stream.proofs.decoder.replace.Goals as goal
+
+pub returns-in-Err-clause-err : goal.returns-in-Err-clause-err
+returns-in-Err-clause-err g c = λ piece.
+    Stops-call g.S.TendrilSink.takes g.S.TendrilSink.refuses piece c.args.sink.now (Fault c.args.words.now) (Char 0xFFFD ∷ []) (replaced c.args.words.now) SinkRefused c.error.new.self
+    tt refl (refl, (c.in-Err._refusal, c.in-Err.ensures.err))
 
 pub returns-in-Err-send-clause-err : goal.returns-in-Err-send-clause-err
 returns-in-Err-send-clause-err g c = λ piece.
+    let t = c.short.result in
+    let is : IsReplacement t = record { bytes = c.short.ensures.bytes; copied = c.short.ensures.copied ∙ sym (ap length c.short.ensures.bytes) } in
     Stops-after g.S.TendrilSink.takes g.S.TendrilSink.refuses piece c.args.sink.now c.error.new.self c.send.new.sink (Mark c.args.words.now ∷ []) (Char 0xFFFD ∷ []) (replaced c.args.words.now) c.in-Err-send.refusal
     (Feeds-one g.S.TendrilSink.takes piece c.args.sink.now (Fault c.args.words.now) c.error.new.self tt c.in_default.ensures.ok)
-    (Stops-here g.S.TendrilSink.takes g.S.TendrilSink.refuses piece c.error.new.self (Char 0xFFFD ∷ []) c.in-Err-send.refusal c.send.new.sink (inr c.in-Err-send.ensures.err))
+    (Stops-call g.S.TendrilSink.takes g.S.TendrilSink.refuses piece c.error.new.self (Piece t) [] (Char 0xFFFD ∷ []) c.in-Err-send.refusal c.send.new.sink (replacement-handed piece t is) (ap (λ cs. map Char cs ++ []) (replacement-chars t is)) c.in-Err-send.ensures.err)
     refl
 
 pub returns-clause-ok : goal.returns-clause-ok

@@ -6,7 +6,7 @@ use Rattle.std.specs.Prelude.{codes, MatchResult}
 use Rattle.tendril_lossy.proofs.Resume.{after_text, after_broken, still_open}
 use Rattle.tendril_lossy.specs.Completions.{BreaksAt, CompletesTo}
 use Rattle.tendril_lossy.specs.Lossy.{Char, due_open, kept, replaced}
-use Rattle.tendril_stream.proofs.Feeds.{Feeds-none, Feeds-one, Stops-more}
+use Rattle.tendril_stream.proofs.Feeds.{Feeds-none, Feeds-one, Stops-call, Stops-more}
 use Rattle.tendril_stream.proofs.Turns.{short_handed, rest_kept}
 use Rattle.tendril_stream.specs.Sinks.{Piece}
 use Rattle.tendril_stream.proofs.decoder.resume.Goals as goal
@@ -29,6 +29,21 @@ returns-in-Err-replace-clause-err g c =
     let h = subst (λ f. MatchResult f (λ t. CompletesTo k p t c.complete_from.new.piece.bytes) (λ b. BreaksAt k p b c.complete_from.new.piece.bytes)) c.in-Err.is c.in-Some.ensures.completed in
     let a = after_broken k p c.in-Err.field-0 c.complete_from.new.piece.bytes h in
     Stops-more g.S.TendrilSink.takes g.S.TendrilSink.refuses c.args.piece.now c.args.sink.now c.replace.new.sink (replaced (codes "invalid byte sequence")) (due_open c.complete_from.new.piece.bytes) (due_open (k ++ p)) c.in-Err-replace.refusal (c.in-Err-replace.ensures.err c.args.piece.now) (sym a.0)
+
+pub returns-in-Err-send-clause-err : goal.returns-in-Err-send-clause-err
+returns-in-Err-send-clause-err g c =
+    let k = c.args.kept.now in
+    let p = c.args.piece.now.bytes in
+    let rest = c.complete_from.new.piece.bytes in
+    let t = c.short.result in
+    let held : 0 < length c.kept.result.now = grind (arith, nat_tests) in
+    let some : 0 < length k = subst (λ l. 0 < length l) c.kept.ensures.bytes held in
+    let h = subst (λ f. MatchResult f (λ t. CompletesTo k p t rest) (λ b. BreaksAt k p b rest)) c.in-Ok.is c.in-Some.ensures.completed in
+    let is : t.bytes ≡ c.in-Ok.text = c.short.ensures.bytes ∙ c.as_str.ensures in
+    let whole : CompletesTo k p t.bytes rest = subst (λ l. CompletesTo k p l rest) (sym is) h in
+    let a = after_text k p t.bytes rest whole in
+    let fit = short_handed c.args.piece.now t k p rest some whole (c.short.ensures.copied ∙ sym (ap length c.short.ensures.bytes)) in
+    Stops-call g.S.TendrilSink.takes g.S.TendrilSink.refuses c.args.piece.now c.args.sink.now (Piece t) (due_open rest) (due_open (k ++ p)) c.in-Err-send.refusal c.send.new.sink fit (sym a.0) c.in-Err-send.ensures.err
 
 pub returns-in_default-send-clause-ok : goal.returns-in_default-send-clause-ok
 returns-in_default-send-clause-ok g c =

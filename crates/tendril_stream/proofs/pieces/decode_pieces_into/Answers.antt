@@ -8,23 +8,38 @@ use Rattle.tendril_stream.proofs.pieces.decode_pieces_into.Goals as goal
 pub returns-clause-ok : goal.returns-clause-ok
 returns-clause-ok g c = IfOk-weaker c.from_iter.result _ _ (λ out h.
     let d = c.new.result in
-    let all = stands_from_nothing g.S.TendrilSink.takes g.S.Tracks.after g.met.S.Tracks.goes_on (λ d. d.inner_sink) (λ d. d.kept) (λ d. d.failed) h.sent d h.sunk c.args.sink c.new.ensures.sink c.new.ensures.kept c.requires.new h.calls in
-    (h.iterator, h.last, h.sent, h.made, h.yields, ends_at g.S.TendrilSink.takes g.S.Tracks.after g.met.S.Tracks.goes_on g.S.TendrilSink.finishes h.sunk.inner_sink h.sunk.kept (bytes_of h.sent) out all h.ends.1)) c.from_iter.ensures.ok
+    let a = h.1 in
+    let all = stands_from_nothing g.S.TendrilSink.takes g.S.Tracks.after g.met.S.Tracks.goes_on (λ d. d.inner_sink) (λ d. d.kept) (λ d. d.failed) a.sent d h.0 c.args.sink c.new.ensures.sink c.new.ensures.kept c.requires.new a.calls in
+    (a.iterator, a.last, a.sent, a.made, a.yields, ends_at g.S.TendrilSink.takes g.S.Tracks.after g.met.S.Tracks.goes_on g.S.TendrilSink.finishes h.0.inner_sink h.0.kept (bytes_of a.sent) out all h.2.1)) c.from_iter.ensures.ok
 
 pub returns-clause-refusal : goal.returns-clause-refusal
 returns-clause-refusal g c = IfErr-weaker c.from_iter.result _ _ (λ r h.
     let d = c.new.result in
-    let at = stands_from_nothing g.S.TendrilSink.takes g.S.Tracks.after g.met.S.Tracks.goes_on (λ d. d.inner_sink) (λ d. d.kept) (λ d. d.failed) h.sent d h.sunk c.args.sink c.new.ensures.sink c.new.ensures.kept c.requires.new h.calls in
-    let running = unfailed (λ d. d.failed) _ h.sent d h.sunk c.new.ensures.failed h.calls in
+    ⊎_elim
+    (λ k.
+    let a = k.1 in
+    let at = stands_from_nothing g.S.TendrilSink.takes g.S.Tracks.after g.met.S.Tracks.goes_on (λ d. d.inner_sink) (λ d. d.kept) (λ d. d.failed) a.sent d a.sunk c.args.sink c.new.ensures.sink c.new.ensures.kept c.requires.new a.calls in
+    let running = unfailed (λ d. d.failed) _ a.sent d a.sunk c.new.ensures.failed a.calls in
     record {
-      iterator = h.iterator;
-      made = h.made;
-      read = h.sent;
-      last = h.last;
-      sink = h.sunk.inner_sink;
+      iterator = a.iterator;
+      made = a.made;
+      read = a.sent;
+      last = a.last;
+      sink = a.sunk.inner_sink;
       tells = at.tells;
-      stop = ⊎_elim
-          (λ k. inl (k.0, k.1, k.2.inner_sink, stops_at_piece g.S.TendrilSink.takes g.S.TendrilSink.refuses (λ d. d.inner_sink) (λ d. d.kept) (λ d. d.failed) h.sunk k.0 r k.2 (bytes_of h.sent) running at.keeps k.3))
-          (λ k. inr (k.0, stops_at_end g.S.TendrilSink.takes g.S.TendrilSink.refuses (λ d. d.inner_sink) (λ d. d.kept) (λ d. d.failed) g.S.TendrilSink.ends h.sunk r (bytes_of h.sent) running at.keeps k.1))
-          h.stop;
-    }) c.from_iter.ensures.err
+      stop = inl (a.next, a.yields, k.0.inner_sink, stops_at_piece g.S.TendrilSink.takes g.S.TendrilSink.refuses (λ d. d.inner_sink) (λ d. d.kept) (λ d. d.failed) a.sunk a.next r k.0 (bytes_of a.sent) running at.keeps a.refused);
+    })
+    (λ k.
+    let a = k.1 in
+    let at = stands_from_nothing g.S.TendrilSink.takes g.S.Tracks.after g.met.S.Tracks.goes_on (λ d. d.inner_sink) (λ d. d.kept) (λ d. d.failed) a.sent d k.0 c.args.sink c.new.ensures.sink c.new.ensures.kept c.requires.new a.calls in
+    let running = unfailed (λ d. d.failed) _ a.sent d k.0 c.new.ensures.failed a.calls in
+    record {
+      iterator = a.iterator;
+      made = a.made;
+      read = a.sent;
+      last = a.last;
+      sink = k.0.inner_sink;
+      tells = at.tells;
+      stop = inr (a.yields, stops_at_end g.S.TendrilSink.takes g.S.TendrilSink.refuses (λ d. d.inner_sink) (λ d. d.kept) (λ d. d.failed) g.S.TendrilSink.ends k.0 r (bytes_of a.sent) running at.keeps k.2);
+    })
+    h) c.from_iter.ensures.err

@@ -1,6 +1,6 @@
 //! Characters and formats, texts that are compared and texts that are sent.
 
-pub(super) const SESSIONS: [(&str, &str); 8] = [
+pub(super) const SESSIONS: [(&str, &str); 11] = [
     (
         "ascii_within_other_formats",
         "from ascii 68656c6c6f => slot 0
@@ -134,5 +134,40 @@ pub(super) const SESSIONS: [(&str, &str); 8] = [
         send 3 => refused 13 NoSuchSlot
         drop 0 => ok
         send 0 => refused 13 NoSuchSlot",
+    ),
+    (
+        "units_of_utf16",
+        "from16 0061D83DDCA9D83D => slot 0
+        text 0 => wtf8 61f09f92a9eda0bd
+        units 0 => units 0061d83ddca9d83d
+        from16 dca9 => slot 1
+        join 0 1 => ok
+        text 0 => wtf8 61f09f92a9f09f92a9
+        from16 - => slot 2
+        units 2 => units -",
+    ),
+    (
+        "units_of_each_width",
+        "from16 0000007F008007FF0800D7FFE000FFFF => slot 0
+        text 0 => wtf8 007fc280dfbfe0a080ed9fbfee8080efbfbf
+        units 0 => units 0000007f008007ff0800d7ffe000ffff
+        from16 D800DC00DBFFDFFF => slot 1
+        text 1 => wtf8 f0908080f48fbfbf
+        units 1 => units d800dc00dbffdfff
+        from16 DC00D800 => slot 2
+        text 2 => wtf8 edb080eda080
+        units 2 => units dc00d800",
+    ),
+    (
+        "units_of_texts_in_wtf8_alone",
+        "units 0 => refused 13 NoSuchSlot
+        from utf8 61 => slot 0
+        units 0 => refused 14 WrongFormat
+        up 0 wtf8 => ok
+        units 0 => units 0061
+        as 0 bytes => ok
+        units 0 => refused 14 WrongFormat
+        drop 0 => ok
+        units 0 => refused 13 NoSuchSlot",
     ),
 ];

@@ -16,6 +16,6 @@ new_spec 𝓤 𝓛 𝓜 𝓡 wired =
     keep ! (0 ∷ []) $ split ! $
     enter ! _ _ _ _ _ $ alloc_all ! (λ l. pass_all ! refl tt $ sets ! (agg ! (no_more !)) refl (tt, tt) $
     returns ! (look_at ! 0 refl) $ free_all ! refl $
-    suffices ! _ (ends_at 𝓛 f.ended stayed c ((κs, qs, bounds, a, tt), g) (vstruct vnil) (record { given = []; reads = 0; failed = 0; empty = 0 }) tt tt) $ says ! (refl, refl, refl, refl) $
-    pure_i ! (made.the_row.own_val (record { given = []; reads = 0; failed = 0; empty = 0 }) (vstruct vnil ∷ [])) ((λ vss. (tt, tt)), tt) ((tt, (refl, tt)), tt) $
+    suffices ! _ (ends_at 𝓛 f.ended stayed c ((κs, qs, bounds, a, tt), g) (vstruct vnil) (record { reads = [] }) tt tt) $ says ! refl $
+    pure_i ! (made.the_row.own_val (record { reads = [] }) (vstruct vnil ∷ [])) ((λ vss. (tt, tt)), tt) ((tt, (refl, tt)), tt) $
     move ! (1 ∷ 2 ∷ 0 ∷ []) $ done !))

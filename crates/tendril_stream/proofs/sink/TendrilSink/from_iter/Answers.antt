@@ -1,31 +1,12 @@
 use Rattle.std.proofs.Common.{inl, inr}
-use Rattle.std.proofs.lemmas.Fn.{FoldsTo-push}
-use Rattle.std.proofs.lemmas.Result.{IfErr-weaker}
-use Rattle.tendril_stream.specs.Sinks.{Piece}
+use Rattle.std.proofs.lemmas.Result.{IfErr-weaker, IfOk-weaker}
 use Rattle.tendril_stream.proofs.sink.TendrilSink.from_iter.Goals as goal
 
-pub loop-text-preserved : goal.loop-text-preserved
-loop-text-preserved g c =
-    FoldsTo-push (λ s x t. g.Self.TendrilSink.takes s (Piece (g.T.Streamed.text x)) t) c.args.self c.loop-text.yielded c.loop-text.self c.in-Some.text c.process.new.self c.loop-text.invariant c.in_default.ensures.ok
-
 pub returns-in-Err-clause-err : goal.returns-in-Err-clause-err
-returns-in-Err-clause-err g c = record {
-  iterator = c.into_iter-text-iterator.result;
-  made = c.into_iter-text-iterator.ensures.into_iter_gives;
-  sent = c.loop-text.yielded;
-  last = c.next.new.self;
-  sunk = c.loop-text.self;
-  calls = c.loop-text.invariant;
-  stop = inl (c.in-Some.text, (c.loop-text.text-iterator, c.loop-text.yielded_by, c.in-Some.ensures.steps), c.process.new.self, c.in-Err.ensures.err);
-}
+returns-in-Err-clause-err g c = inl (c.send_all.new.self, c.in-Err.ensures.err)
+
+pub returns-clause-ok : goal.returns-clause-ok
+returns-clause-ok g c = IfOk-weaker c.finish.result _ _ (λ out h. (c.send_all.new.self, c.in_default.ensures.ok, h)) c.finish.ensures.ok
 
 pub returns-clause-err : goal.returns-clause-err
-returns-clause-err g c = IfErr-weaker c.finish.result _ _ (λ r h. record {
-  iterator = c.into_iter-text-iterator.result;
-  made = c.into_iter-text-iterator.ensures.into_iter_gives;
-  sent = c.loop-text.yielded;
-  last = c.next.new.self;
-  sunk = c.loop-text.self;
-  calls = c.loop-text.invariant;
-  stop = inr ((c.loop-text.text-iterator, c.loop-text.yielded_by, c.in-None.ensures.steps), h);
-}) c.finish.ensures.err
+returns-clause-err g c = IfErr-weaker c.finish.result _ _ (λ r h. inr (c.send_all.new.self, c.in_default.ensures.ok, h)) c.finish.ensures.err

@@ -1,0 +1,308 @@
+//! The 16-bit units of WTF-8.
+ghost use Rattle.std.specs.Prelude.{◌≡◌, ◌+◌, ◌*◌, ◌<◌, ◌≤◌, ◌&&◌, ◌∷◌, [], ◌++◌, if◌then◌else◌, length, take, encode_utf8, vec_len, vec_capacity, true, IfSome, MatchOption};
+ghost use Rattle.std.specs.Iterator.{YieldsFirst, item_count};
+ghost use Rattle.std.specs.Char.Escape.{encode_utf16};
+ghost use Rattle.std.specs.Char.Utf16.{is_high_surrogate, is_low_surrogate};
+ghost use Rattle.std.specs.List.{AllByRecursion};
+ghost use Rattle.tendril_fmt.specs.CodePoints.{IsCodePoint};
+ghost use Rattle.tendril_fmt.specs.Units.{SplitsUnits, bytes_behind};
+ghost use Rattle.tendril_fmt.specs.Wtf8.{IsWtf8, units as units_of, wtf8};
+
+use crate::futf::split_text;
+use std::iter::FusedIterator;
+use std::marker::Model;
+
+/// The 16-bit units of WTF-8, as UTF-16 has them: two of a character past U+FFFF, and one of any other or of a lone
+/// surrogate.
+///
+/// Contracts see the list of the units that are left. The bytes are known to be valid, and aren't validated again.
+#[derive(Drop)]
+pub struct Wtf8Units<'a> {
+    rest: &'a [u8],
+    // The trail of the pair whose lead was given last.
+    trail: Option<u16>,
+}
+
+impl<'a> Model for Wtf8Units<'a> {
+    ghost use Rattle.std.specs.Prelude.{ℕ, List};
+    ghost use Rattle.tendril_fmt.specs.Units.{units_left};
+    ghost use Rattle.tendril_fmt.specs.Wtf8.{IsWtf8};
+
+    ghost Value = { List ℕ };
+
+    ghost view = { λ it. units_left it.trail it.rest.now };
+
+    ghost invariant = { λ it. IsWtf8 it.rest.now };
+}
+
+impl<'a> Wtf8Units<'a> {
+    /// All units of the bytes. Reads none of them yet.
+    pub fn new(bytes: &'a [u8]) -> Self
+        requires { IsWtf8 bytes.now }
+        ensures { result ≡ units_of bytes.now }
+    {
+        Wtf8Units {
+            rest: bytes,
+            trail: None,
+        }
+    }
+}
+
+impl<'a> Iterator for Wtf8Units<'a> {
+    type Item = u16;
+
+    ghost next_gives = { YieldsFirst (λ rest. rest) };
+
+    ghost remaining = { item_count (λ rest. rest) };
+
+    fn next(&mut self) -> Option<u16> {
+        if let Some(trail) = self.trail.take() {
+            return Some(trail);
+        }
+        let (code, rest) = split_text(self.rest)?;
+        self.rest = rest;
+        if code < 0x1_0000 {
+            return Some(code as u16);
+        }
+        let above = code - 0x1_0000;
+        self.trail = Some((0xDC00 + above % 0x400) as u16);
+        Some((0xD800 + above / 0x400) as u16)
+    }
+}
+
+impl<'a> FusedIterator for Wtf8Units<'a> {}
+
+/// Puts the units of valid WTF-8 behind those of a vector, which has room for one for each byte.
+pub fn decode_wtf8(bytes: &[u8], units: Vec<u16>) -> Vec<u16>
+    requires valid { IsWtf8 bytes.now }
+    requires room { vec_len units + length bytes.now ≤ vec_capacity units }
+    ensures { result.items ≡ units.items ++ units_of bytes.now }
+{
+    // By value: the compiler then knows that a write to the vector's bytes isn't one to its length.
+    let mut all = units;
+    let mut rest = bytes;
+    while let Some((code, after)) = split_text(rest) {
+        push_units(&mut all, code);
+        rest = after;
+    }
+    all
+}
+
+// Puts the one or two units of a code point behind others.
+#[inline]
+fn push_units(units: &mut Vec<u16>, code: u32)
+    requires point { IsCodePoint code }
+    requires room { vec_len units.old + length (encode_utf16 code) ≤ vec_capacity units.old }
+    ensures items { units.new.items ≡ units.old.items ++ encode_utf16 code }
+    ensures len { vec_len units.new ≡ vec_len units.old + length (encode_utf16 code) }
+    ensures capacity { vec_capacity units.new ≡ vec_capacity units.old }
+{
+    if code < 0x1_0000 {
+        units.push_reserved(code as u16);
+        return;
+    }
+    let above = code - 0x1_0000;
+    units.push_reserved((0xD800 + above / 0x400) as u16);
+    units.push_reserved((0xDC00 + above % 0x400) as u16);
+}
+
+// How many units are counted in 16 bits, where eight fit into a word of the processor.
+const COUNTED: usize = 4096;
+
+/// How many bytes the WTF-8 of units has.
+pub fn wtf8_len(units: &[u16]) -> usize
+    ensures { result ≡ length (wtf8 units.now) }
+{
+    let mut len = 0;
+    let mut last = 0;
+    let mut rest = units;
+    while !rest.is_empty() {
+        let (count, end, after) = count_piece(last, rest);
+        len += count as usize;
+        last = end;
+        rest = after;
+    }
+    len
+}
+
+// How many bytes the first units have behind the one before them; the last of them, and the units after it.
+#[inline]
+fn count_piece(before: u16, units: &[u16]) -> (u16, u16, &[u16])
+    requires some { 0 < length units.now }
+    ensures bytes { result.0 + bytes_behind result.1 result.2.now ≡ bytes_behind before units.now }
+    ensures shorter { length result.2.now < length units.now }
+{
+    let (piece, after) = units.split_at(units.len().min(COUNTED));
+    let mut len = 0;
+    let mut last = before;
+    for unit in piece {
+        len += len_behind(last, *unit);
+        last = *unit;
+    }
+    (len, last, after)
+}
+
+// How many bytes a unit has behind another: a trail makes four of the three bytes of a lead. Without a branch, so that
+// several are counted at once.
+#[inline]
+fn len_behind(last: u16, unit: u16) -> u16
+    ensures bytes { result ≡ (if is_high_surrogate last && is_low_surrogate unit then 1 else length (encode_utf8 unit)) }
+    ensures few { result ≤ 3 }
+{
+    if is_lead(last) & is_trail(unit) {
+        1
+    } else {
+        encoded_len(unit)
+    }
+}
+
+// How many bytes a unit by itself has.
+#[inline]
+fn encoded_len(unit: u16) -> u16
+    ensures bytes { result ≡ length (encode_utf8 unit) }
+    ensures few { result ≤ 3 }
+{
+    if unit < 0x80 {
+        1
+    } else if unit < 0x800 {
+        2
+    } else {
+        3
+    }
+}
+
+/// Writes the WTF-8 of units over bytes, which are as many.
+pub fn encode_wtf8(units: &[u16], bytes: &mut [u8])
+    requires { length bytes.old ≡ length (wtf8 units.now) }
+    ensures { bytes.new ≡ wtf8 units.now }
+{
+    let mut at = 0;
+    let mut rest = units;
+    loop {
+        if let Some((ascii, after)) = split_ascii(rest) {
+            at = put_ascii(bytes, at, ascii);
+            rest = after;
+        } else if let Some((code, after)) = split_units(rest) {
+            at = put_code_point(bytes, at, code);
+            rest = after;
+        } else {
+            return;
+        }
+    }
+}
+
+// How many units of ASCII are written at once.
+const RUN: usize = 16;
+
+// So many units of ASCII at the front, and those after them. Where the first isn't one, the others aren't read.
+#[inline]
+fn split_ascii(units: &[u16]) -> Option<(&[u16], &[u16])>
+    ensures { IfSome result (λ p. AllByRecursion (λ u. u < 0x80) p.0.now
+        × ((units.now ≡ p.0.now ++ p.1.now) × (length p.1.now < length units.now))) }
+{
+    let first = units.first()?;
+    if 0x80 <= *first || units.len() < RUN {
+        return None;
+    }
+    let (front, after) = units.split_at(RUN);
+    if !are_ascii(front) {
+        return None;
+    }
+    Some((front, after))
+}
+
+// Without a branch, so that they are tested at once.
+#[inline]
+fn are_ascii(units: &[u16]) -> bool
+    ensures { result ≡ true → AllByRecursion (λ u. u < 0x80) units.now }
+{
+    let mut all = true;
+    for unit in units {
+        all = all & (*unit < 0x80);
+    }
+    all
+}
+
+// Writes units of ASCII at a place, and answers the place behind them.
+#[inline]
+fn put_ascii(bytes: &mut [u8], at: usize, units: &[u16]) -> usize
+    requires ascii { AllByRecursion (λ u. u < 0x80) units.now }
+    requires fits { at + length units.now ≤ length bytes.old }
+    ensures place { result ≡ at + length units.now }
+    ensures bytes { take result bytes.new ≡ take at bytes.old ++ units.now }
+{
+    let mut end = at;
+    for unit in units {
+        end = put(bytes, end, *unit as u8);
+    }
+    end
+}
+
+// The code point at the front of units, and the units after it: a lead and the trail right after it are one code point,
+// any other unit is one by itself.
+#[inline]
+fn split_units(units: &[u16]) -> Option<(u32, &[u16])>
+    ensures { MatchOption result (units.now ≡ []) (λ p. SplitsUnits units.now p.0 p.1.now) }
+{
+    match units {
+        [] => None,
+        [lead, trail, rest @ ..] if is_lead(*lead) && is_trail(*trail) => {
+            let code = 0x1_0000 + (*lead as u32 - 0xD800) * 0x400 + (*trail as u32 - 0xDC00);
+            Some((code, rest))
+        }
+        [unit, rest @ ..] => Some((*unit as u32, rest)),
+    }
+}
+
+#[inline]
+fn is_lead(unit: u16) -> bool
+    ensures { result ≡ is_high_surrogate unit }
+{
+    0xD800 <= unit && unit < 0xDC00
+}
+
+#[inline]
+fn is_trail(unit: u16) -> bool
+    ensures { result ≡ is_low_surrogate unit }
+{
+    0xDC00 <= unit && unit < 0xE000
+}
+
+// Writes the bytes of a code point at a place, and answers the place behind them.
+#[inline]
+fn put_code_point(bytes: &mut [u8], at: usize, code: u32) -> usize
+    requires point { IsCodePoint code }
+    requires fits { at + length (encode_utf8 code) ≤ length bytes.old }
+    ensures place { result ≡ at + length (encode_utf8 code) }
+    ensures bytes { take result bytes.new ≡ take at bytes.old ++ encode_utf8 code }
+{
+    if code < 0x80 {
+        return put(bytes, at, code as u8);
+    }
+    let last = (0x80 + code % 0x40) as u8;
+    if code < 0x800 {
+        let at = put(bytes, at, (0xC0 + code / 0x40) as u8);
+        return put(bytes, at, last);
+    }
+    let third = (0x80 + code / 0x40 % 0x40) as u8;
+    if code < 0x1_0000 {
+        let at = put(bytes, at, (0xE0 + code / 0x1000) as u8);
+        let at = put(bytes, at, third);
+        return put(bytes, at, last);
+    }
+    let at = put(bytes, at, (0xF0 + code / 0x4_0000) as u8);
+    let at = put(bytes, at, (0x80 + code / 0x1000 % 0x40) as u8);
+    let at = put(bytes, at, third);
+    put(bytes, at, last)
+}
+
+// Writes a byte at a place, and answers the place behind it.
+#[inline]
+fn put(bytes: &mut [u8], at: usize, byte: u8) -> usize
+    requires { at < length bytes.old }
+    ensures place { result ≡ at + 1 }
+    ensures bytes { take result bytes.new ≡ take at bytes.old ++ byte ∷ [] }
+{
+    bytes[at] = byte;
+    at + 1
+}
