@@ -20,7 +20,7 @@ use Rattle.tendril_stream.specs.Readings.{Hears, MakesReads, ReadStops}
 use Rattle.tendril_stream.specs.Reads.{OneRead, Gave, WasInterrupted, HasFailed, CameToEnd, MayReadOn, given, given_by}
 use Rattle.tendril_stream.specs.Sinks.{Sent, Piece, Feeds, IsStop, told, told_of}
 use Rattle.tendril_cli.specs.Decodings.{Decoded, DecodeStops, IsReady, JoinRefused, WritesText, WritesAll, WritesFrontOfText}
-use Rattle.tendril_cli.specs.Endings.{AppendsFront}
+use Rattle.tendril_script.specs.Writing.{AppendsFront}
 
 pub characters-append : (xs ys : List Told) → characters (xs ++ ys) ≡ characters xs ++ characters ys
 characters-append [] ys = refl

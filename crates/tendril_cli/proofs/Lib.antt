@@ -1,5 +1,2 @@
 pub mod DecodingLemmas
-mod EndingLemmas
-mod HeldBackLemmas
-mod SessionLemmas
 mod WordLemmas

@@ -1,14 +1,8 @@
 use Rattle.std.proofs.Common.{◌≡◌, ℕ, ◌≤◌, ◌<◌, List, [], ◌∷◌, length, get_or, map, Bool, IsTrue, arith, rules, tests, codes}
 use Rattle.std.specs.Str.{bytes_eq}
-use Rattle.tendril_cli.specs.Words.{AskToDecode, AskToRun}
+use Rattle.tendril_cli.specs.Words.{AskToDecode}
 
--- one word asks to run if it is `run`
-pub one_word : {X : Type 0} (f : X → List ℕ) (words : List X) (d : X) (answer : Bool) → 1 ≤ length words → length words < 2 → answer ≡ bytes_eq (f (get_or words 0 d)) (codes "run") → (IsTrue answer → AskToRun (map f words)) × (AskToRun (map f words) → IsTrue answer)
-one_word f [] d answer some few e = absurd (omega arith)
-one_word f (w ∷ []) d answer some few e = ((λ h. search (rules, tests)), (λ h. search (rules, tests)))
-one_word f (w ∷ v ∷ more) d answer some few e = absurd (omega arith)
-
--- and to decode if it is `decode`
+-- one word asks to decode if it is `decode`
 pub one_decode : {X : Type 0} (f : X → List ℕ) (words : List X) (d : X) (answer : Bool) → 1 ≤ length words → length words < 2 → answer ≡ bytes_eq (f (get_or words 0 d)) (codes "decode") → (IsTrue answer → AskToDecode (map f words)) × (AskToDecode (map f words) → IsTrue answer)
 one_decode f [] d answer some few e = absurd (omega arith)
 one_decode f (w ∷ []) d answer some few e = ((λ h. search (rules, tests)), (λ h. search (rules, tests)))

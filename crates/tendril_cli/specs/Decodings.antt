@@ -25,7 +25,8 @@ use Rattle.tendril_lossy.specs.Lossy.{characters, due, due_open, kept}
 use Rattle.tendril_stream.specs.Reads.{OneRead, Gave, HasFailed, CameToEnd, MayReadOn, StopsWith, given}
 use Rattle.tendril_stream.specs.Sinks.{Sent, Piece, Fault}
 use Rattle.tendril_text.specs.Decoding.{LongPieceMay}
-use Rattle.tendril_cli.specs.Endings.{AppendsFront, complaint}
+use Rattle.tendril_script.specs.Writing.{AppendsFront, complaint}
+use Rattle.tendril_cli.specs.Endings.{program_name}
 
 -- how many reads a program makes at most
 abbrev pub most_reads : ℕ
@@ -100,11 +101,6 @@ pub record IsReady (these : List OneRead) (before now : Option (List ℕ)) (held
   pub goes_on : failed ≡ false
   pub empty : unwritten ≡ []
 
--- the refusals that end a decoding
-abbrev pub EndsDecoding : Refusal → Type 0
-EndsDecoding refusal =
-    (refusal ≡ Memory) ⊎ ((refusal ≡ Count) ⊎ ((refusal ≡ TooManyReads) ⊎ ((refusal ≡ Io) ⊎ (refusal ≡ SinkRefused))))
-
 -- A refusal ended the program: standard error has taken its line or a front of that, and what was written before
 -- stands. Some reads gave what the reader gave; how many those were, the reader of a program can't tell.
 pub record DecodingEnded (most : ℕ) (input before after told told' : Option (List ℕ)) : Type 0 where
@@ -113,4 +109,4 @@ pub record DecodingEnded (most : ℕ) (input before after told told' : Option (L
   pub left : Option (List ℕ)
   pub gave : Consumes input left (given these)
   pub stops : DecodeStops most these left before after refusal
-  pub tells : AppendsFront told told' (complaint refusal)
+  pub tells : AppendsFront told told' (complaint program_name refusal)

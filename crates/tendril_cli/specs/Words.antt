@@ -1,11 +1,5 @@
--- What the program's words ask it for.
+-- What asks the program to decode.
 use Rattle.std.specs.Prelude.{ℕ, ◌≡◌, List, [], ◌∷◌, codes}
-
--- the words that ask for a run: none, or `run`
-abbrev pub AskToRun : List (List ℕ) → Type 0
-AskToRun [] = Unit {0}
-AskToRun (word ∷ []) = word ≡ codes "run"
-AskToRun (word ∷ other ∷ more) = ⊥
 
 -- the words that ask for a decoding: `decode`
 abbrev pub AskToDecode : List (List ℕ) → Type 0

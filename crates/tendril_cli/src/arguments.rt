@@ -1,37 +1,53 @@
 //! The program's words: the arguments that it is started with.
-ghost use Rattle.std.specs.Prelude.{◌≤◌};
+ghost use Rattle.std.specs.Prelude.{◌≡◌, ◌≤◌, ◌⊎◌, IfSome};
+ghost use Rattle.std.specs.Io.KnownBytes.{Keeps};
+ghost use Rattle.tendril_cli.specs.Decodings.{DecodingEnded, WritesText, most_reads};
+ghost use Rattle.tendril_cli.specs.Endings.{Ended, usage};
+ghost use Rattle.tendril_cli.specs.Sessions.{Ran};
+ghost use Rattle.tendril_lossy.specs.Lossy.{characters, due};
+ghost use Rattle.tendril_script.specs.Writing.{AppendsFront};
 
-use crate::program::{program, refuse};
-use std::env;
-use std::io::{ErrorKind, Read, Write};
+use crate::program::{NAME, asks_to_decode, misuse, program};
+use std::io::{Read, Write};
 use std::rt::Env;
+use tendril_script::{asks_to_run, refuse, words_of};
 use tendril_text::block::Refusal;
 
-/// Runs the program with the arguments behind its name, and answers its status. Where one isn't UTF-8, the words are
-/// one empty word, which asks for nothing.
+/// Runs the program with the arguments behind its name, and answers its status. Arguments of which one isn't UTF-8 ask
+/// for nothing.
+#[tactic(auto, using(tendril_script::proofs::EndingLemmas::refused_first))]
 pub fn program_with_arguments<S: Env + AllocGlobal, R: Read, W: Write, E: Write>(
     system: &S,
     input: &mut R,
     out: &mut W,
     err: &mut E,
 ) -> u8
-    ensures { result ≤ 2 }
+    ensures status { result ≤ 2 }
+    ensures ran { result ≡ 0 → Ran (R.remaining input.old) (W.contents out.old) (W.contents out.new)
+        ⊎ IfSome (R.remaining input.old) (λ bytes. WritesText (characters (due bytes)) (W.contents out.old) (W.contents out.new)) }
+    ensures silent { result ≡ 0 → Keeps (E.contents err.old) (E.contents err.new) }
+    ensures refused { result ≡ 1 → Ended (R.remaining input.old)
+        (W.contents out.old) (W.contents out.new) (E.contents err.old) (E.contents err.new)
+        ⊎ DecodingEnded most_reads (R.remaining input.old)
+        (W.contents out.old) (W.contents out.new) (E.contents err.old) (E.contents err.new) }
+    ensures misused { result ≡ 2 → Keeps (W.contents out.old) (W.contents out.new) }
+    ensures told { result ≡ 2 → AppendsFront (E.contents err.old) (E.contents err.new) usage }
 {
     let alloc = system.alloc();
-    let arguments = match env::args(system) {
-        Ok(arguments) => arguments,
-        Err(error) if error.kind() == ErrorKind::OutOfMemory => return refuse(Refusal::Memory, err),
-        Err(_) => return program(alloc, &[""], input, out, err),
-    };
-    let Ok(arguments) = arguments.skip(1).collect::<Vec<String>>(alloc) else {
-        return refuse(Refusal::Memory, err);
+    let arguments = match words_of(system) {
+        Ok(Some(arguments)) => arguments,
+        Ok(None) => return misuse(err),
+        Err(refusal) => return refuse(NAME, refusal, err),
     };
     let Ok(words) = arguments
         .iter()
         .map(|word| word.as_str())
         .collect::<Vec<&str>>(alloc)
     else {
-        return refuse(Refusal::Memory, err);
+        return refuse(NAME, Refusal::Memory, err);
     };
-    program(alloc, words.as_slice(), input, out, err)
+    let words = words.as_slice();
+    // Asked once more for the contract alone: what the words ask for decides what a status says.
+    let _ = (asks_to_run(words), asks_to_decode(words));
+    program(alloc, words, input, out, err)
 }

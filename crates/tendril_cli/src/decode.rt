@@ -5,12 +5,12 @@ ghost use Rattle.tendril_lossy.specs.Lossy.{characters, due};
 ghost use Rattle.tendril_stream.specs.Readings.{MakesReads};
 ghost use Rattle.tendril_stream.specs.Reads.{OneRead, CameToEnd, MayReadOn, given};
 ghost use Rattle.tendril_cli.specs.Decodings.{Decoded, DecodeStops, IsReady, WritesFrontOfText, WritesText, most_reads};
-ghost use Rattle.tendril_cli.specs.Endings.{AppendsFront};
+ghost use Rattle.tendril_script.specs.Writing.{AppendsFront};
 
 use crate::joined::Joined;
-use crate::output::{flush, write_bytes};
 use std::alloc::Global;
 use std::io::Write;
+use tendril_script::{flush, write_bytes};
 use tendril_stream::{CountedRead, TendrilSink, Utf8LossyDecoder, read_once};
 use tendril_text::StrTendril;
 use tendril_text::block::Refusal;

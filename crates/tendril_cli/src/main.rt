@@ -4,9 +4,8 @@
 mod arguments;
 mod decode;
 mod joined;
-mod output;
+mod lines;
 mod program;
-mod script;
 #[cfg(test)]
 mod tests;
 mod white_space;

@@ -73,6 +73,14 @@ impl<A: Atomicity> Table<A> {
         }
     }
 
+    /// How many slots there are, the ones that are gone too.
+    pub fn len(&self) -> usize
+        ensures count { result ≡ length self.now.cells }
+        ensures valid { All IsCell self.now.cells }
+    {
+        self.slots.len()
+    }
+
     /// The slot of a number.
     pub fn slot(&self, index: usize) -> Option<&Slot<A>>
         ensures { MatchOption result (length self.now.cells ≤ index)

@@ -11,6 +11,7 @@ mod growing;
 mod making;
 mod pushing;
 mod reading;
+mod rope_tables;
 mod ropes;
 mod rows;
 mod sending;

@@ -3,10 +3,14 @@
 
 mod decoded;
 mod growing;
+mod lined;
 mod long;
 mod parts;
 mod random;
 mod reading;
 mod shrinking;
 mod steps;
+mod table_sessions;
+mod tables;
+mod threads;
 mod whole;

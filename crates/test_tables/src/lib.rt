@@ -7,4 +7,4 @@ mod session;
 mod tests;
 
 pub use class::{OneClass, WhiteSpace};
-pub use session::{check_replies, commands_of, play, play_on, reply_to, run_on};
+pub use session::{Lined, check_replies, commands_of, play, play_on, reply_to, run_on};

@@ -70,7 +70,8 @@ fn print(turn: &Turn, reply: &Reply, due: &str) -> Result<(), Fail> {
     turn.same(text.as_str(), due)
 }
 
-fn bytes_of(slot: &Slot<NonAtomic>) -> &[u8] {
+/// The bytes of a slot.
+pub(super) fn bytes_of(slot: &Slot<NonAtomic>) -> &[u8] {
     match slot {
         Slot::Bytes(text) => text.as_byte_slice(),
         Slot::Ascii(text) => text.as_byte_slice(),

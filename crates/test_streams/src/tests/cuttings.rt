@@ -7,7 +7,6 @@ use std::mem;
 use std::test::Fail;
 use tendril::{ByteTendril, NonAtomic};
 use tendril_stream::{Accumulate, Event, TendrilSink, Utf8LossyDecoder};
-use test_tools::holds_at;
 
 /// How many bytes a stream has, how many such streams there are, and in how many ways each is cut.
 const SIZES: [(usize, u32, u32); 5] = [

@@ -77,7 +77,7 @@ fn job<C: Drop, G: Drop>(
     table.push(Slot::Bytes(text.clone()?)).ok().ok_or("push")?;
     Ok(Job {
         table,
-        commands: commands_of(alloc, "a worker", session)?,
+        commands: commands_of::<Table<Atomic>>(alloc, "a worker", session)?,
         class,
         gate,
     })
@@ -88,7 +88,7 @@ fn check(alloc: Global, outcome: Outcome, (session, after): Work) -> Result<(), 
     let Outcome::Done(mut table, replies) = outcome else {
         return Err(Fail::from("not done"));
     };
-    check_replies(alloc, "a worker", session, replies.as_slice())?;
+    check_replies::<Table<Atomic>>(alloc, "a worker", session, replies.as_slice())?;
     play_on(&mut table, alloc, "behind a worker", after)
 }
 

@@ -10,7 +10,7 @@ use tendril::{
     Atomic, Atomicity, ByteTendril, NonAtomic, StrTendril, SubtendrilError, Tendril,
     slice_to_tendril, str_to_tendril,
 };
-use test_tools::{holds_at, same, same_at};
+use test_tools::{holds_at, same};
 
 const DIGITS: &[u8] = b"0123456789";
 

@@ -246,7 +246,7 @@ fn check_lists(alloc: Global, len: usize, lists: u32, groupings: u32) -> Result<
 }
 
 #[test]
-fn units_as_bytes_by_hand(rt: HostRuntime) -> Result<(), Fail> {
+fn the_slow_encoder_by_hand(rt: HostRuntime) -> Result<(), Fail> {
     let rows: [(&[u16], &[u8]); 5] = [
         (&[0x0041, 0x0151], b"A\xC5\x91"),
         (&[0xD83D, 0xDCA9], b"\xF0\x9F\x92\xA9"),

@@ -11,7 +11,7 @@ returns-in-Err-decode-clause-stopped g c = λ asks refused.
       refusal = c.in-Err-decode.refusal;
       these = stops.0;
       left = left;
-      gave = subst (λ r. Consumes (g.R.Read.remaining r.now) left (given stops.0)) c.new.ensures.reader stops.1.1;
+      gave = subst (λ r. Consumes (g.R.Read.remaining r.now) left (given stops.0)) c.new-then-asks_to_decode.ensures.reader stops.1.1;
       stops = stops.2;
       tells = c.refuse-in-Err-decode.ensures.told;
     }

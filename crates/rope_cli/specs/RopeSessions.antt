@@ -1,0 +1,31 @@
+-- What the lines of a script print, on a table of texts and ropes that is empty at first.
+use Rattle.std.specs.Prelude.{ℕ, ◌≡◌, ◌⊎◌, List, [], Option}
+use Rattle.tendril_block.specs.declared.refusal.Refusal.TheVariants.{Memory}
+use Rattle.tendril_lines.specs.declared.command.Reply.TheVariants.{Refused}
+use Rattle.rope_run.specs.RopeCells.{Cells}
+use Rattle.rope_run.specs.RopeLines.{IsRopeLine}
+use Rattle.rope_run.specs.RopePrinted.{rope_printed}
+use Rattle.rope_run.specs.RopeSteps.{RopeStep}
+use Rattle.rope_run.specs.declared.command.RopeCommand.{RopeCommand}
+use Rattle.rope_run.specs.declared.command.RopeReply.{RopeReply}
+use Rattle.rope_run.specs.declared.command.RopeReply.TheVariants.{Plain}
+use Rattle.tendril_script.specs.Commands.{CommandAnswers}
+use Rattle.tendril_script.specs.Sessions.{RanFrom}
+use Rattle.tendril_script.specs.WhiteSpace.{class}
+
+-- a table without slots and ropes
+abbrev pub no_cells : Cells
+no_cells = record { slots = []; ropes = [] }
+
+-- the reply to a command: that of its step, or that memory was wanting before it, and nothing changed
+abbrev pub RopeReplies : Cells → RopeCommand → RopeReply → Cells → Type 0
+RopeReplies old command reply new =
+    RopeStep class old command reply new ⊎ ((reply ≡ Plain (Refused Memory)) × (new ≡ old))
+
+-- what a line prints: the reply to the command that it is, or `malformed`
+abbrev pub RopeAnswers : Cells → List ℕ → List ℕ → Cells → Type 0
+RopeAnswers = CommandAnswers IsRopeLine RopeReplies rope_printed
+
+-- a writer that tells its bytes has taken what is written for the script that a reader which tells its bytes has left
+abbrev pub RopesRan : Option (List ℕ) → Option (List ℕ) → Option (List ℕ) → Type 0
+RopesRan remaining before after = RanFrom RopeAnswers no_cells remaining before after

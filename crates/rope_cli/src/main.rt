@@ -1,0 +1,19 @@
+//! The program `rope`: it runs commands on texts and ropes, a line each.
+#![tactic(auto)]
+
+mod arguments;
+mod lines;
+mod program;
+#[cfg(test)]
+mod tests;
+mod white_space;
+
+use arguments::program_with_arguments;
+use std::process::ExitCode;
+
+fn main(rt: HostRuntime) -> ExitCode {
+    let mut input = rt.stdin();
+    let mut out = rt.stdout();
+    let mut err = rt.stderr();
+    ExitCode::from(program_with_arguments(&rt, &mut input, &mut out, &mut err))
+}

@@ -1,0 +1,5 @@
+mod Chained
+mod GivenRopes
+mod RopeChanged
+mod RopePopped
+mod RopeReading

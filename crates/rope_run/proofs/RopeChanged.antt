@@ -1,0 +1,70 @@
+-- One rope of a table changes, or one is added.
+use Rattle.std.proofs.Common.{◌≡◌, ℕ, ◌<◌, ◌≤◌, ◌⊎◌, List, length, get_or, set, map, ap, refl, sym, subst, ◌∙◌, Option, Some, None, [], ◌∷◌, ◌++◌, All}
+use Rattle.std.proofs.lemmas.List.{map-append, map-set, get_or-map, get_or_past, length-map}
+use Rattle.std.proofs.lemmas.List.Elements.{All-set, All-push, All-get_or}
+use Rattle.std.proofs.Math.Seq.{map-set_same}
+use Rattle.tendril_block.specs.declared.refusal.Refusal.{Refusal}
+use Rattle.tendril_block.specs.declared.refusal.Refusal.TheVariants.{NoSuchSlot}
+use Rattle.tendril_lines.specs.declared.command.Reply.{Reply}
+use Rattle.tendril_lines.specs.declared.command.Reply.TheVariants.{Refused}
+use Rattle.rope_text.specs.Ropes.{RopeText}
+use Rattle.rope_run.specs.declared.command.RopeReply.TheVariants.{Plain}
+use Rattle.rope_run.specs.RopeCells.{Cells, RopeCell, IsRopeCell, gone, rope_at}
+use Rattle.rope_run.specs.RopeOf.{rope_cell_of}
+use Rattle.rope_run.specs.RopeSteps.{RopeReplied, LeavesRope}
+use Rattle.tendril_run.specs.Cells.{Cell}
+use Rattle.tendril_run.specs.Rules.{Answered}
+
+-- the cells of slots and ropes
+abbrev pub cells_of : List Cell → List (Option RopeText) → Cells
+cells_of slots items = record { slots = slots; ropes = map rope_cell_of items }
+
+-- one rope was old, and after it is new; all other ropes stay
+pub record OneRope (items : List (Option RopeText)) (number : ℕ) (old new : RopeCell) (after : List (Option RopeText)) : Type 0 where
+  pub here : rope_at (map rope_cell_of items) number ≡ old
+  pub there : map rope_cell_of after ≡ set (map rope_cell_of items) number new
+  pub kept : new ≡ old → map rope_cell_of after ≡ map rope_cell_of items
+
+pub one_rope : (items : List (Option RopeText)) (number : ℕ) (s t : Option RopeText) → number < length items → s ≡ get_or items number s → OneRope items number (rope_cell_of s) (rope_cell_of t) (set items number t)
+one_rope items number s t within found = record {
+  here = get_or-map rope_cell_of items number s gone within ∙ ap rope_cell_of (sym found);
+  there = map-set rope_cell_of items number t;
+  kept = λ same. map-set_same rope_cell_of items number t s (same ∙ ap rope_cell_of found);
+}
+
+changed : (must : RopeCell → Option Refusal → Type 0) (said : RopeCell → Reply) (effect : RopeCell → RopeCell) (slots : List Cell) (items after : List (Option RopeText)) (number : ℕ) (old new : RopeCell) (reply : Reply) → OneRope items number old new after → must old None × ((reply ≡ said old) × (new ≡ effect old)) → must (rope_at (map rope_cell_of items) number) None × LeavesRope (cells_of slots items) number (said (rope_at (map rope_cell_of items) number)) (effect (rope_at (map rope_cell_of items) number)) (Plain reply) (cells_of slots after)
+changed must said effect slots items after number old new reply one h = (
+  subst (λ c. must c None) (sym one.here) h.0,
+  (
+    ap Plain (h.1.0 ∙ ap said (sym one.here)),
+    (one.there ∙ ap (λ c. set (map rope_cell_of items) number c) (h.1.1 ∙ ap effect (sym one.here)), refl),
+  ),
+)
+
+answered : (must : RopeCell → Option Refusal → Type 0) (may : RopeCell → Refusal → Type 0) (said : RopeCell → Reply) (effect : RopeCell → RopeCell) (slots : List Cell) (items after : List (Option RopeText)) (number : ℕ) (old new : RopeCell) (reply : Reply) → OneRope items number old new after → Answered (must old) (may old) (said old) (effect old) old reply new → RopeReplied (must (rope_at (map rope_cell_of items) number)) (may (rope_at (map rope_cell_of items) number)) (LeavesRope (cells_of slots items) number (said (rope_at (map rope_cell_of items) number)) (effect (rope_at (map rope_cell_of items) number))) (cells_of slots items) (Plain reply) (cells_of slots after)
+answered must may said effect slots items after number old new (Refused r) one h =
+    (subst (λ c. must c (Some r) ⊎ (must c None × may c r)) (sym one.here) h.0, ap (λ ropes. record { slots = slots; ropes = ropes }) (one.kept h.1))
+answered must may said effect slots items after number old new reply one h = changed must said effect slots items after number old new reply one h
+
+-- what one rope answers and becomes is what its table does
+pub table_answered : (must : RopeCell → Option Refusal → Type 0) (may : RopeCell → Refusal → Type 0) (said : RopeCell → Reply) (effect : RopeCell → RopeCell) (before : Cells) (slots : List Cell) (items after : List (Option RopeText)) (number : ℕ) (old new : RopeCell) (reply : Reply) → cells_of slots items ≡ before → OneRope items number old new after → Answered (must old) (may old) (said old) (effect old) old reply new → RopeReplied (must (rope_at before.ropes number)) (may (rope_at before.ropes number)) (LeavesRope before number (said (rope_at before.ropes number)) (effect (rope_at before.ropes number))) before (Plain reply) (cells_of slots after)
+table_answered must may said effect before slots items after number old new reply is one h =
+    subst (λ (b : Cells). RopeReplied (must (rope_at b.ropes number)) (may (rope_at b.ropes number)) (LeavesRope b number (said (rope_at b.ropes number)) (effect (rope_at b.ropes number))) b (Plain reply) (cells_of slots after)) is
+    (answered must may said effect slots items after number old new reply one h)
+
+-- a rope that isn't there is gone
+pub past_gone : (before : Cells) (slots : List Cell) (items : List (Option RopeText)) (number : ℕ) → cells_of slots items ≡ before → length items ≤ number → rope_at before.ropes number ≡ gone
+past_gone before slots items number is past =
+    subst (λ (b : Cells). rope_at b.ropes number ≡ gone) is (get_or_past (map rope_cell_of items) number gone (subst (λ n. n ≤ number) (sym (length-map items rope_cell_of)) past))
+
+-- ropes stay valid where one of them becomes another valid one
+pub kept_ropes : (items : List (Option RopeText)) (number : ℕ) (s t : Option RopeText) → number < length items → s ≡ get_or items number s → All IsRopeCell (map rope_cell_of items) → (IsRopeCell (rope_cell_of s) → IsRopeCell (rope_cell_of t)) → All IsRopeCell (map rope_cell_of (set items number t))
+kept_ropes items number s t within found h kept =
+    let here : IsRopeCell (rope_cell_of s) =
+    subst (λ cell. IsRopeCell cell) (get_or-map rope_cell_of items number s gone within ∙ ap rope_cell_of (sym found))
+    (All-get_or IsRopeCell (map rope_cell_of items) number gone (subst (λ n. number < n) (sym (length-map items rope_cell_of)) within) h) in
+    subst (λ cells. All IsRopeCell cells) (sym (map-set rope_cell_of items number t)) (All-set IsRopeCell (map rope_cell_of items) number (rope_cell_of t) (kept here) h)
+
+-- and where one is added
+pub added_ropes : (items : List (Option RopeText)) (s : Option RopeText) → All IsRopeCell (map rope_cell_of items) → IsRopeCell (rope_cell_of s) → All IsRopeCell (map rope_cell_of (items ++ s ∷ []))
+added_ropes items s h one = subst (λ cells. All IsRopeCell cells) (sym (map-append rope_cell_of items (s ∷ []))) (All-push IsRopeCell (map rope_cell_of items) (rope_cell_of s) h one)

@@ -1,0 +1,18 @@
+//! Commands over tables of texts and ropes, and the lines in which they are written.
+//!
+//! A table is seen by contracts as two lists of independent cells. What its texts and ropes share is never seen: each
+//! command changes the cell that it names, or adds one, and leaves all others.
+#![tactic(auto)]
+
+mod chain;
+mod command;
+mod line;
+mod one_rope;
+mod reply;
+mod table;
+
+pub use chain::run_ropes;
+pub use command::{RopeCommand, RopeReply};
+pub use line::parse_rope_line;
+pub use reply::print_rope_reply;
+pub use table::RopeTable;

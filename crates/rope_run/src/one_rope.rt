@@ -1,0 +1,121 @@
+//! What a command does to one rope, or where one is gone.
+ghost use Rattle.std.specs.Prelude.{◌≡◌, ◌+◌, ◌++◌, length, IfErr, OnOk};
+ghost use Rattle.tendril_block.specs.Outcomes.{NoneMay, Outcome};
+ghost use Rattle.rope_text.specs.Growth.{TotalMust};
+ghost use Rattle.rope_run.specs.RopeCells.{IsRopeCell, gone as gone_cell, rope as rope_cell};
+ghost use Rattle.rope_run.specs.RopeOf.{rope_cell_of};
+ghost use Rattle.rope_run.specs.RopeRows.{AppendMay, AppendMust, RopeMust, RopePushMay, RopePushMust, ShareMay, rope_appended, rope_char, rope_popped, rope_pushed};
+ghost use Rattle.tendril_run.specs.CellOf.{cell_of};
+ghost use Rattle.tendril_run.specs.Rules.{Answered, Changed};
+
+use rope_text::{MAX_TOTAL, Rope};
+use tendril_run::{Reply, Slot};
+use tendril_text::block::Refusal;
+use tendril_text::{Atomicity, StrTendril};
+
+/// Puts the text of a slot at the end of the rope.
+pub(crate) fn push<A: Atomicity>(rope: &mut Option<Rope<A>>, slot: &Slot<A>) -> Reply
+    ensures done { Changed (RopePushMust (rope_cell_of rope.old) (cell_of slot.now))
+        (RopePushMay (rope_cell_of rope.old) (cell_of slot.now))
+        (rope_pushed (rope_cell_of rope.old) (cell_of slot.now))
+        (rope_cell_of rope.old) result (rope_cell_of rope.new) }
+    ensures kept { IsRopeCell (rope_cell_of rope.old) → IsRopeCell (rope_cell_of rope.new) }
+{
+    match (rope, slot) {
+        (None, _) | (_, Slot::Gone) => Reply::Refused(Refusal::NoSuchSlot),
+        (Some(rope), Slot::Utf8(text)) => reply_of(push_text(rope, text)),
+        _ => Reply::Refused(Refusal::WrongFormat),
+    }
+}
+
+// Puts a text at the rope's end, which shares it.
+fn push_text<A: Atomicity>(rope: &mut Rope<A>, text: &StrTendril<A>) -> Result<(), Refusal>
+    ensures done { Outcome (TotalMust (length rope.old.bytes + length text.now.bytes)) (ShareMay (length text.now.bytes))
+        (λ _ b. b ≡ rope.old.bytes ++ text.now.bytes) rope.old.bytes result rope.new.bytes }
+    ensures kept { IsRopeCell (rope_cell rope.old.bytes) → IsRopeCell (rope_cell rope.new.bytes) }
+{
+    if text.len32() as u64 > MAX_TOTAL - rope.len64() {
+        return Err(Refusal::TooLong);
+    }
+    let copy = text.clone()?;
+    if let Err((refusal, _)) = rope.push_tendril(copy) {
+        return Err(refusal);
+    }
+    read(rope);
+    Ok(())
+}
+
+/// Puts the pieces of another rope at the end of the rope.
+pub(crate) fn append<A: Atomicity>(rope: &mut Option<Rope<A>>, more: Rope<A>) -> Reply
+    ensures done { Changed (AppendMust (rope_cell_of rope.old) (rope_cell more.bytes))
+        (AppendMay (rope_cell_of rope.old) (rope_cell more.bytes))
+        (rope_appended (rope_cell_of rope.old) (rope_cell more.bytes))
+        (rope_cell_of rope.old) result (rope_cell_of rope.new) }
+    ensures kept { IsRopeCell (rope_cell_of rope.old) → IsRopeCell (rope_cell_of rope.new) }
+{
+    match rope {
+        Some(rope) => reply_of(append_pieces(rope, more)),
+        None => Reply::Refused(Refusal::NoSuchSlot),
+    }
+}
+
+fn append_pieces<A: Atomicity>(rope: &mut Rope<A>, more: Rope<A>) -> Result<(), Refusal>
+    ensures done { Outcome (TotalMust (length rope.old.bytes + length more.bytes)) (ShareMay (length more.bytes))
+        (λ _ b. b ≡ rope.old.bytes ++ more.bytes) rope.old.bytes result rope.new.bytes }
+    ensures kept { IsRopeCell (rope_cell rope.old.bytes) → IsRopeCell (rope_cell rope.new.bytes) }
+{
+    if let Err((refusal, _)) = rope.append(more) {
+        return Err(refusal);
+    }
+    read(rope);
+    Ok(())
+}
+
+/// Takes the first character out of the rope.
+pub(crate) fn pop_char<A: Atomicity>(rope: &mut Option<Rope<A>>) -> Reply
+    ensures done { Answered (RopeMust (rope_cell_of rope.old)) NoneMay
+        (Reply.Char (rope_char (rope_cell_of rope.old))) (rope_popped (rope_cell_of rope.old))
+        (rope_cell_of rope.old) result (rope_cell_of rope.new) }
+    ensures valid { IsRopeCell (rope_cell_of rope.new) }
+{
+    match rope {
+        Some(rope) => {
+            let first = rope.pop_front_char();
+            read(rope);
+            Reply::Char(first)
+        }
+        None => Reply::Refused(Refusal::NoSuchSlot),
+    }
+}
+
+/// The rope is gone.
+pub(crate) fn drop_rope<A: Atomicity>(rope: &mut Option<Rope<A>>) -> Reply
+    ensures done { Changed (RopeMust (rope_cell_of rope.old)) NoneMay gone_cell
+        (rope_cell_of rope.old) result (rope_cell_of rope.new) }
+    ensures gone { rope_cell_of rope.new ≡ gone_cell }
+{
+    if let None = rope {
+        return Reply::Refused(Refusal::NoSuchSlot);
+    }
+    *rope = None;
+    Reply::Done
+}
+
+/// A rope tells where it is read that it is valid, and not too long. Costs nothing.
+pub(crate) fn read<A: Atomicity>(rope: &Rope<A>)
+    ensures { IsRopeCell (rope_cell rope.now.bytes) }
+{
+    let _len = rope.len64();
+    let _pieces = rope.pieces();
+}
+
+// The reply to a call that was done or refused.
+fn reply_of(done: Result<(), Refusal>) -> Reply
+    ensures ok { OnOk done (result ≡ Reply.Done) }
+    ensures err { IfErr done (λ r. result ≡ Reply.Refused r) }
+{
+    match done {
+        Ok(()) => Reply::Done,
+        Err(refusal) => Reply::Refused(refusal),
+    }
+}

@@ -1,0 +1,267 @@
+//! Texts in numbered slots, and ropes with numbers of their own.
+ghost use Rattle.std.specs.Prelude.{◌≡◌, ◌≤◌, ◌+◌, [], length, All, IfErr, OnOk, MatchOption, MatchResult};
+ghost use Rattle.rope_run.specs.RopeCells.{IsRopeCell, gone as gone_cell, rope as rope_cell, rope_at};
+ghost use Rattle.rope_run.specs.RopeRows.{AppendMay, AppendMust, RopeSubMust, RopeTakeMay, RopeTakeMust, ShareMay, rope_part, rope_taken};
+ghost use Rattle.rope_run.specs.RopeSteps.{AddsRope, AddsSlot, IsRefused, RopeStep};
+ghost use Rattle.tendril_block.specs.Outcomes.{Gives};
+ghost use Rattle.tendril_lines.specs.declared.command.Kind.TheVariants as kind;
+ghost use Rattle.tendril_run.specs.Cells.{text as text_cell};
+
+use crate::command::{RopeCommand, RopeReply};
+use crate::one_rope;
+use rope_text::{MAX_TOTAL, Rope};
+use std::alloc::Global;
+use std::marker::Model;
+use tendril_run::{Classifier, Reply, Slot, Table};
+use tendril_text::block::Refusal;
+use tendril_text::{Atomicity, StrTendril};
+
+/// Slots and ropes, each numbered from 0, each with a text or gone.
+#[derive(Drop)]
+pub struct RopeTable<A: Atomicity> {
+    table: Table<A>,
+    ropes: Vec<Option<Rope<A>>>,
+    alloc: Global,
+}
+
+impl<A: Atomicity> Model for RopeTable<A> {
+    ghost use Rattle.std.specs.Prelude.{◌-◌, All, map, vec_len, vec_capacity};
+    ghost use Rattle.rope_run.specs.RopeCells.{IsRopeCell, RopeBoard};
+    ghost use Rattle.rope_run.specs.RopeOf.{rope_cell_of};
+
+    ghost Value = { RopeBoard };
+
+    ghost view = { λ t. record { cells = record { slots = t.table.cells; ropes = map rope_cell_of t.ropes.items }; slot_room = t.table.room; rope_room = vec_capacity t.ropes - vec_len t.ropes } };
+
+    ghost invariant = { λ t. All IsRopeCell (map rope_cell_of t.ropes.items) };
+}
+
+impl<A: Atomicity> RopeTable<A> {
+    /// The slots of a table, and no ropes. Takes no memory.
+    pub fn new(alloc: Global, table: Table<A>) -> Self
+        ensures slots { result.cells.slots ≡ table.cells }
+        ensures ropes { result.cells.ropes ≡ [] }
+        ensures room { result.slot_room ≡ table.room }
+    {
+        RopeTable {
+            table,
+            ropes: Vec::new(alloc),
+            alloc,
+        }
+    }
+
+    /// The slots.
+    pub fn slots(&self) -> &Table<A>
+        ensures cells { result.now.cells ≡ self.now.cells.slots }
+        ensures room { result.now.room ≡ self.now.slot_room }
+    {
+        &self.table
+    }
+
+    /// How many ropes there are, the ones that are gone too.
+    pub fn ropes(&self) -> usize
+        ensures count { result ≡ length self.now.cells.ropes }
+        ensures valid { All IsRopeCell self.now.cells.ropes }
+    {
+        self.ropes.len()
+    }
+
+    /// The rope of a number, `None` where it is gone or not there.
+    pub fn rope(&self, number: usize) -> Option<&Rope<A>>
+        ensures { MatchOption result (rope_at self.now.cells.ropes number ≡ gone_cell)
+            (λ r. rope_at self.now.cells.ropes number ≡ rope_cell r.now.bytes) }
+    {
+        self.ropes.get(number)?.as_ref()
+    }
+
+    /// Makes room for so many more slots, and so many more ropes.
+    pub fn reserve(&mut self, more: usize) -> Result<(), Refusal>
+        ensures slots { OnOk result (more ≤ self.new.slot_room) }
+        ensures ropes { OnOk result (more ≤ self.new.rope_room) }
+        ensures cells { self.new.cells ≡ self.old.cells }
+        ensures refusal { IfErr result (λ r. r ≡ Refusal.Memory) }
+    {
+        self.table.reserve_slots(more)?;
+        self.ropes.reserve(more)?;
+        Ok(())
+    }
+
+    /// Carries out one command, where there is room for the slot or the rope that it may make.
+    pub fn step<C: Classifier>(&mut self, command: &RopeCommand, classifier: &C) -> RopeReply
+        requires slot { 1 ≤ self.old.slot_room }
+        requires rope { 1 ≤ self.old.rope_room }
+        ensures step { RopeStep (C.class classifier.now) self.old.cells command.now result self.new.cells }
+        ensures slots { self.old.slot_room ≤ self.new.slot_room + 1 }
+        ensures ropes { self.old.rope_room ≤ self.new.rope_room + 1 }
+    {
+        match command {
+            RopeCommand::OnSlots(command) => RopeReply::Plain(self.table.step(command, classifier)),
+            RopeCommand::RopeNew => self.add(Rope::new(self.alloc)),
+            RopeCommand::RopePush(rope, slot) => self.push(*rope, *slot),
+            RopeCommand::RopeAppend(to, from) => self.append(*to, *from),
+            RopeCommand::RopeLen(rope) => self.length(*rope),
+            RopeCommand::RopePopChar(rope) => self.pop_char(*rope),
+            RopeCommand::RopeSub(rope, offset, count) => {
+                self.add_made(self.part(*rope, *offset, *count))
+            },
+            RopeCommand::RopeTake(rope) => self.add_slot(self.whole(*rope)),
+            RopeCommand::RopeDrop(rope) => self.drop_rope(*rope),
+        }
+    }
+
+    pub(crate) fn allocator(&self) -> Global {
+        self.alloc
+    }
+
+    // Puts a rope at the end, where there is room.
+    fn add(&mut self, rope: Rope<A>) -> RopeReply
+        requires { 1 ≤ self.old.rope_room }
+        ensures adds { AddsRope self.old.cells (rope_cell rope.bytes) result self.new.cells }
+        ensures slots { self.old.slot_room ≡ self.new.slot_room }
+        ensures ropes { self.old.rope_room ≤ self.new.rope_room + 1 }
+    {
+        one_rope::read(&rope);
+        let number = self.ropes.len();
+        self.ropes.push_reserved(Some(rope));
+        RopeReply::MadeRope(number)
+    }
+
+    // Puts a rope at the end, where there is room and it could be made.
+    fn add_made(&mut self, made: Result<Rope<A>, Refusal>) -> RopeReply
+        requires { 1 ≤ self.old.rope_room }
+        ensures added { MatchResult made (λ rope. AddsRope self.old.cells (rope_cell rope.bytes) result self.new.cells)
+            (λ refusal. IsRefused self.old.cells refusal result self.new.cells) }
+        ensures slots { self.old.slot_room ≡ self.new.slot_room }
+        ensures ropes { self.old.rope_room ≤ self.new.rope_room + 1 }
+    {
+        match made {
+            Ok(rope) => self.add(rope),
+            Err(refusal) => refused(refusal),
+        }
+    }
+
+    // Puts a text at the end of the slots, where there is room and it could be made.
+    fn add_slot(&mut self, made: Result<StrTendril<A>, Refusal>) -> RopeReply
+        requires { 1 ≤ self.old.slot_room }
+        ensures added { MatchResult made
+            (λ text. AddsSlot self.old.cells (text_cell kind.Utf8 text.bytes) result self.new.cells)
+            (λ refusal. IsRefused self.old.cells refusal result self.new.cells) }
+        ensures slots { self.old.slot_room ≤ self.new.slot_room + 1 }
+        ensures ropes { self.old.rope_room ≡ self.new.rope_room }
+    {
+        match made {
+            Ok(text) => {
+                let number = self.table.len();
+                let pushed = self.table.push(Slot::Utf8(text));
+                prove!(pushed.is_ok());
+                RopeReply::Plain(Reply::Made(number))
+            }
+            Err(refusal) => refused(refusal),
+        }
+    }
+
+    fn length(&self, rope: usize) -> RopeReply
+        ensures { (class : _) → RopeStep class self.now.cells (RopeCommand.RopeLen rope) result self.now.cells }
+    {
+        match self.rope(rope) {
+            Some(rope) => RopeReply::Length(rope.len64()),
+            None => refused(Refusal::NoSuchSlot),
+        }
+    }
+
+    // A part of a rope, which shares its pieces.
+    fn part(&self, rope: usize, offset: u64, count: u64) -> Result<Rope<A>, Refusal>
+        ensures { Gives (RopeSubMust (rope_at self.now.cells.ropes rope) offset count) (ShareMay count)
+            (λ r. rope_cell r.bytes ≡ rope_part (rope_at self.now.cells.ropes rope) offset count) result }
+    {
+        match self.rope(rope) {
+            Some(rope) => rope.sub_rope(offset, count),
+            None => Err(Refusal::NoSuchSlot),
+        }
+    }
+
+    // The bytes of a rope as one text, copied.
+    fn whole(&self, rope: usize) -> Result<StrTendril<A>, Refusal>
+        ensures { Gives (RopeTakeMust (rope_at self.now.cells.ropes rope))
+            (RopeTakeMay (rope_at self.now.cells.ropes rope))
+            (λ t. text_cell kind.Utf8 t.bytes ≡ rope_taken (rope_at self.now.cells.ropes rope)) result }
+    {
+        match self.rope(rope) {
+            Some(rope) => rope.to_tendril(),
+            None => Err(Refusal::NoSuchSlot),
+        }
+    }
+
+    // A clone of a rope, to be put at the end of another, where both together aren't too long.
+    fn shared(&self, to: usize, from: usize) -> Result<Rope<A>, Refusal>
+        ensures { let to = rope_at self.now.cells.ropes to in let from = rope_at self.now.cells.ropes from in
+            Gives (AppendMust to from) (AppendMay to from) (λ r. rope_cell r.bytes ≡ from) result }
+    {
+        match (self.rope(to), self.rope(from)) {
+            (Some(to), Some(from)) => {
+                if from.len64() > MAX_TOTAL - to.len64() {
+                    return Err(Refusal::TooLong);
+                }
+                from.clone()
+            }
+            _ => Err(Refusal::NoSuchSlot),
+        }
+    }
+
+    fn push(&mut self, rope: usize, slot: usize) -> RopeReply
+        ensures step { (class : _) → RopeStep class self.old.cells (RopeCommand.RopePush rope slot) result self.new.cells }
+        ensures slots { self.old.slot_room ≡ self.new.slot_room }
+        ensures ropes { self.old.rope_room ≡ self.new.rope_room }
+    {
+        if rope >= self.ropes.len() {
+            return refused(Refusal::NoSuchSlot);
+        }
+        match self.table.slot(slot) {
+            Some(slot) => RopeReply::Plain(one_rope::push(&mut self.ropes[rope], slot)),
+            None => refused(Refusal::NoSuchSlot),
+        }
+    }
+
+    // The rope that is put at the end is shared first, so that one rope may be put at its own end.
+    fn append(&mut self, to: usize, from: usize) -> RopeReply
+        ensures step { (class : _) → RopeStep class self.old.cells (RopeCommand.RopeAppend to from) result self.new.cells }
+        ensures slots { self.old.slot_room ≡ self.new.slot_room }
+        ensures ropes { self.old.rope_room ≡ self.new.rope_room }
+    {
+        if to >= self.ropes.len() {
+            return refused(Refusal::NoSuchSlot);
+        }
+        match self.shared(to, from) {
+            Ok(more) => RopeReply::Plain(one_rope::append(&mut self.ropes[to], more)),
+            Err(refusal) => refused(refusal),
+        }
+    }
+
+    fn pop_char(&mut self, rope: usize) -> RopeReply
+        ensures step { (class : _) → RopeStep class self.old.cells (RopeCommand.RopePopChar rope) result self.new.cells }
+        ensures slots { self.old.slot_room ≡ self.new.slot_room }
+        ensures ropes { self.old.rope_room ≡ self.new.rope_room }
+    {
+        if rope >= self.ropes.len() {
+            return refused(Refusal::NoSuchSlot);
+        }
+        RopeReply::Plain(one_rope::pop_char(&mut self.ropes[rope]))
+    }
+
+    fn drop_rope(&mut self, rope: usize) -> RopeReply
+        ensures step { (class : _) → RopeStep class self.old.cells (RopeCommand.RopeDrop rope) result self.new.cells }
+        ensures slots { self.old.slot_room ≡ self.new.slot_room }
+        ensures ropes { self.old.rope_room ≡ self.new.rope_room }
+    {
+        if rope >= self.ropes.len() {
+            return refused(Refusal::NoSuchSlot);
+        }
+        RopeReply::Plain(one_rope::drop_rope(&mut self.ropes[rope]))
+    }
+}
+
+fn refused(refusal: Refusal) -> RopeReply
+    ensures { result ≡ RopeReply.Plain (Reply.Refused refusal) }
+{
+    RopeReply::Plain(Reply::Refused(refusal))
+}

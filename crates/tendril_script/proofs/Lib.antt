@@ -1,0 +1,4 @@
+pub mod EndingLemmas
+pub mod HeldBackLemmas
+pub mod SessionLemmas
+pub mod WordLemmas

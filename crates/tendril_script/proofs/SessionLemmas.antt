@@ -1,0 +1,24 @@
+use Rattle.std.proofs.Common.{◌≡◌, ℕ, List, [], ◌∷◌, ◌++◌, Option, None, Some, refl, sym, ◌∙◌, ap, subst, append_assoc, arith, length, ◌<◌}
+use Rattle.std.proofs.lemmas.List.{append-nil}
+use Rattle.tendril_script.specs.Sessions.{LinePrints, Session, WritesLine, WritesLines, lines, RanFrom, RanTo}
+
+module _ {S : Type 0} (answers : S → List ℕ → List ℕ → S → Type 0) where
+  -- a session goes on by one line
+  pub session_more : (old mid new : S) (lines : List (List ℕ)) (line bytes more : List ℕ) → Session answers old lines bytes mid → LinePrints answers mid line more new → Session answers old (lines ++ line ∷ []) (bytes ++ more) new
+  session_more old mid new [] line bytes more h w =
+      let start : LinePrints answers old line more new = subst (λ s. LinePrints answers s line more new) h.1 w in
+      let same : bytes ++ more ≡ more ++ [] = ap (λ b. b ++ more) h.0 ∙ sym (append-nil more) in
+      (new, (more, ([], (start, ((refl, refl), same)))))
+  session_more old mid new (first ∷ lines) line bytes more h w =
+      let rest = h.1.1.0 in
+      (h.0, (h.1.0, (rest ++ more, (h.1.1.1.0, (session_more h.0 mid new lines line rest more h.1.1.1.1.0 w, ap (λ b. b ++ more) h.1.1.1.1.1 ∙ append_assoc h.1.0 rest more)))))
+
+  -- an answer and a line feed are what is written for a line that isn't empty
+  pub line_written : (old new : S) (line text held held' : List ℕ) → 0 < length line → answers old line text new → held' ≡ held ++ (text ++ 10 ∷ []) → WritesLine answers old line new (Some held) (Some held')
+  line_written old new [] text held held' some h e = absurd (omega arith)
+  line_written old new (byte ∷ line) text held held' some h e = record { bytes = text ++ 10 ∷ []; writes = (text, (h, refl)); appends = e }
+
+  -- a run leads to some state
+  pub ran_from : (first old new : S) (remaining before after : Option (List ℕ)) → old ≡ first → RanTo answers old new remaining before after → RanFrom answers first remaining before after
+  ran_from first old new None before after e h = tt
+  ran_from first old new (Some script) before after e h = (new, subst (λ s. WritesLines answers s (lines script) new before after) e h)
