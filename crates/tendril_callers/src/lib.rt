@@ -4,6 +4,7 @@
 pub mod broken;
 pub mod join;
 pub mod lent;
+pub mod parts;
 pub mod push;
 pub mod resume;
 pub mod two;

@@ -5,7 +5,7 @@ use Rattle.std.proofs.lemmas.List.{get_or_append_left}
 use Rattle.std.proofs.lemmas.Str.{length-encode, len_utf8_bounds}
 use Rattle.tendril_fmt.specs.declared.futf.Meaning.{Meaning}
 use Rattle.tendril_fmt.specs.CodePoints.{IsCodePoint, sequence_len, EncodeNone, Encode, SplitsIntoNone, SplitsInto}
-use Rattle.tendril_fmt.proofs.Sequences.{IsStart-encode}
+use Rattle.tendril_fmt.specs.Proved.Cuts.{IsStart-encode}
 
 -- a code point has a byte at least
 pub encode_some : (c : ℕ) → 0 < length (encode_utf8 c)

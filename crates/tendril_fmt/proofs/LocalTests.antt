@@ -13,7 +13,8 @@ use Rattle.tendril_fmt.specs.Wtf8.{IsWtf8}
 use Rattle.tendril_fmt.specs.Classify.{Means}
 use Rattle.tendril_fmt.specs.Local.{IsWhole, IsWholeOrSurrogate, StandsAccepted, PassesAsFront, PassesAsEnd, FrontTestIsWhole, EndTestIsWhole, SliceTestIsWhole}
 use Rattle.tendril_fmt.proofs.Parts.{last_of}
-use Rattle.tendril_fmt.proofs.Cuts.{Opens, cut, cut_after, first_byte}
+use Rattle.tendril_fmt.specs.Proved.Cuts.{Opens, cut}
+use Rattle.tendril_fmt.proofs.Cuts.{cut_after, first_byte}
 use Rattle.tendril_fmt.specs.Proved.Encodings.{IsCodePoint-scalar, IsScalar-from_bounds}
 use Rattle.tendril_fmt.specs.Proved.Units.{IsWtf8-from_points, points_of}
 use Rattle.tendril_fmt.specs.Proved.Unpaired.{AreUnpaired, AreUnpaired-points, AreUnpaired-front, AreUnpaired-end}

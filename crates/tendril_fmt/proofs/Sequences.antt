@@ -7,40 +7,12 @@ use Rattle.tendril_fmt.specs.declared.futf.Meaning.{Meaning}
 use Rattle.tendril_fmt.specs.declared.futf.Meaning.TheVariants.{Whole, LeadSurrogate, TrailSurrogate, Prefix, Suffix}
 use Rattle.tendril_fmt.specs.CodePoints.{IsCodePoint, IsContinuation, sequence_len, AreContinuations}
 use Rattle.tendril_fmt.specs.Classify.{Stands, NoneStands}
-use Rattle.tendril_fmt.specs.Proved.Encodings.{Shape, of1, of2, of3, of4, point_shape, IsCodePoint-scalar}
+use Rattle.tendril_fmt.specs.Proved.Encodings.{IsCodePoint-scalar}
+use Rattle.tendril_fmt.specs.Proved.Cuts.{IsStart, IsStart-encode}
 
 -- a continuation starts nothing
 pub sequence_len-continuation : (b : ℕ) → IsContinuation b → sequence_len b ≡ 0
 sequence_len-continuation b h = let l = h.0 in let m = h.1 in grind (arith, nat_tests)
-
--- a byte that starts a sequence
-abbrev pub IsStart : List ℕ → Type 0
-IsStart bs = (sequence_len (slice_index bs 0) ≡ length bs) × ((k : ℕ) → 0 < k → k < length bs → IsContinuation (slice_index bs k))
-
--- the bytes of a code point are a start and continuations
-pub IsStart-encode : (c : ℕ) → IsCodePoint c → IsStart (encode_utf8 c)
-IsStart-encode c top = by (point_shape c top)
-  where
-    by : Shape c → IsStart (encode_utf8 c)
-    by (of1 h e) = subst IsStart (sym e) (grind (arith, nat_tests), λ k p q. absurd (omega arith))
-    by (of2 a b l h f t e) = subst IsStart (sym e) (grind (arith, nat_tests), λ k p q. let is : 1 ≡ k = omega arith in subst (λ n. IsContinuation (slice_index (a ∷ b ∷ []) n)) is f)
-    by (of3 a b d l h f g t m e) = subst IsStart (sym e) (
-      grind (arith, nat_tests),
-      λ k p q. ⊎_elim
-          (λ small. let is : 1 ≡ k = omega arith in subst (λ n. IsContinuation (slice_index (a ∷ b ∷ d ∷ []) n)) is f)
-          (λ large. let is : 2 ≡ k = omega arith in subst (λ n. IsContinuation (slice_index (a ∷ b ∷ d ∷ []) n)) is g)
-          (cases_lt k 2),
-    )
-    by (of4 a b d w l h f g j t m e) = subst IsStart (sym e) (
-      grind (arith, nat_tests),
-      λ k p q. ⊎_elim
-          (λ small. let is : 1 ≡ k = omega arith in subst (λ n. IsContinuation (slice_index (a ∷ b ∷ d ∷ w ∷ []) n)) is f)
-          (λ large. ⊎_elim
-          (λ small. let is : 2 ≡ k = omega arith in subst (λ n. IsContinuation (slice_index (a ∷ b ∷ d ∷ w ∷ []) n)) is g)
-          (λ large. let is : 3 ≡ k = omega arith in subst (λ n. IsContinuation (slice_index (a ∷ b ∷ d ∷ w ∷ []) n)) is j)
-          (cases_lt k 3))
-          (cases_lt k 2),
-    )
 
 module _ (buf : List ℕ) (s n : ℕ) (within : s + n ≤ length buf) where
   -- the length of a part, and its bytes

@@ -4,6 +4,7 @@
 //! two valid lists as one. Code above is generic in the format and proved once, from the laws of the trait alone.
 
 mod ascii;
+mod ascii_cuts;
 mod bytes;
 mod char_indices;
 mod chars;
@@ -18,6 +19,7 @@ mod utf8;
 mod wtf8;
 
 pub use ascii::ASCII;
+pub use ascii_cuts::CutsAtAscii;
 pub use bytes::Bytes;
 pub use char_indices::{SingleByteCharIndices, Utf8CharIndices};
 pub use chars::{CharFormat, Encoded};

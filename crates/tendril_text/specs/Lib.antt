@@ -10,3 +10,4 @@ pub mod Comparisons
 pub mod Decoding
 pub mod Items
 pub mod Writes
+pub mod Search

@@ -1,9 +1,10 @@
 -- Parts of a text: clones, slices and pops.
-use Rattle.std.specs.Prelude.{ℕ, ◌≡◌, List, length, take, drop, Result, Ok, Err}
+use Rattle.std.specs.Prelude.{ℕ, ◌≡◌, ◌≤◌, List, length, take, drop, Option, Result, Ok, Err}
 use Rattle.tendril_block.specs.declared.refusal.Refusal.{Refusal}
 use Rattle.tendril_text.specs.declared.error.SubtendrilError.{SubtendrilError}
 use Rattle.tendril_text.specs.Errors.{refusal_of}
-use Rattle.tendril_block.specs.Outcomes.{NoneMust, SliceMust, PopMust, NoneMay, CountMay, Gives, Outcome}
+use Rattle.tendril_block.specs.Outcomes.{NoneMust, CutMust, SliceMust, PopMust, NoneMay, CountMay, Gives, Outcome}
+use Rattle.tendril_storage.specs.Partings.{BothLong, IsParted, TakesFront}
 use Rattle.tendril_storage.specs.Texts.{Text, Shares, Keeps}
 
 -- the same answer, with the refusal of the error's name
@@ -38,3 +39,18 @@ pub record IsRestOf (old : Text) (b : List ℕ) (new : Text) : Type 0 where
 abbrev pub PopsValid : (List ℕ → Type 0) → ℕ → List ℕ → Text → Result (Unit {0}) SubtendrilError → Text → Type 0
 PopsValid valid count rest old result new =
     Outcome (PopMust valid old.bytes count rest) NoneMay (λ _ t. IsRestOf old rest t) old (by_name result) new
+
+-- the first so many bytes are taken out of a text, which are there; both parts are valid
+abbrev pub Splits : ℕ → Text → Result Text SubtendrilError → Text → Type 0
+Splits count old result new = TakesFront count old (by_name result) new
+
+-- of b that is to be parted after so many bytes
+abbrev pub SplitMust : (List ℕ → Type 0) → List ℕ → ℕ → Option Refusal → Type 0
+SplitMust valid b count must =
+    CutMust (count ≤ length b) (λ front. valid front × valid (drop count b)) (take count b) must
+
+-- the first so many bytes are taken out of a text, where they are there and both parts are valid
+abbrev pub SplitsValid : (List ℕ → Type 0) → ℕ → Text → Result Text SubtendrilError → Text → Type 0
+SplitsValid valid count old result new =
+    Outcome (SplitMust valid old.bytes count) (BothLong count (length old.bytes)) (IsParted count old) old
+    (by_name result) new

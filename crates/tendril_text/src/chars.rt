@@ -1,5 +1,5 @@
 //! Characters of texts, and runs of them.
-ghost use Rattle.std.specs.Prelude.{◌≡◌, ◌<◌, ◌≤◌, ◌+◌, ◌-◌, ◌++◌, ◌∷◌, [], length, drop, encode_utf8, IfSome, IfNone, IfOk, IfErr, OnErr, OnSome, IsOk, MatchOption};
+ghost use Rattle.std.specs.Prelude.{◌≡◌, ◌<◌, ◌≤◌, ◌+◌, ◌-◌, ◌++◌, ◌∷◌, [], ℕ, List, length, drop, encode_utf8, IfSome, IfNone, IfOk, IfErr, OnErr, OnSome, IsOk, MatchOption};
 ghost use Rattle.tendril_text.specs.Characters.{EndsRun, HasLongParts, IsRun};
 ghost use Rattle.tendril_text.specs.Pushes.{Joins, JoinsChar};
 ghost use Rattle.tendril_storage.specs.Texts.{Keeps, Parts};
@@ -11,11 +11,21 @@ use tendril_block::{Atomicity, MAX_LEN, Refusal};
 use tendril_fmt::fmt::{CharFormat, UTF8};
 
 impl<F: CharFormat, A: Atomicity> Tendril<F, A> {
+    /// The first character of the text, or `None` where it is empty.
+    pub fn peek_front_char(&self) -> Option<char>
+        ensures character { IfSome result (λ c. (rest : List ℕ) × (F.chars self.now.bytes ≡ c ∷ rest)) }
+        ensures none { IfNone result (self.now.bytes ≡ []) }
+    {
+        let (character, _) = F::first_char(self.as_byte_slice())?;
+        Some(character)
+    }
+
     /// Takes the first character out of the text, or answers `None` where it is empty. Takes no memory.
     pub fn pop_front_char(&mut self) -> Option<char>
         ensures character { IfSome result (λ c. F.chars self.old.bytes ≡ c ∷ F.chars self.new.bytes) }
         ensures bytes { IfSome result (λ c. self.old.bytes ≡ F.encoding c ++ self.new.bytes) }
         ensures copied { OnSome result (Keeps self.old self.new) }
+        ensures shorter { OnSome result (length self.new.bytes < length self.old.bytes) }
         ensures none { IfNone result ((self.old.bytes ≡ []) × (self.new ≡ self.old)) }
     {
         let (character, count) = F::first_char(self.as_byte_slice())?;
@@ -36,6 +46,7 @@ impl<F: CharFormat, A: Atomicity> Tendril<F, A> {
         ensures run { IfOk result (λ found. IfSome found (λ run.
             IsRun C.step R.eq F.valid F.chars classify run.1 self.old.bytes run.0.bytes self.new.bytes)) }
         ensures copied { IfOk result (λ found. IfSome found (λ run. Parts self.old run.0 self.new)) }
+        ensures shorter { IfOk result (λ found. OnSome found (length self.new.bytes < length self.old.bytes)) }
         ensures none { IfOk result (λ found. IfNone found ((self.old.bytes ≡ []) × (self.new ≡ self.old))) }
         ensures refusal { IfErr result (λ r.
             (r ≡ Refusal.Count) × HasLongParts C.step R.eq F.valid F.chars classify self.old.bytes) }

@@ -2,13 +2,16 @@
 //! when one of them is changed.
 #![tactic(auto)]
 
+mod byte_set;
 mod chars;
 mod error;
 mod items;
+mod search;
 mod tendril;
 mod utf8_decode;
 mod view;
 
+pub use crate::byte_set::ByteSet;
 pub use crate::error::SubtendrilError;
 pub use crate::tendril::{
     ByteTendril, SendTendril, StrTendril, Tendril, slice_to_tendril, str_to_tendril,

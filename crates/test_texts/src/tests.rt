@@ -9,6 +9,7 @@ mod growing;
 mod items;
 mod printed;
 mod runs;
+mod searches;
 mod slices;
 mod steps;
 mod strings;

@@ -1,10 +1,11 @@
 //! Parts of texts: slices that are given, and pops that leave the rest.
-ghost use Rattle.std.specs.Prelude.{◌≡◌, ◌<◌, ◌≤◌, ◌+◌, ◌-◌, ◌↔◌, length, take, drop, IsTrue};
-ghost use Rattle.tendril_text.specs.Parts.{Slices, SlicesValid, PopsValid};
+ghost use Rattle.std.specs.Prelude.{◌≡◌, ◌<◌, ◌≤◌, ◌+◌, ◌-◌, ◌↔◌, [], length, take, drop, IsTrue};
+ghost use Rattle.tendril_text.specs.Parts.{Slices, SlicesValid, PopsValid, Splits, SplitsValid};
 
 use crate::error::SubtendrilError;
 use crate::tendril::Tendril;
 use std::marker::PhantomData;
+use std::mem;
 use tendril_block::{Atomicity, Refusal};
 use tendril_fmt::fmt::Format;
 use tendril_storage::Storage;
@@ -112,7 +113,46 @@ impl<F: Format, A: Atomicity> Tendril<F, A> {
         let rest = self.len32() - count;
         self.storage.keep_part(0, rest);
     }
-    /// Takes the first bytes out of the text. Both parts are valid in the format.
+
+    /// Takes the first `count` bytes out of the text, where both parts are valid in the format. Two long parts share the
+    /// text's bytes; where either has at most 8 no holder is added.
+    pub fn try_split_to(&mut self, count: u32) -> Result<Self, SubtendrilError>
+        ensures { SplitsValid F.valid count self.old result self.new }
+    {
+        let text = self.as_byte_slice();
+        if text.len() < count as usize {
+            return Err(SubtendrilError::OutOfBounds);
+        }
+        if !are_parts_valid::<F>(text, count as usize) {
+            return Err(SubtendrilError::ValidationFailed);
+        }
+        self.split_to(count)
+    }
+
+    /// Takes the first `count` bytes out of the text. Both parts are valid in the format.
+    pub fn split_to(&mut self, count: u32) -> Result<Self, SubtendrilError>
+        requires within { count ≤ length self.old.bytes }
+        requires front_valid { F.valid (take count self.old.bytes) }
+        requires rest_valid { F.valid (drop count self.old.bytes) }
+        ensures { Splits count self.old result self.new }
+    {
+        match self.take_front(count) {
+            Ok(front) => Ok(front),
+            Err(_) => Err(SubtendrilError::Count),
+        }
+    }
+
+    /// Takes all of the text, and leaves an empty one. Takes no memory and adds no holder.
+    pub fn take(&mut self) -> Self
+        ensures text { result ≡ self.old }
+        ensures empty { self.new.bytes ≡ [] }
+        ensures copied { self.new.copied ≤ 8 }
+    {
+        let empty = Tendril::new(self.storage.allocator());
+        mem::replace(self, empty)
+    }
+
+    // The same as `split_to`, with the refusal's own type.
     pub(crate) fn take_front(&mut self, count: u32) -> Result<Self, Refusal>
         requires within { count ≤ length self.old.bytes }
         requires front_valid { F.valid (take count self.old.bytes) }
@@ -174,6 +214,15 @@ fn is_slice_valid<F: Format>(bytes: &[u8], offset: usize, count: usize) -> bool
     ensures { IsTrue result ↔ F.valid (take count (drop offset bytes.now)) }
 {
     F::validate_subseq(&bytes[offset..offset + count])
+}
+
+// Whether both parts of valid bytes are valid.
+fn are_parts_valid<F: Format>(bytes: &[u8], count: usize) -> bool
+    requires valid { F.valid bytes.now }
+    requires within { count ≤ length bytes.now }
+    ensures { IsTrue result ↔ (F.valid (take count bytes.now) × F.valid (drop count bytes.now)) }
+{
+    is_front_valid::<F>(bytes, count) && is_end_valid::<F>(bytes, count)
 }
 
 // Whether the end of valid bytes is valid.

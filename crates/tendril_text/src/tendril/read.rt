@@ -1,5 +1,5 @@
 //! What is read of a text.
-ghost use Rattle.std.specs.Prelude.{◌≡◌, ◌≤◌, length, string_bytes, IfOk, IfErr};
+ghost use Rattle.std.specs.Prelude.{◌≡◌, ◌≤◌, ◌↔◌, [], length, string_bytes, IfOk, IfErr, IsTrue};
 
 use crate::tendril::Tendril;
 use std::convert::{AsSlice, AsStr};
@@ -12,6 +12,20 @@ impl<F: Format, A: Atomicity> Tendril<F, A> {
         ensures { result ≡ length self.now.bytes }
     {
         self.storage.len32()
+    }
+
+    /// The number of bytes, for what counts by `usize`.
+    pub fn len(&self) -> usize
+        ensures { result ≡ length self.now.bytes }
+    {
+        self.len32() as usize
+    }
+
+    /// Whether the text has no byte.
+    pub fn is_empty(&self) -> bool
+        ensures { IsTrue result ↔ (self.now.bytes ≡ []) }
+    {
+        self.len32() == 0
     }
 
     /// Whether a clone or a long slice of this text was made, or a byte popped from it while it is long, since its bytes

@@ -1,0 +1,53 @@
+//! The formats whose texts may be cut before a byte of ASCII.
+
+use crate::fmt::ascii::ASCII;
+use crate::fmt::bytes::Bytes;
+use crate::fmt::format::Format;
+use crate::fmt::latin1::Latin1;
+use crate::fmt::utf8::UTF8;
+use crate::fmt::wtf8::WTF8;
+
+/// A format in which a byte of ASCII always begins something: a text may be cut before it.
+///
+/// So a text can be searched for such a byte, and parted there, without decoding what stands before it. All five formats
+/// of this crate are so. A format that pairs its bytes isn't.
+pub trait CutsAtAscii: Format {
+    ghost use Rattle.std.specs.Prelude.{ℕ, ◌<◌, List, length, take, drop, slice_index};
+
+    /// The parts before and from a byte of ASCII on are valid.
+    ghost ascii_cut: { (bytes : List ℕ) (place : ℕ) → Self.valid bytes → place < length bytes → slice_index bytes place < 128
+        → Self.valid (take place bytes) × Self.valid (drop place bytes) };
+}
+
+impl CutsAtAscii for Bytes {
+    ghost use Rattle.tendril_fmt.specs.Proved.Bytes.{AreBytes-take, AreBytes-drop};
+
+    ghost ascii_cut = { λ bytes n v _ _. (AreBytes-take bytes n v, AreBytes-drop bytes n v) };
+}
+
+impl CutsAtAscii for Latin1 {
+    ghost use Rattle.tendril_fmt.specs.Proved.Bytes.{AreBytes-take, AreBytes-drop};
+
+    ghost ascii_cut = { λ bytes n v _ _. (AreBytes-take bytes n v, AreBytes-drop bytes n v) };
+}
+
+impl CutsAtAscii for ASCII {
+    ghost use Rattle.std.proofs.lemmas.Str.{IsAscii-take, IsAscii-drop};
+
+    ghost ascii_cut = { λ bytes n v _ _. (IsAscii-take bytes n v, IsAscii-drop bytes n v) };
+}
+
+impl CutsAtAscii for UTF8 {
+    ghost use Rattle.std.proofs.lemmas.Str.{IsCharBoundary-before_ascii, IsUtf8-take, IsUtf8-drop};
+
+    ghost ascii_cut = { λ bytes n v l a. (
+      IsUtf8-take bytes n v (IsCharBoundary-before_ascii bytes n l a),
+      IsUtf8-drop bytes n v (IsCharBoundary-before_ascii bytes n l a),
+    ) };
+}
+
+impl CutsAtAscii for WTF8 {
+    ghost use Rattle.tendril_fmt.specs.Proved.Cuts.{IsWtf8-ascii_cut};
+
+    ghost ascii_cut = { IsWtf8-ascii_cut };
+}

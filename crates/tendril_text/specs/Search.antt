@@ -1,0 +1,42 @@
+-- Sets of bytes, and where a text has the first of them.
+use Rattle.std.specs.Prelude.{ℕ, ◌≡◌, ◌<◌, ◌≤◌, Bool, true, false, ◌==◌, ◌||◌, List, length, slice_index_or}
+use Rattle.memchr.specs.Find.{Nowhere, Passes}
+use Rattle.tendril_block.specs.declared.refusal.Refusal.{Refusal}
+use Rattle.tendril_storage.specs.Partings.{IsParted, BothLong}
+use Rattle.tendril_storage.specs.Texts.{Text}
+
+-- whether the table has the byte
+abbrev pub has_byte : List Bool → ℕ → Bool
+has_byte table b = slice_index_or table b false
+
+-- the test that a byte is a, b, c or d
+abbrev pub is_byte4 : ℕ → ℕ → ℕ → ℕ → ℕ → Bool
+is_byte4 a b c d x = x == a || x == b || x == c || x == d
+
+-- a table of the bytes of ASCII, none of which is past 7F
+pub record IsTable (table : List Bool) : Type 0 where
+  pub len : length table ≡ 256
+  pub ascii : (b : ℕ) → has_byte table b ≡ true → b < 128
+
+-- the first n bytes of a text are none of the set, and the next one is, where there is one
+pub record EndsBefore (set : ℕ → Bool) (text : List ℕ) (n : ℕ) : Type 0 where
+  pub within : n ≤ length text
+  pub others : Nowhere (Passes set text) 0 n
+  pub next : n < length text → Passes set text n
+
+-- a text was parted before its first byte of the set, which it doesn't begin with
+pub record PartsBefore (set : ℕ → Bool) (old front rest : Text) : Type 0 where
+  pub count : ℕ
+  pub ends : EndsBefore set old.bytes count
+  pub some : 0 < count
+  pub parted : IsParted count old front rest
+
+-- a text is empty, or begins with a byte of the set
+abbrev pub BeginsWithOne : (ℕ → Bool) → List ℕ → Type 0
+BeginsWithOne set text = EndsBefore set text 0
+
+-- the first byte of the set, or the end, is past 8 bytes, and more than 8 bytes follow
+pub record HasLongPartBefore (set : ℕ → Bool) (text : List ℕ) (r : Refusal) : Type 0 where
+  pub count : ℕ
+  pub ends : EndsBefore set text count
+  pub long : BothLong count (length text) r

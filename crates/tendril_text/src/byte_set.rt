@@ -1,0 +1,128 @@
+//! Small sets of bytes, and the first of them in other bytes.
+ghost use Rattle.std.specs.Prelude.{◌≡◌, ◌<◌, ◌≤◌, ◌↔◌, ℕ, true, false, length, IsAscii, Contains, slice_index, IfSome, IsFalse};
+ghost use Rattle.memchr.specs.Find.{IsFirstByte, Nowhere, Passes};
+ghost use Rattle.tendril_text.specs.Search.{has_byte, is_byte4, IsTable};
+
+use std::marker::Model;
+
+/// A set of bytes of ASCII.
+///
+/// Contracts see a table, which says of each byte whether it is one of them.
+#[derive(Drop)]
+pub struct ByteSet {
+    members: [bool; 256],
+    // The bytes where they are four or fewer.
+    few: Option<(u8, u8, u8, u8)>,
+}
+
+impl Model for ByteSet {
+    ghost use Rattle.std.specs.Prelude.{◌≡◌, ℕ, Bool, true, List, IfSome};
+    ghost use Rattle.tendril_text.specs.Search.{has_byte, is_byte4, IsTable};
+
+    ghost Value = { List Bool };
+
+    ghost view = { λ s. s.members };
+
+    ghost invariant = { λ s. IsTable s.members
+        × IfSome s.few (λ t. (b : ℕ) → has_byte s.members b ≡ true → is_byte4 t.0 t.1 t.2 t.3 b ≡ true) };
+}
+
+impl ByteSet {
+    /// The set of these bytes.
+    pub fn new(bytes: &[u8]) -> Self
+        requires ascii { IsAscii bytes.now }
+        ensures { (b : ℕ) → (has_byte result b ≡ true) ↔ Contains bytes.now b }
+    {
+        let members = table_of(bytes);
+        let few = few_of(bytes, &members);
+        ByteSet { members, few }
+    }
+
+    /// Whether the byte is one of the set.
+    pub fn contains(&self, byte: u8) -> bool
+        ensures { result ≡ has_byte self.now byte }
+    {
+        self.members[byte as usize]
+    }
+
+    // The first place of a byte of the set.
+    pub(crate) fn find_in(&self, bytes: &[u8]) -> Option<usize>
+        ensures first { IsFirstByte (has_byte self.now) bytes.now result }
+        ensures table { IsTable self.now }
+    {
+        let start = match self.few {
+            Some((a, b, c, d)) => skip_others(a, b, c, d, &self.members, bytes),
+            None => 0,
+        };
+        find_member(&self.members, bytes, start)
+    }
+}
+
+// The table of these bytes.
+fn table_of(bytes: &[u8]) -> [bool; 256]
+    requires ascii { IsAscii bytes.now }
+    ensures table { IsTable result }
+    ensures members { (b : ℕ) → (has_byte result b ≡ true) ↔ Contains bytes.now b }
+{
+    let mut members = [false; 256];
+    for byte in bytes {
+        members[*byte as usize] = true;
+    }
+    members
+}
+
+// The bytes where they are four or fewer. A byte may stand twice among them.
+fn few_of(bytes: &[u8], members: &[bool; 256]) -> Option<(u8, u8, u8, u8)>
+    requires { (b : ℕ) → (has_byte members.now b ≡ true) ↔ Contains bytes.now b }
+    ensures { IfSome result (λ t. (b : ℕ) → has_byte members.now b ≡ true → is_byte4 t.0 t.1 t.2 t.3 b ≡ true) }
+{
+    match *bytes {
+        [a] => Some((a, a, a, a)),
+        [a, b] => Some((a, b, b, b)),
+        [a, b, c] => Some((a, b, c, c)),
+        [a, b, c, d] => Some((a, b, c, d)),
+        _ => None,
+    }
+}
+
+// A place before which no byte is in the table, past many of the others: sixteen at a time, by vectors.
+fn skip_others(a: u8, b: u8, c: u8, d: u8, members: &[bool; 256], bytes: &[u8]) -> usize
+    requires { (x : ℕ) → has_byte members.now x ≡ true → is_byte4 a b c d x ≡ true }
+    ensures within { result ≤ length bytes.now }
+    ensures passed { Nowhere (Passes (has_byte members.now) bytes.now) 0 result }
+{
+    let mut at = 0;
+    'sixteens: while 16 <= bytes.len() - at {
+        if has_any(a, b, c, d, &bytes[at..at + 16]) {
+            break;
+        }
+        at += 16;
+    }
+    at
+}
+
+// Whether one of four bytes stands among these.
+#[inline(always)]
+fn has_any(a: u8, b: u8, c: u8, d: u8, bytes: &[u8]) -> bool
+    ensures { IsFalse result → (k : ℕ) → k < length bytes.now → is_byte4 a b c d (slice_index bytes.now k) ≡ false }
+{
+    let mut any = false;
+    for byte in bytes {
+        any |= (*byte == a) | (*byte == b) | (*byte == c) | (*byte == d);
+    }
+    any
+}
+
+// The first place of a byte that the table has, where none is before the start.
+fn find_member(members: &[bool; 256], bytes: &[u8], start: usize) -> Option<usize>
+    requires within { start ≤ length bytes.now }
+    requires passed { Nowhere (Passes (has_byte members.now) bytes.now) 0 start }
+    ensures { IsFirstByte (has_byte members.now) bytes.now result }
+{
+    for at in start..bytes.len() {
+        if members[bytes[at] as usize] {
+            return Some(at);
+        }
+    }
+    None
+}

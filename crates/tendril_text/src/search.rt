@@ -1,0 +1,101 @@
+//! The first of some bytes in a text, what stands before it, and beginnings.
+ghost use Rattle.std.specs.Prelude.{◌≡◌, ◌<◌, ◌≤◌, ◌↔◌, ◌++◌, List, length, take, drop, IsUtf8, IfSome, IfNone, IfOk, OnErr, OnSome, IsTrue, IsFalse, IfErr};
+ghost use Rattle.memchr.specs.Find.{IsFirstByte, is_byte};
+ghost use Rattle.tendril_fmt.specs.Parts.{IsFrontOf};
+ghost use Rattle.tendril_storage.specs.Texts.{Keeps};
+ghost use Rattle.tendril_text.specs.Search.{has_byte, EndsBefore, PartsBefore, BeginsWithOne, HasLongPartBefore};
+
+use crate::byte_set::ByteSet;
+use crate::tendril::Tendril;
+use memchr::memchr;
+use tendril_block::{Atomicity, Refusal};
+use tendril_fmt::fmt::{CutsAtAscii, Format, UTF8};
+
+impl<F: Format, A: Atomicity> Tendril<F, A> {
+    /// The first place of a byte of the set. Looks at 16 bytes at a time for a set of up to four.
+    pub fn find_any(&self, set: &ByteSet) -> Option<u32>
+        ensures { IsFirstByte (has_byte set.now) self.now.bytes result }
+    {
+        let place = set.find_in(self.as_byte_slice())?;
+        Some(place as u32)
+    }
+
+    /// The first place of the byte.
+    pub fn find_byte(&self, byte: u8) -> Option<u32>
+        ensures { IsFirstByte (is_byte byte) self.now.bytes result }
+    {
+        let place = memchr(byte, self.as_byte_slice())?;
+        Some(place as u32)
+    }
+}
+
+impl<F: CutsAtAscii, A: Atomicity> Tendril<F, A> {
+    /// Takes the bytes before the first one of the set, or all where there is none, out of the text. Answers `None`
+    /// where the text is empty or begins with a byte of the set.
+    ///
+    /// Two long parts share the text's bytes; where either has at most 8 no holder is added, and the call isn't refused.
+    pub fn pop_front_until(&mut self, set: &ByteSet) -> Result<Option<Self>, Refusal>
+        ensures front { IfOk result (λ found. IfSome found (λ front.
+            PartsBefore (has_byte set.now) self.old front self.new)) }
+        ensures shorter { IfOk result (λ found. OnSome found (length self.new.bytes < length self.old.bytes)) }
+        ensures none { IfOk result (λ found. IfNone found
+            (BeginsWithOne (has_byte set.now) self.old.bytes × (self.new ≡ self.old))) }
+        ensures refusal { IfErr result (HasLongPartBefore (has_byte set.now) self.old.bytes) }
+        ensures err { OnErr result (self.new ≡ self.old) }
+    {
+        let count = front_end::<F>(self.as_byte_slice(), set);
+        if count == 0 {
+            return Ok(None);
+        }
+        let front = self.take_front(count as u32)?;
+        Ok(Some(front))
+    }
+}
+
+impl<A: Atomicity> Tendril<UTF8, A> {
+    /// Whether the text begins with this one.
+    pub fn starts_with(&self, prefix: &str) -> bool
+        ensures { IsTrue result ↔ IsFrontOf prefix.now self.now.bytes }
+    {
+        begins_with(self.as_byte_slice(), prefix)
+    }
+
+    /// Drops the front of the text where it is this one, and answers whether it is. Takes no memory and adds no holder.
+    pub fn strip_prefix(&mut self, prefix: &str) -> bool
+        ensures yes { IsTrue result → self.old.bytes ≡ prefix.now ++ self.new.bytes }
+        ensures copied { IsTrue result → Keeps self.old self.new }
+        ensures no { IsFalse result → IsFrontOf prefix.now self.old.bytes → ⊥ }
+        ensures kept { IsFalse result → self.new ≡ self.old }
+    {
+        let count = prefix.len();
+        if !begins_with(self.as_byte_slice(), prefix) {
+            return false;
+        }
+        self.pop_front(count as u32);
+        true
+    }
+}
+
+// Where the first byte of the set stands, or the end.
+fn front_end<F: CutsAtAscii>(bytes: &[u8], set: &ByteSet) -> usize
+    requires { F.valid bytes.now }
+    ensures ends { EndsBefore (has_byte set.now) bytes.now result }
+    ensures front_valid { F.valid (take result bytes.now) }
+    ensures rest_valid { F.valid (drop result bytes.now) }
+{
+    match set.find_in(bytes) {
+        Some(at) => at,
+        None => bytes.len(),
+    }
+}
+
+// Whether a text begins with another, after which a text follows.
+fn begins_with(bytes: &[u8], prefix: &str) -> bool
+    requires { IsUtf8 bytes.now }
+    ensures begins { IsTrue result ↔ IsFrontOf prefix.now bytes.now }
+    ensures bytes { IsTrue result → bytes.now ≡ prefix.now ++ drop (length prefix.now) bytes.now }
+    ensures valid { IsTrue result → IsUtf8 (drop (length prefix.now) bytes.now) }
+    ensures within { IsTrue result → length prefix.now ≤ length bytes.now }
+{
+    bytes.starts_with(prefix.as_bytes())
+}
