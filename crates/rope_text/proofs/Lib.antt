@@ -7,6 +7,7 @@ pub mod Grown
 pub mod Joined
 pub mod Located
 pub mod PartsOf
+pub mod Passed
 pub mod Popped
 pub mod Printed
 pub mod Shared

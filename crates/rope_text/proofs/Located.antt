@@ -1,12 +1,15 @@
 -- Places in pieces.
-use Rattle.std.proofs.Common.{◌≡◌, ℕ, ◌+◌, ◌-◌, ◌<◌, ◌≤◌, List, ◌++◌, length, get_or, take, drop, refl, sym, ap, ◌∙◌, arith}
-use Rattle.std.specs.Prelude.{◌↔◌}
+use Rattle.std.proofs.Common.{◌≡◌, ℕ, ◌+◌, ◌-◌, ◌<◌, ◌≤◌, List, ◌++◌, length, get_or, take, drop, refl, sym, ap, ◌∙◌, arith, inl, inr}
+use Rattle.std.specs.Prelude.{◌↔◌, All}
 use Rattle.std.specs.Str.{IsCharBoundary}
 use Rattle.rope_text.proofs.Cuts.{same_cut}
-use Rattle.rope_text.proofs.Joined.{joined_byte, joined_drop_more, length_joined_both, length_joined_more}
+use Rattle.std.proofs.lemmas.Bool.{cases_lt}
+use Rattle.std.proofs.lemmas.List.Elements.{All-take}
+use Rattle.std.proofs.lemmas.Str.{IsCharBoundary-from_take}
+use Rattle.rope_text.proofs.Joined.{joined_both, joined_byte, joined_drop_more, joined_valid, length_joined_both, length_joined_more}
 use Rattle.std.proofs.lemmas.List.{length-append, length-drop, drop-append-le, get_or_read, take_all, take_at}
-use Rattle.rope_text.proofs.Shared.{drop_joined}
-use Rattle.rope_text.specs.Ropes.{bytes_of_all, no_text, piece_at}
+use Rattle.rope_text.proofs.Shared.{cut_at_end, drop_joined}
+use Rattle.rope_text.specs.Ropes.{IsPiece, bytes_of_all, no_text, piece_at}
 use Rattle.tendril_text.specs.Texts.{Text}
 
 -- a byte of a piece stands within all
@@ -20,6 +23,25 @@ in_joined xs i j h k =
 pub cut_in_piece : (xs : List Text) (i j at : ℕ) → i < length xs → j < length (piece_at xs i).bytes → length (bytes_of_all (take i xs)) + j ≡ at → IsCharBoundary (piece_at xs i).bytes j ↔ IsCharBoundary (bytes_of_all xs) at
 cut_in_piece xs i j at h k e =
     same_cut (bytes_of_all xs) (piece_at xs i).bytes at j (let n = in_joined xs i j h k in omega arith) k (ap (λ n. get_or (bytes_of_all xs) n 0) (sym e) ∙ joined_byte xs i j h k)
+
+-- all may be cut where a piece begins, and behind the last
+pub cut_between : (xs : List Text) (i : ℕ) → All IsPiece xs → IsCharBoundary (bytes_of_all xs) (length (bytes_of_all (take i xs)))
+cut_between xs i each =
+    let a = bytes_of_all (take i xs) in
+    let both = length_joined_both xs i in
+    let front : take (length a) (bytes_of_all xs) ≡ a = ap (λ l. take (length a) l) (joined_both xs i) ∙ take_at a (bytes_of_all (drop i xs)) (length a) refl in
+    IsCharBoundary-from_take (bytes_of_all xs) (length a) (joined_valid xs each) (omega arith) (rw front (joined_valid (take i xs) (All-take IsPiece i xs each)))
+
+-- all may be cut behind so many bytes of a piece exactly where the piece may
+pub cut_behind : (xs : List Text) (i j : ℕ) → All IsPiece xs → i < length xs → j ≤ length (piece_at xs i).bytes → IsCharBoundary (piece_at xs i).bytes j ↔ IsCharBoundary (bytes_of_all xs) (length (bytes_of_all (take i xs)) + j)
+cut_behind xs i j each h k =
+    elim (cases_lt j (length (piece_at xs i).bytes)) [
+      | inl inside ↦ cut_in_piece xs i j (length (bytes_of_all (take i xs)) + j) h inside refl
+      | inr past ↦
+          let more = length_joined_more xs i h in
+          let is : length (bytes_of_all (take i xs)) + j ≡ length (bytes_of_all (take (i + 1) xs)) = omega arith in
+          (λ _. rw is (cut_between xs (i + 1) each), λ _. cut_at_end (piece_at xs i).bytes j (omega arith))
+    ]
 
 -- the piece that is read at a number
 pub piece_read : (xs : List Text) (i : ℕ) (t : Text) → i < length xs → t ≡ get_or xs i t → length t.bytes ≡ length (piece_at xs i).bytes

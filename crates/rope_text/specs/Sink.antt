@@ -7,11 +7,11 @@ use Rattle.tendril_block.specs.Outcomes.{Refused}
 use Rattle.tendril_lossy.specs.Lossy.{Told, Char, Mark, characters}
 use Rattle.rope_text.specs.Growth.{IsLonger, RoomMay, TotalMust, piece_of}
 use Rattle.rope_text.specs.Ropes.{RopeText}
-use Rattle.tendril_stream.specs.Sinks.{Sent, Piece, Fault, told_of}
+use Rattle.tendril_stream.specs.Sinks.{Sent, Piece, Fault, IsSent, told_of}
 
 -- a text is put behind the rope, and an error changes nothing
 abbrev pub TakesSent : RopeText → Sent → RopeText → Type 0
-TakesSent old (Piece t) new = IsUtf8 t.bytes × IsLonger old t.bytes (piece_of t) new
+TakesSent old (Piece t) new = IsLonger old t.bytes (piece_of t) new
 TakesSent old (Fault words) new = new ≡ old
 
 -- a text is refused as a push of it, and nothing changes; no error is refused
@@ -34,13 +34,13 @@ characters-map [] = refl
 characters-map (c ∷ cs) = ap (λ l. c ∷ l) (characters-map cs)
 
 pub goes_on_by : (told : List Told) (old : RopeText) (e : Sent) (new : RopeText)
-    → HasCharacters old told → TakesSent old e new → HasCharacters new (told ++ told_of e)
-goes_on_by told old (Piece t) new h takes =
-    let valid : IsUtf8 (old.bytes ++ t.bytes) = IsUtf8-append old.bytes t.bytes h.0 takes.0 in (
-      rw takes.1.bytes valid,
-      ap chars takes.1.bytes ∙ chars-append old.bytes t.bytes h.0 ∙ ap (λ l. l ++ chars t.bytes) h.1
+    → IsSent e → HasCharacters old told → TakesSent old e new → HasCharacters new (told ++ told_of e)
+goes_on_by told old (Piece t) new sent h takes =
+    let valid : IsUtf8 (old.bytes ++ t.bytes) = IsUtf8-append old.bytes t.bytes h.0 sent.1 in (
+      rw takes.bytes valid,
+      ap chars takes.bytes ∙ chars-append old.bytes t.bytes h.0 ∙ ap (λ l. l ++ chars t.bytes) h.1
           ∙ ap (λ l. characters told ++ l) (sym (characters-map (chars t.bytes)))
           ∙ sym (characters-append told (map Char (chars t.bytes))),
     )
-goes_on_by told old (Fault words) new h takes =
+goes_on_by told old (Fault words) new sent h takes =
     rw takes (h.0, h.1 ∙ sym (append-nil (characters told)) ∙ sym (characters-append told (Mark words ∷ [])))

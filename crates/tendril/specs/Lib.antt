@@ -10,6 +10,8 @@ pub use Rattle.tendril_text.specs.Comparisons
 pub use Rattle.tendril_text.specs.Decoding
 pub use Rattle.tendril_text.specs.Items
 pub use Rattle.tendril_text.specs.Writes
+pub use Rattle.tendril_text.specs.Search
+pub use Rattle.tendril_text.specs.Iterators
 pub use Rattle.tendril_stream.specs.Sinks
 pub use Rattle.tendril_stream.specs.Events
 pub use Rattle.tendril_stream.specs.Decoders

@@ -13,8 +13,8 @@ pub use tendril_lossy as lossy;
 pub use tendril_stream as stream;
 pub use tendril_stream::{ReadExt, TendrilSink};
 pub use tendril_text::{
-    ByteSet, ByteTendril, Handed, IncompleteUtf8, SendTendril, StrTendril, SubtendrilError,
-    Tendril, View, slice_to_tendril, str_to_tendril,
+    ByteSet, ByteTendril, Handed, IncompleteUtf8, IntoCharRuns, IntoChars, SendTendril, SetResult,
+    SplitAtAny, StrTendril, SubtendrilError, Tendril, View, slice_to_tendril, str_to_tendril,
 };
 
 /// A text as `format!` writes it, `format_tendril!(in alloc; "two and two make {}", 4)?`.

@@ -51,7 +51,7 @@ impl Tracks<StrTendril> for Breaks {
 
     ghost after = { λ a told. a.broken ≡ is_marked told };
 
-    ghost goes_on = { λ told a e b was call. marked_after told a.broken b.broken e was call };
+    ghost goes_on = { λ told a e b is_sent was call. marked_after told a.broken b.broken e was call };
 }
 
 /// Whether pieces, one behind the other, aren't UTF-8.

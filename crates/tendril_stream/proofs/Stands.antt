@@ -1,5 +1,7 @@
 -- A decoder over a sink whose state is known by what it was told.
 use Rattle.std.proofs.Common.{◌≡◌, ℕ, Bool, false, List, [], ◌∷◌, ◌++◌, flat_map, sym, ap, subst, ◌∙◌, append_assoc, append-nil}
+use Rattle.std.proofs.lemmas.List.Elements.{All-head, All-tail}
+use Rattle.std.specs.Prelude.{All}
 use Rattle.std.specs.List.{FoldsTo}
 use Rattle.tendril_text.specs.Texts.{Text}
 use Rattle.tendril_lossy.proofs.Lossy.{lossy-nil}
@@ -7,7 +9,7 @@ use Rattle.tendril_lossy.proofs.Streams.{due_open-append, kept-append, due-appen
 use Rattle.tendril_lossy.specs.Lossy.{Told, due, due_open, kept, cut_bytes, closed_of}
 use Rattle.tendril_stream.specs.Compositions.{FollowsCalls, StandsAt}
 use Rattle.tendril_stream.specs.Decoders.{Decodes, Ends, no_piece}
-use Rattle.tendril_stream.specs.Sinks.{Sent, Piece, told, told_of, Feeds}
+use Rattle.tendril_stream.specs.Sinks.{Sent, Piece, Fault, IsSent, IsSentOf, told, told_of, Feeds}
 
 abbrev pub bytes_of : List Text → List ℕ
 bytes_of pieces = flat_map (λ p. p.bytes) pieces
@@ -18,13 +20,19 @@ due_nil = ap (flat_map closed_of) lossy-nil
 finish : (b : List ℕ) → due b ≡ due_open b ++ due (kept b)
 finish b = ap due (sym (append-nil b)) ∙ due-append b [] ∙ ap (λ l. due_open b ++ due l) (append-nil (kept b))
 
+is_sent : (piece : Text) (e : Sent) → IsSentOf piece e → IsSent e
+is_sent piece (Piece t) h = (h.some, h.text)
+is_sent piece (Fault words) h = tt
+
 module _ {S : Type 0} (takes : S → Sent → S → Type 0) (after : S → List Told → Type 0) (goes : FollowsCalls takes after) where
-  sent_on : (t : List Told) (a : S) (es : List Sent) (b : S) → after a t → FoldsTo takes a es b → after b (t ++ told es)
-  sent_on t a [] b h f = subst (after b) (sym (append-nil t)) (subst (λ s. after s t) f h)
-  sent_on t a (e ∷ es) b h f = subst (after b) (append_assoc t (told_of e) (told es)) (sent_on (t ++ told_of e) f.0 es b (goes t a e f.0 h f.1) f.2)
+  sent_on : (piece : Text) (t : List Told) (a : S) (es : List Sent) (b : S) → All (IsSentOf piece) es → after a t → FoldsTo takes a es b → after b (t ++ told es)
+  sent_on piece t a [] b each h f = subst (after b) (sym (append-nil t)) (subst (λ s. after s t) f h)
+  sent_on piece t a (e ∷ es) b each h f =
+      let goes_one = goes t a e f.0 (is_sent piece e (All-head (IsSentOf piece) e es each)) h f.1 in
+      subst (after b) (append_assoc t (told_of e) (told es)) (sent_on piece (t ++ told_of e) f.0 es b (All-tail (IsSentOf piece) e es each) goes_one f.2)
 
   fed : (piece : Text) (t due : List Told) (a b : S) → after a t → Feeds takes piece a due b → after b (t ++ due)
-  fed piece t due a b h f = subst (λ l. after b (t ++ l)) f.tells (sent_on t a f.sent b h f.calls)
+  fed piece t due a b h f = subst (λ l. after b (t ++ l)) f.tells (sent_on piece t a f.sent b f.each h f.calls)
 
   pub stands_at_nothing : (sink : S) → after sink [] → StandsAt after sink [] []
   stands_at_nothing sink h = record { tells = subst (after sink) (sym due_nil) h; keeps = sym (ap cut_bytes lossy-nil) }

@@ -23,12 +23,12 @@ use Rattle.tendril_text.specs.Texts.{Text}
 use Rattle.tendril_lossy.specs.Lossy.{Told, due, due_open, kept}
 use Rattle.tendril_stream.specs.Decoders.{Decodes, Ends, EndStops}
 use Rattle.tendril_stream.specs.Reads.{OneRead, Gave, CameToEnd, MayReadOn, StopsWith, given}
-use Rattle.tendril_stream.specs.Sinks.{Sent, Piece, Stops, told_of}
+use Rattle.tendril_stream.specs.Sinks.{Sent, Piece, IsSent, Stops, told_of}
 
--- if `after a told` and the sink accepts e, then `after b (told ++ told_of e)`
+-- if `after a told` and the sink accepts e, which a decoder sends, then `after b (told ++ told_of e)`
 abbrev pub FollowsCalls : {S : Type 0} → (S → Sent → S → Type 0) → (S → List Told → Type 0) → Type 0
 FollowsCalls {S} takes after =
-    (told : List Told) (a : S) (e : Sent) (b : S) → after a told → takes a e b → after b (told ++ told_of e)
+    (told : List Told) (a : S) (e : Sent) (b : S) → IsSent e → after a told → takes a e b → after b (told ++ told_of e)
 
 -- a decoder that keeps k, over a sink that was told what is due of b, where k is the cut end of b
 pub record StandsAt {S : Type 0} (after : S → List Told → Type 0) (sink : S) (k b : List ℕ) : Type 0 where

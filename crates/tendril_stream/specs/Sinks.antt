@@ -1,5 +1,23 @@
 -- What is sent to a sink, and what it tells.
-use Rattle.std.specs.Prelude.{◌≡◌, ℕ, ◌⊎◌, List, [], ◌∷◌, ◌++◌, map, flat_map, chars, All, Option, Some, None}
+use Rattle.std.specs.Prelude.{
+  ◌≡◌,
+  ◌<◌,
+  ℕ,
+  ◌⊎◌,
+  List,
+  [],
+  ◌∷◌,
+  ◌++◌,
+  length,
+  map,
+  flat_map,
+  chars,
+  All,
+  Option,
+  Some,
+  None,
+  IsUtf8,
+}
 use Rattle.std.specs.List.{FoldsTo}
 use Rattle.std.specs.Iterator.{YieldsThen}
 use Rattle.tendril_text.specs.Decoding.{IsHandedOn, LongPieceMay}
@@ -20,6 +38,11 @@ told_of (Fault words) = Mark words ∷ []
 
 abbrev pub told : List Sent → List Told
 told sent = flat_map told_of sent
+
+-- what a decoder sends: an error, or a text in UTF-8 that isn't empty
+abbrev pub IsSent : Sent → Type 0
+IsSent (Piece t) = (0 < length t.bytes) × IsUtf8 t.bytes
+IsSent (Fault words) = Unit {0}
 
 -- what is sent of a piece: an error, or a text that isn't empty and copied no bytes but those that the piece had, or
 -- few

@@ -95,5 +95,5 @@ impl<A: Atomicity> Tracks<StrTendril<A>> for Accumulate<A> {
 
     ghost after = { λ a t. told (sent a.events.items) ≡ t };
 
-    ghost goes_on = { λ t a e b h c. stored_on (sent a.events.items) (sent b.events.items) e t c h };
+    ghost goes_on = { λ t a e b is_sent h c. stored_on (sent a.events.items) (sent b.events.items) e t c h };
 }

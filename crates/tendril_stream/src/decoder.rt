@@ -1,6 +1,6 @@
 //! Lossy decoding of a stream of bytes that should be UTF-8.
 ghost use Rattle.std.specs.Prelude.{◌≡◌, ◌<◌, ◌≤◌, [], ◌++◌, length, IsSomeAnd, OnOk, IfOk, IfErr, false};
-ghost use Rattle.tendril_lossy.specs.Lossy.{IsOpen, due, due_open, kept, replaced};
+ghost use Rattle.tendril_lossy.specs.Lossy.{due, due_open, kept, replaced};
 ghost use Rattle.std.specs.Borrow.{Lends, sem};
 ghost use Rattle.std.specs.List.{FoldsTo};
 ghost use Rattle.tendril_text.specs.Decoding.{listed};
@@ -156,17 +156,6 @@ fn short<A: Atomicity>(alloc: Global, text: &str) -> StrTendril<A>
     }
 }
 
-// What is kept of bytes that begin a character and end within it, or of none.
-fn incomplete(bytes: &[u8]) -> IncompleteUtf8
-    requires { IsOpen bytes.now }
-    ensures { result ≡ bytes.now }
-{
-    match IncompleteUtf8::new(bytes) {
-        Some(kept) => kept,
-        None => unreachable!(),
-    }
-}
-
 // Sends an error, and then its replacement.
 fn replace<S: TendrilSink<StrTendril<A>>, A: Atomicity>(
     sink: &mut S,
@@ -224,7 +213,9 @@ fn feed_rest<S: TendrilSink<StrTendril<A>>, A: Atomicity>(
             return Err(refusal);
         }
         match ending {
-            Ending::Whole | Ending::Open => return Ok(incomplete(piece.as_byte_slice())),
+            Ending::Whole | Ending::Open => {
+                return Ok(IncompleteUtf8::new_without_validating(piece.as_byte_slice()));
+            }
             Ending::Broken(_) => {
                 if let Err(refusal) = replace(sink, alloc, INVALID) {
                     return Err(refusal);

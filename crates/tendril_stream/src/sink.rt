@@ -37,17 +37,19 @@ pub trait TendrilSink<T: Streamed>: Drop {
     /// What comes of the stream at its end.
     type Output;
 
+    // A sink that says nothing of its calls leaves these four out.
+
     /// What a call does that is accepted.
-    ghost takes: { Self → Sent → Self → Type 0 };
+    ghost takes: { Self → Sent → Self → Type 0 } = { λ a e b. Unit {0} };
 
     /// What a call does that is refused.
-    ghost refuses: { Self → Sent → Refusal → Self → Type 0 };
+    ghost refuses: { Self → Sent → Refusal → Self → Type 0 } = { λ a e r b. Unit {0} };
 
     /// What comes of an end that is accepted.
-    ghost finishes: { Self → Self.Output → Type 0 };
+    ghost finishes: { Self → Self.Output → Type 0 } = { λ a out. Unit {0} };
 
     /// What an end says that is refused.
-    ghost ends: { Self → Refusal → Type 0 };
+    ghost ends: { Self → Refusal → Type 0 } = { λ a r. Unit {0} };
 
     /// Takes a text.
     fn process(&mut self, text: T) -> Result<(), Refusal>

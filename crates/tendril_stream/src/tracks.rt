@@ -11,6 +11,7 @@ pub trait Tracks<T: Streamed>: TendrilSink<T> {
     /// `after sink told`: what holds of a sink that was told this list.
     ghost after: { Self → List Told → Type 0 };
 
-    /// If `after a told` and the sink accepts e, then `after b (told ++ told_of e)`.
+    /// If `after a told` and the sink accepts e, then `after b (told ++ told_of e)`. A text that is sent is UTF-8, and not
+    /// empty.
     ghost goes_on: { FollowsCalls Self.takes after };
 }

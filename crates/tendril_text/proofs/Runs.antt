@@ -1,8 +1,8 @@
-use Rattle.std.proofs.Common.{◌≡◌, ℕ, ◌+◌, ◌<◌, List, [], ◌∷◌, ◌++◌, length, take, drop, Bool, true, sym, ap, ◌∙◌}
+use Rattle.std.proofs.Common.{◌≡◌, ℕ, ◌+◌, ◌<◌, List, [], ◌∷◌, ◌++◌, length, take, drop, Bool, true, refl, sym, ap, ◌∙◌}
 use Rattle.std.proofs.lemmas.Fn.{FoldsTo-push}
 use Rattle.std.proofs.lemmas.List.{take-append-drop}
 use Rattle.std.specs.List.{FoldsTo}
-use Rattle.tendril_text.specs.Characters.{SaysClass, SaysOther, IsRun, EndsRun, HasLongParts}
+use Rattle.tendril_text.specs.Characters.{AsksLongRun, AsksRun, SaysClass, SaysOther, IsRun, EndsRun}
 use Rattle.tendril_fmt.proofs.Splits.{IsSplitAfter-step, IsSplitAfter-texts}
 use Rattle.tendril_fmt.specs.Chars.{IsFirstChar, AreTextsOf, IsSplitAfter}
 
@@ -46,15 +46,17 @@ module _ {F R : Type 0} (step : F → ℕ → R → F → Type 0) (eq : R → R 
       }
 
   -- a text that was parted where a run ends
-  pub is_run : (classify : F) (class : R) (text : List ℕ) (n : ℕ) (run rest : List ℕ) (after : F) → EndsRun step eq valid chars classify class text n after → run ≡ take n text → rest ≡ drop n text → IsRun step eq valid chars classify class text run rest
-  is_run classify class text n run rest after h front end = rw (front, end) (record {
-    bytes = sym (take-append-drop n text);
-    run_valid = h.run_valid;
-    rest_valid = h.rest_valid;
-    characters = h.characters;
-    after = after;
-    asked = h.asked;
-  })
+  pub is_run : (classify : F) (class : R) (text : List ℕ) (n : ℕ) (run rest : List ℕ) (after : F) → EndsRun step eq valid chars classify class text n after → run ≡ take n text → rest ≡ drop n text → AsksRun step eq valid chars classify class text run rest after
+  is_run classify class text n run rest after h front end =
+      let parts : IsRun step eq valid chars classify class text (take n text) (drop n text) = record {
+        bytes = sym (take-append-drop n text);
+        run_valid = h.run_valid;
+        rest_valid = h.rest_valid;
+        characters = h.characters;
+        after = after;
+        asked = h.asked;
+      } in
+      let asks : AsksRun step eq valid chars classify class text (take n text) (drop n text) after = (parts, refl) in rw (front, end) asks
 
-  pub long_parts : (classify : F) (class : R) (text : List ℕ) (n : ℕ) (after : F) → EndsRun step eq valid chars classify class text n after → 8 < n → 8 + n < length text → HasLongParts step eq valid chars classify text
-  long_parts classify class text n after h long rest = record { class = class; end = n; after = after; run = h; long = long; long_rest = rest }
+  pub long_parts : (classify : F) (class : R) (text : List ℕ) (n : ℕ) (after : F) → EndsRun step eq valid chars classify class text n after → 8 < n → 8 + n < length text → AsksLongRun step eq valid chars classify text after
+  long_parts classify class text n after h long rest = (record { class = class; end = n; after = after; run = h; long = long; long_rest = rest }, refl)

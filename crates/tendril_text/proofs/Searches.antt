@@ -73,7 +73,7 @@ covers bytes j k l p q r all (suc (suc zero)) w = inr (inr (inl (sym (q w))))
 covers bytes j k l p q r all (suc (suc (suc zero))) w = inr (inr (inr (sym (r w))))
 covers bytes j k l p q r all (suc (suc (suc (suc m)))) w = absurd (omega (arith, w, all))
 
--- no byte of the table is among sixteen that are none of the four
+-- no byte of the table is among some that are none of the four
 pub passes_more : (table : List Bool) (bytes : List ℕ) (a b c d at n : ℕ) → ((x : ℕ) → has_byte table x ≡ true → is_byte4 a b c d x ≡ true) → Nowhere (Passes (has_byte table) bytes) 0 at → ((k : ℕ) → k < n → is_byte4 a b c d (get_or bytes (at + k) 0) ≡ false) → Nowhere (Passes (has_byte table) bytes) 0 (at + n)
 passes_more table bytes a b c d at n few before none k low high is = ⊎_elim
     (λ l. before k low l is)
@@ -83,13 +83,13 @@ passes_more table bytes a b c d at n few before none k low high is = ⊎_elim
     not_yes (is_byte4 a b c d (get_or bytes k 0)) (subst (λ m. is_byte4 a b c d (get_or bytes m 0) ≡ false) e (none (k - at) w)) (few (get_or bytes k 0) is))
     (cases_lt k at)
 
-read_block : (bytes : List ℕ) (at k : ℕ) → k < 16 → get_or (take (at + 16 - at) (drop at bytes)) k 0 ≡ get_or bytes (at + k) 0
-read_block bytes at k l =
-    let n : at + 16 - at ≡ 16 = omega arith in
-    ap (λ m. get_or (take m (drop at bytes)) k 0) n ∙ get_or-take 16 (drop at bytes) k 0 l ∙ get_or-drop at bytes k 0
+read_block : (bytes : List ℕ) (at n k : ℕ) → k < n → get_or (take (at + n - at) (drop at bytes)) k 0 ≡ get_or bytes (at + k) 0
+read_block bytes at n k l =
+    let count : at + n - at ≡ n = omega arith in
+    ap (λ m. get_or (take m (drop at bytes)) k 0) count ∙ get_or-take n (drop at bytes) k 0 l ∙ get_or-drop at bytes k 0
 
-pub sixteen : (table : List Bool) (bytes : List ℕ) (a b c d at : ℕ) → ((x : ℕ) → has_byte table x ≡ true → is_byte4 a b c d x ≡ true) → Nowhere (Passes (has_byte table) bytes) 0 at → at + 16 ≤ length bytes → ((k : ℕ) → k < length (take (at + 16 - at) (drop at bytes)) → is_byte4 a b c d (get_or (take (at + 16 - at) (drop at bytes)) k 0) ≡ false) → Nowhere (Passes (has_byte table) bytes) 0 (at + 16)
-sixteen table bytes a b c d at few before within none = passes_more table bytes a b c d at 16 few before (λ k l. subst (λ x. is_byte4 a b c d x ≡ false) (read_block bytes at k l) (none k (omega (arith, l, within, length-take (at + 16 - at) (drop at bytes), length-drop at bytes))))
+pub passes_block : (table : List Bool) (bytes : List ℕ) (a b c d at n : ℕ) → ((x : ℕ) → has_byte table x ≡ true → is_byte4 a b c d x ≡ true) → Nowhere (Passes (has_byte table) bytes) 0 at → at + n ≤ length bytes → ((k : ℕ) → k < length (take (at + n - at) (drop at bytes)) → is_byte4 a b c d (get_or (take (at + n - at) (drop at bytes)) k 0) ≡ false) → Nowhere (Passes (has_byte table) bytes) 0 (at + n)
+passes_block table bytes a b c d at n few before within none = passes_more table bytes a b c d at n few before (λ k l. subst (λ x. is_byte4 a b c d x ≡ false) (read_block bytes at n k l) (none k (omega (arith, l, within, length-take (at + n - at) (drop at bytes), length-drop at bytes))))
 
 -- what follows a front
 pub IsUtf8-rest : (bs front : List ℕ) → IsUtf8 bs → IsUtf8 front → bs ≡ front ++ drop (length front) bs → IsUtf8 (drop (length front) bs)

@@ -55,3 +55,13 @@ module _ {F R : Type 0} (step : F → ℕ → R → F → Type 0) (eq : R → R 
     pub run : EndsRun valid chars classify class text end after
     pub long : 8 < end
     pub long_rest : 8 + end < length text
+
+  -- a text is such a run and the rest, and the classifier is `last` then
+  abbrev pub AsksRun : (List ℕ → Type 0) → (List ℕ → List ℕ) → F → R → List ℕ → List ℕ → List ℕ → F → Type 0
+  AsksRun valid chars classify class text run rest last =
+      (is : IsRun valid chars classify class text run rest) × (is.after ≡ last)
+
+  -- such a run and the rest have more than 8 bytes each, and the classifier is `last` then
+  abbrev pub AsksLongRun : (List ℕ → Type 0) → (List ℕ → List ℕ) → F → List ℕ → F → Type 0
+  AsksLongRun valid chars classify text last =
+      (have : HasLongParts valid chars classify text) × (have.after ≡ last)

@@ -11,3 +11,4 @@ pub mod Decoding
 pub mod Items
 pub mod Writes
 pub mod Search
+pub mod Iterators

@@ -1,9 +1,26 @@
 -- Sets of bytes, and where a text has the first of them.
-use Rattle.std.specs.Prelude.{ℕ, ◌≡◌, ◌<◌, ◌≤◌, Bool, true, false, ◌==◌, ◌||◌, List, length, slice_index_or}
+use Rattle.std.specs.Prelude.{
+  ℕ,
+  ◌≡◌,
+  ◌<◌,
+  ◌≤◌,
+  Bool,
+  true,
+  false,
+  ◌==◌,
+  ◌||◌,
+  List,
+  ◌∷◌,
+  ◌++◌,
+  length,
+  slice_index_or,
+}
 use Rattle.memchr.specs.Find.{Nowhere, Passes}
 use Rattle.tendril_block.specs.declared.refusal.Refusal.{Refusal}
 use Rattle.tendril_storage.specs.Partings.{IsParted, BothLong}
-use Rattle.tendril_storage.specs.Texts.{Text}
+use Rattle.tendril_storage.specs.Texts.{Text, Keeps}
+use Rattle.tendril_text.specs.declared.search.SetResult.{SetResult}
+use Rattle.tendril_text.specs.declared.search.SetResult.TheVariants.{FromSet, NotFromSet}
 
 -- whether the table has the byte
 abbrev pub has_byte : List Bool → ℕ → Bool
@@ -40,3 +57,12 @@ pub record HasLongPartBefore (set : ℕ → Bool) (text : List ℕ) (r : Refusal
   pub count : ℕ
   pub ends : EndsBefore set text count
   pub long : BothLong count (length text) r
+
+-- What comes next of a text that is parted at the characters of a set: one of these, or what stands before the first of
+-- them.
+module _ {F A B : _} (chars : List ℕ → List ℕ) (encoding : ℕ → List ℕ) (set : ℕ → Bool) where
+  abbrev pub TakesPart : Text → SetResult F A B → Text → Type 0
+  TakesPart old (FromSet c) new =
+      Passes set old.bytes 0 × (old.bytes ≡ encoding c ++ new.bytes) × (chars old.bytes ≡ c ∷ chars new.bytes)
+      × Keeps old new
+  TakesPart old (NotFromSet front) new = PartsBefore set old front new

@@ -98,6 +98,10 @@ fn skip_others(a: u8, b: u8, c: u8, d: u8, members: &[bool; 256], bytes: &[u8]) 
         }
         at += 16;
     }
+    // Half of those among which one stands.
+    if 8 <= bytes.len() - at && !has_any(a, b, c, d, &bytes[at..at + 8]) {
+        at += 8;
+    }
     at
 }
 

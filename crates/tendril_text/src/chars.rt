@@ -1,6 +1,6 @@
 //! Characters of texts, and runs of them.
 ghost use Rattle.std.specs.Prelude.{◌≡◌, ◌<◌, ◌≤◌, ◌+◌, ◌-◌, ◌++◌, ◌∷◌, [], ℕ, List, length, drop, encode_utf8, IfSome, IfNone, IfOk, IfErr, OnErr, OnSome, IsOk, MatchOption};
-ghost use Rattle.tendril_text.specs.Characters.{EndsRun, HasLongParts, IsRun};
+ghost use Rattle.tendril_text.specs.Characters.{AsksLongRun, AsksRun, EndsRun, HasLongParts, IsRun};
 ghost use Rattle.tendril_text.specs.Pushes.{Joins, JoinsChar};
 ghost use Rattle.tendril_storage.specs.Texts.{Keeps, Parts};
 ghost use Rattle.tendril_fmt.specs.Chars.{IsFirstChar};
@@ -52,7 +52,28 @@ impl<F: CharFormat, A: Atomicity> Tendril<F, A> {
             (r ≡ Refusal.Count) × HasLongParts C.step R.eq F.valid F.chars classify self.old.bytes) }
         ensures err { OnErr result (self.new ≡ self.old) }
     {
-        let Some((end, class)) = run_end::<F, C, R>(self.as_byte_slice(), &mut classify) else {
+        self.pop_front_char_run_with(&mut classify)
+    }
+
+    /// Takes a run out of the front of the text as `pop_front_char_run` does, with a classifier that is lent, so that a
+    /// caller knows what became of it.
+    pub fn pop_front_char_run_with<C: FnMut(char) -> R, R: PartialEq + Drop>(
+        &mut self,
+        classify: &mut C,
+    ) -> Result<Option<(Self, R)>, Refusal>
+        requires { C.IsAlwaysCallable classify.old }
+        ensures run { IfOk result (λ found. IfSome found (λ run. AsksRun C.step R.eq F.valid F.chars
+            classify.old run.1 self.old.bytes run.0.bytes self.new.bytes classify.new)) }
+        ensures copied { IfOk result (λ found. IfSome found (λ run. Parts self.old run.0 self.new)) }
+        ensures shorter { IfOk result (λ found. OnSome found (length self.new.bytes < length self.old.bytes)) }
+        ensures none { IfOk result (λ found. IfNone found
+            ((self.old.bytes ≡ []) × (self.new ≡ self.old) × (classify.new ≡ classify.old))) }
+        ensures refusal { IfErr result (λ r. (r ≡ Refusal.Count)
+            × AsksLongRun C.step R.eq F.valid F.chars classify.old self.old.bytes classify.new) }
+        ensures err { OnErr result (self.new ≡ self.old) }
+        ensures callable { C.IsAlwaysCallable classify.new }
+    {
+        let Some((end, class)) = run_end::<F, C, R>(self.as_byte_slice(), classify) else {
             return Ok(None);
         };
         let run = self.take_front(end as u32)?;
@@ -97,9 +118,10 @@ fn run_end<F: CharFormat, C: FnMut(char) -> R, R: PartialEq + Drop>(
 ) -> Option<(usize, R)>
     requires valid { F.valid bytes.now }
     requires callable { C.IsAlwaysCallable classify.old }
-    ensures { MatchOption result
+    ensures ends { MatchOption result
         ((bytes.now ≡ []) × (classify.new ≡ classify.old))
         (λ found. EndsRun C.step R.eq F.valid F.chars classify.old found.1 bytes.now found.0 classify.new) }
+    ensures callable { C.IsAlwaysCallable classify.new }
 {
     let (first, mut end) = F::first_char(bytes)?;
     let class = classify(first);

@@ -6,6 +6,7 @@ mod byte_set;
 mod chars;
 mod error;
 mod items;
+mod iter;
 mod search;
 mod tendril;
 mod utf8_decode;
@@ -13,6 +14,8 @@ mod view;
 
 pub use crate::byte_set::ByteSet;
 pub use crate::error::SubtendrilError;
+pub use crate::iter::{IntoCharRuns, IntoChars, SplitAtAny};
+pub use crate::search::SetResult;
 pub use crate::tendril::{
     ByteTendril, SendTendril, StrTendril, Tendril, slice_to_tendril, str_to_tendril,
 };

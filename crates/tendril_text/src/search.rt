@@ -1,15 +1,15 @@
 //! The first of some bytes in a text, what stands before it, and beginnings.
-ghost use Rattle.std.specs.Prelude.{◌≡◌, ◌<◌, ◌≤◌, ◌↔◌, ◌++◌, List, length, take, drop, IsUtf8, IfSome, IfNone, IfOk, OnErr, OnSome, IsTrue, IsFalse, IfErr};
+ghost use Rattle.std.specs.Prelude.{◌≡◌, ◌<◌, ◌≤◌, ◌↔◌, ◌++◌, [], List, length, take, drop, IsUtf8, IfSome, IfNone, IfOk, OnErr, OnSome, IsTrue, IsFalse, IfErr};
 ghost use Rattle.memchr.specs.Find.{IsFirstByte, is_byte};
 ghost use Rattle.tendril_fmt.specs.Parts.{IsFrontOf};
 ghost use Rattle.tendril_storage.specs.Texts.{Keeps};
-ghost use Rattle.tendril_text.specs.Search.{has_byte, EndsBefore, PartsBefore, BeginsWithOne, HasLongPartBefore};
+ghost use Rattle.tendril_text.specs.Search.{has_byte, EndsBefore, PartsBefore, BeginsWithOne, HasLongPartBefore, TakesPart};
 
 use crate::byte_set::ByteSet;
 use crate::tendril::Tendril;
 use memchr::memchr;
-use tendril_block::{Atomicity, Refusal};
-use tendril_fmt::fmt::{CutsAtAscii, Format, UTF8};
+use tendril_block::{Atomicity, NonAtomic, Refusal};
+use tendril_fmt::fmt::{CharFormat, CutsAtAscii, Format, UTF8};
 
 impl<F: Format, A: Atomicity> Tendril<F, A> {
     /// The first place of a byte of the set. Looks at 16 bytes at a time for a set of up to four.
@@ -27,6 +27,15 @@ impl<F: Format, A: Atomicity> Tendril<F, A> {
         let place = memchr(byte, self.as_byte_slice())?;
         Some(place as u32)
     }
+}
+
+/// What is taken off a text that is searched for characters of a set.
+#[derive(Drop)]
+pub enum SetResult<F: Format, A: Atomicity = NonAtomic> {
+    /// A character of the set.
+    FromSet(char),
+    /// What stands before the first character of the set, and isn't empty.
+    NotFromSet(Tendril<F, A>),
 }
 
 impl<F: CutsAtAscii, A: Atomicity> Tendril<F, A> {
@@ -49,6 +58,27 @@ impl<F: CutsAtAscii, A: Atomicity> Tendril<F, A> {
         }
         let front = self.take_front(count as u32)?;
         Ok(Some(front))
+    }
+}
+
+impl<F: CharFormat + CutsAtAscii, A: Atomicity> Tendril<F, A> {
+    /// Takes what stands before the first character of the set out of the text, or that character where it stands first,
+    /// or answers `None` where the text is empty. It costs and shares as `pop_front_until` and `pop_front_char` do.
+    pub fn pop_except_from(&mut self, set: &ByteSet) -> Result<Option<SetResult<F, A>>, Refusal>
+        ensures part { IfOk result (λ found. IfSome found (λ part.
+            TakesPart F.chars F.encoding (has_byte set.now) self.old part self.new)) }
+        ensures shorter { IfOk result (λ found. OnSome found (length self.new.bytes < length self.old.bytes)) }
+        ensures none { IfOk result (λ found. IfNone found ((self.old.bytes ≡ []) × (self.new ≡ self.old))) }
+        ensures refusal { IfErr result (HasLongPartBefore (has_byte set.now) self.old.bytes) }
+        ensures err { OnErr result (self.new ≡ self.old) }
+    {
+        if let Some(front) = self.pop_front_until(set)? {
+            return Ok(Some(SetResult::NotFromSet(front)));
+        }
+        match self.pop_front_char() {
+            Some(character) => Ok(Some(SetResult::FromSet(character))),
+            None => Ok(None),
+        }
     }
 }
 

@@ -79,6 +79,16 @@ impl IncompleteUtf8 {
         }
     }
 
+    /// These bytes, of which it is known.
+    pub fn new_without_validating(bytes: &[u8]) -> Self
+        requires { IsOpen bytes.now }
+        ensures { result ≡ bytes.now }
+    {
+        IncompleteUtf8 {
+            bytes: Encoded::new(bytes),
+        }
+    }
+
     /// No bytes.
     pub fn none() -> Self
         ensures { result ≡ [] }
@@ -259,8 +269,8 @@ impl<A: Atomicity> Tendril<Bytes, A> {
             match ending {
                 Ending::Whole => return Ok(None),
                 Ending::Open => {
-                    let bytes = Encoded::new(self.as_byte_slice());
-                    return Ok(Some(IncompleteUtf8 { bytes }));
+                    let kept = IncompleteUtf8::new_without_validating(self.as_byte_slice());
+                    return Ok(Some(kept));
                 }
                 Ending::Broken(_) => push_utf8(self.short(REPLACEMENT).hand()),
             }

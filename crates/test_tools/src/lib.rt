@@ -5,5 +5,5 @@
 mod compare;
 mod utf8_table;
 
-pub use compare::{holds_at, same, same_at, same_rows};
+pub use compare::{At, holds_at, same, same_at, same_in, same_rows};
 pub use utf8_table::{Front, front_of};

@@ -34,9 +34,10 @@ fn read_refusal(error: Error) -> Refusal {
 }
 
 // How often each word stands in the text. A long word shares the text's bytes.
-fn count(alloc: Global, mut text: StrTendril) -> Result<BTreeMap<StrTendril, u64>, Refusal> {
+fn count(alloc: Global, text: StrTendril) -> Result<BTreeMap<StrTendril, u64>, Refusal> {
     let mut counts = BTreeMap::new(alloc);
-    while let Some((run, is_space)) = text.pop_front_char_run(char::is_whitespace)? {
+    for run in text.into_char_runs(char::is_whitespace) {
+        let (run, is_space) = run?;
         if !is_space {
             let times = counts.get(&run).copied().unwrap_or(0u64);
             if counts.insert(run, times.saturating_add(1)).is_err() {

@@ -11,7 +11,7 @@ use tendril_text::{Atomicity, StrTendril};
 
 impl<A: Atomicity> Rope<A> {
     /// The part of so many bytes from the offset on, where it is there and UTF-8. Its pieces share the bytes of this
-    /// rope's. Takes time for the pieces that it gives, and logarithmic time to find the first.
+    /// rope's. Takes time for the pieces that it gives, and logarithmic time to find the first and the last.
     pub fn sub_rope(&self, offset: u64, count: u64) -> Result<Self, Refusal>
         ensures { SubRope self.now offset count result }
     {
@@ -21,14 +21,14 @@ impl<A: Atomicity> Rope<A> {
         if count == 0 {
             return Ok(Rope::new(*self.pieces.allocator()));
         }
-        let end = offset + count;
-        if !self.is_cut(offset) {
-            return Err(Refusal::ValidationFailed);
-        }
-        if !self.is_cut(end) {
-            return Err(Refusal::ValidationFailed);
-        }
         let (first, from) = self.locate(offset);
+        if !self.is_cut(first, from) {
+            return Err(Refusal::ValidationFailed);
+        }
+        let (last, to) = self.locate_from(first, offset + (count - 1));
+        if !self.is_cut(last, to + 1) {
+            return Err(Refusal::ValidationFailed);
+        }
         share(&self.pieces, first, from, count)
     }
 

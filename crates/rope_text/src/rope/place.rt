@@ -1,5 +1,5 @@
 //! Places in ropes. They are looked up by where the pieces end.
-ghost use Rattle.std.specs.Prelude.{◌≡◌, ◌<◌, ◌≤◌, ◌+◌, ◌↔◌, length, take, drop, IsTrue};
+ghost use Rattle.std.specs.Prelude.{◌≡◌, ◌<◌, ◌≤◌, ◌+◌, ◌*◌, ◌^◌, ◌↔◌, length, take, drop, IsTrue};
 ghost use Rattle.std.specs.Str.{IsCharBoundary};
 ghost use Rattle.rope_text.specs.Ropes.{bytes_of_all, piece_at};
 
@@ -28,25 +28,74 @@ impl<A: Atomicity> Rope<A> {
         }
     }
 
-    // The number of the piece that has the byte at a place, by halving.
-    fn piece_with(&self, at: u64) -> usize
-        requires { at < length self.now.bytes }
+    // How many of three ends, each so many pieces behind the one before, are no later than a place. All are read before
+    // any is compared, so that none waits for another.
+    fn passed(&self, low: usize, step: usize, at: u64) -> usize
+        requires step { 0 < step }
+        requires there { low + 3 * step ≤ length self.now.pieces }
+        requires fits { low + 3 * step < 2 ^ 64 }
+        requires start { length (bytes_of_all (take low self.now.pieces)) ≤ at }
+        ensures most { result ≤ 3 }
+        ensures start { length (bytes_of_all (take (low + result * step) self.now.pieces)) ≤ at }
+        ensures end { result < 3 → at < length (bytes_of_all (take (low + (result + 1) * step) self.now.pieces)) }
+    {
+        let first = self.end_of(low + step - 1);
+        let second = self.end_of(low + 2 * step - 1);
+        let third = self.end_of(low + 3 * step - 1);
+        (first <= at) as usize + (second <= at) as usize + (third <= at) as usize
+    }
+
+    // The number of a piece that begins no later than a place, and is the one that has the byte there or one of the two
+    // before it. It is found by quartering.
+    fn near(&self, first: usize, at: u64) -> usize
+        requires within { at < length self.now.bytes }
+        requires start { length (bytes_of_all (take first self.now.pieces)) ≤ at }
+        ensures start { length (bytes_of_all (take result self.now.pieces)) ≤ at }
+        ensures end { at < length (bytes_of_all (take (result + 3) self.now.pieces)) }
+    {
+        let mut low = first;
+        let mut count = self.pieces.len() - first;
+        while count > 3 {
+            let quarter = count / 4;
+            low += self.passed(low, quarter, at) * quarter;
+            count -= 3 * quarter;
+        }
+        low
+    }
+
+    // The number of the piece that has the byte at a place. It is looked for from a piece on, one after the other.
+    fn next_with(&self, from: usize, at: u64) -> usize
+        requires within { at < length self.now.bytes }
+        requires start { length (bytes_of_all (take from self.now.pieces)) ≤ at }
+        ensures piece { result < length self.now.pieces }
+        ensures start { length (bytes_of_all (take result self.now.pieces)) ≤ at }
+        ensures end { at < length (bytes_of_all (take (result + 1) self.now.pieces)) }
+    {
+        prove!(from < self.pieces.len());
+        let mut index = from;
+        while self.end_of(index) <= at {
+            index += 1;
+        }
+        index
+    }
+
+    // The number of the piece that has the byte at a place, from a piece on. Most often it is that one or the next.
+    fn piece_with(&self, first: usize, at: u64) -> usize
+        requires within { at < length self.now.bytes }
+        requires start { length (bytes_of_all (take first self.now.pieces)) ≤ at }
         ensures piece { result < length self.now.pieces }
         ensures start { length (bytes_of_all (take result self.now.pieces)) ≤ at }
         ensures end { at < length (bytes_of_all (take (result + 1) self.now.pieces)) }
         ensures short { length (piece_at self.now.pieces result).bytes ≤ MAX_LEN }
     {
-        let mut low = 0;
-        let mut high = self.pieces.len() - 1;
-        while low < high {
-            let middle = low + (high - low) / 2;
-            if self.end_of(middle) <= at {
-                low = middle + 1;
-            } else {
-                high = middle;
-            }
+        prove!(first < self.pieces.len());
+        if at < self.end_of(first) {
+            first
+        } else if at < self.end_of(first + 1) {
+            first + 1
+        } else {
+            self.next_with(self.near(first + 2, at), at)
         }
-        low
     }
 
     // The number of the piece that has the byte at a place, and where in the piece it stands.
@@ -56,22 +105,29 @@ impl<A: Atomicity> Rope<A> {
         ensures within { result.1 < length (piece_at self.now.pieces result.0).bytes }
         ensures place { length (bytes_of_all (take result.0 self.now.pieces)) + result.1 ≡ at }
     {
-        let index = self.piece_with(at);
+        self.locate_from(0, at)
+    }
+
+    // The same, where that piece isn't before the first of these.
+    pub(super) fn locate_from(&self, first: usize, at: u64) -> (usize, u32)
+        requires within { at < length self.now.bytes }
+        requires start { length (bytes_of_all (take first self.now.pieces)) ≤ at }
+        ensures piece { result.0 < length self.now.pieces }
+        ensures within { result.1 < length (piece_at self.now.pieces result.0).bytes }
+        ensures place { length (bytes_of_all (take result.0 self.now.pieces)) + result.1 ≡ at }
+    {
+        let index = self.piece_with(first, at);
         (index, (at - self.start_of(index)) as u32)
     }
 
-    // Whether the rope may be cut at a place.
-    pub(super) fn is_cut(&self, at: u64) -> bool
-        requires { at ≤ length self.now.bytes }
-        ensures { IsTrue result ↔ IsCharBoundary self.now.bytes at }
+    // Whether the rope may be cut behind so many bytes of a piece.
+    pub(super) fn is_cut(&self, index: usize, count: u32) -> bool
+        requires piece { 0 < count → index < length self.now.pieces }
+        requires within { count ≤ length (piece_at self.now.pieces index).bytes }
+        ensures { IsTrue result
+            ↔ IsCharBoundary self.now.bytes (length (bytes_of_all (take index self.now.pieces)) + count) }
     {
-        if at == self.total {
-            return true;
-        }
-        let (index, within) = self.locate(at);
-        self.pieces[index]
-            .as_str()
-            .is_char_boundary(within as usize)
+        count == 0 || self.pieces[index].as_str().is_char_boundary(count as usize)
     }
 
     // The bytes from a place on, up to the end of the piece that has it.

@@ -22,7 +22,6 @@ impl<A: Atomicity> TendrilSink<StrTendril<A>> for Rope<A> {
     ghost ends = { λ a r. ⊥ };
 
     fn process(&mut self, text: StrTendril<A>) -> Result<(), Refusal> {
-        let _is_utf8 = text.as_str();
         match self.push_tendril(text) {
             Ok(()) => Ok(()),
             Err((refusal, _)) => Err(refusal),

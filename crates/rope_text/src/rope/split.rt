@@ -26,22 +26,26 @@ impl<A: Atomicity> Rope<A> {
         if count == 0 {
             return Ok(Rope::new(*self.pieces.allocator()));
         }
-        if !self.is_cut(count) {
+        let (whole, within) = self.place_of_cut(count);
+        if !self.is_cut(whole, within) {
             return Err(Refusal::ValidationFailed);
         }
-        self.split_to(count)
+        self.split_to(whole, within, count)
     }
 
-    // Takes the first bytes out, of which there are so many and which may be cut off.
-    fn split_to(&mut self, count: u64) -> Result<Self, Refusal>
+    // Takes the first bytes out, which may be cut off: so many pieces, and so many bytes of the next.
+    fn split_to(&mut self, whole: usize, within: u32, count: u64) -> Result<Self, Refusal>
         requires some { 0 < count }
-        requires within { count ≤ length self.old.bytes }
+        requires there { count ≤ length self.old.bytes }
         requires cut { IsCharBoundary self.old.bytes count }
+        requires piece { whole ≤ length self.old.pieces }
+        requires next { 0 < within → whole < length self.old.pieces }
+        requires within { 0 < within → within < length (piece_at self.old.pieces whole).bytes }
+        requires place { length (bytes_of_all (take whole self.old.pieces)) + within ≡ count }
         ensures { Outcome NoneMust (SplitMay self.old.pieces count) (λ front rest. IsCutAt count self.old front rest)
             self.old result self.new }
     {
         let alloc = *self.pieces.allocator();
-        let (whole, within) = self.place_of_cut(count);
         let part = match front_at(alloc, &self.pieces, whole, within) {
             Ok(part) => part,
             Err(error) => return Err(Refusal::from(error)),

@@ -1,11 +1,12 @@
 //! Texts that are written to: over their bytes, or at their end by std's traits.
-ghost use Rattle.std.specs.Prelude.{◌≡◌, ◌<◌, ◌≤◌, ◌+◌, ◌++◌, length, max, Some, IfOk, IfErr, OnOk, OnErr, IsOk};
+ghost use Rattle.std.specs.Prelude.{◌≡◌, ◌<◌, ◌≤◌, ◌+◌, ◌++◌, ◌↔◌, length, map, max, Some, IfOk, IfErr, IsFalse, OnOk, OnErr, IsOk};
+ghost use Rattle.std.specs.Char.{to_ascii_lowercase};
 ghost use Rattle.std.specs.Fn.{CalledAtMut};
 ghost use Rattle.std.specs.Io.{WritesAtMost};
 ghost use Rattle.std.specs.Io.KnownBytes.{Appends, Keeps, WriteAppends};
 ghost use Rattle.std.specs.IoError.{error_kind};
 ghost use Rattle.tendril_text.specs.Writes.{WriteRefused};
-ghost use Rattle.tendril_block.specs.Outcomes.{MemoryMay};
+ghost use Rattle.tendril_block.specs.Outcomes.{MemoryMay, NoneMust, Outcome};
 ghost use Rattle.tendril_storage.specs.Edits.{TakesAtMut};
 
 use crate::tendril::Tendril;
@@ -44,6 +45,31 @@ impl<A: Atomicity> Tendril<Bytes, A> {
     {
         self.storage.write_over(edit)
     }
+}
+
+impl<A: Atomicity> Tendril<UTF8, A> {
+    /// Makes the capital letters of ASCII small. They are written where they stand if no other text has their block, else
+    /// in a copy; a text that has none is left as it is, and asks for no memory.
+    pub fn make_ascii_lowercase(&mut self) -> Result<(), Refusal>
+        ensures outcome { Outcome NoneMust (MemoryMay (length self.old.bytes))
+            (λ _ t. t.bytes ≡ map to_ascii_lowercase self.old.bytes) self.old result self.new }
+        ensures copied { self.new.copied ≤ max self.old.copied (length self.old.bytes) }
+        ensures kept { map to_ascii_lowercase self.old.bytes ≡ self.old.bytes → self.new.copied ≡ self.old.copied }
+    {
+        if !has_capital(self.as_byte_slice()) {
+            return Ok(());
+        }
+        self.storage
+            .write_over(&mut |bytes: &mut [u8]| bytes.make_ascii_lowercase())?;
+        Ok(())
+    }
+}
+
+// Whether a capital letter of ASCII is among the bytes.
+fn has_capital(bytes: &[u8]) -> bool
+    ensures { IsFalse result ↔ (map to_ascii_lowercase bytes.now ≡ bytes.now) }
+{
+    bytes.iter().any(|byte| byte.is_ascii_uppercase())
 }
 
 /// A string is put at the end whole, as by `push_slice`, or not at all.

@@ -42,6 +42,8 @@ pub(super) enum Step {
     PopBack(u32),
     /// The bytes are written in reverse.
     Reverse,
+    /// Capital letters become small.
+    Lower,
     /// One byte is written.
     Set(usize, u8),
     /// The text has these bytes.
@@ -123,6 +125,7 @@ fn changed<F: Format, A: Atomicity>(
         Step::PushCharacter(character) => return with_character(text, character),
         Step::PushZeros(count) => return with_zeros(text, count),
         Step::Reverse => return reversed(text),
+        Step::Lower => return lowered(text),
         Step::Set(at, byte) => return with_byte(text, at, byte),
         Step::Send => return received(text),
         _ => return Err(Refusal::WrongFormat),
@@ -151,6 +154,12 @@ fn with_zeros<F: Format, A: Atomicity>(
 fn reversed<F: Format, A: Atomicity>(text: Tendril<F, A>) -> Result<Tendril<F, A>, Refusal> {
     let mut text = text.into_bytes();
     text.bytes_mut(|bytes| bytes.reverse())?;
+    in_format(text)
+}
+
+fn lowered<F: Format, A: Atomicity>(text: Tendril<F, A>) -> Result<Tendril<F, A>, Refusal> {
+    let mut text: StrTendril<A> = in_format(text)?;
+    text.make_ascii_lowercase()?;
     in_format(text)
 }
 

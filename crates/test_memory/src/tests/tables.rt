@@ -2,15 +2,17 @@
 
 use super::session::Step;
 use super::session::Step::{
-    Character, Clone, Drop, Has, Is, IsLong, IsPart, Join, Make, PopBack, PopFront, Push,
+    Character, Clone, Drop, Has, Is, IsLong, IsPart, Join, Lower, Make, PopBack, PopFront, Push,
     PushCharacter, PushZeros, Reserve, Reverse, Room, Run, Send, SendTwo, Set, Slice,
 };
 
-/// Of a text of a million bytes: a slice, a clone, pops at both ends and a run.
+/// Of a text of a million bytes without capital letters: a slice, a clone, small letters, pops at both ends and a run.
 pub(super) const CUTS: &[Step] = &[
     Slice(0, 1, 999998),
     IsPart(0, 1, 999999),
     Clone(0),
+    IsPart(0, 0, 1000000),
+    Lower,
     IsPart(0, 0, 1000000),
     PopFront(5),
     PopBack(5),

@@ -6,7 +6,7 @@ use std::alloc::Global;
 use std::test::Fail;
 
 /// How many requests the session makes.
-const REQUESTS: usize = 19;
+const REQUESTS: usize = 21;
 
 const BYTES: &[u8] = b"0123456789";
 
@@ -42,7 +42,7 @@ const OF_BYTES: [Step<'static>; 22] = [
     Step::Change(9, Change::Reserve(200), LONG, LONG),
 ];
 
-const OF_STRINGS: [Step<'static>; 10] = [
+const OF_STRINGS: [Step<'static>; 14] = [
     Step::Make(Make::StrToTendril("0123456789"), BYTES),
     Step::Clone(0),
     Step::Change(1, Change::PushStr("ab"), BYTES, b"0123456789ab"),
@@ -53,6 +53,10 @@ const OF_STRINGS: [Step<'static>; 10] = [
     Step::Clone(0),
     Step::Change(4, Change::WriteStr("ef"), BYTES, b"0123456789ef"),
     Step::Is(0, BYTES),
+    Step::Make(Make::StrToTendril("ABCDEFGHIJ"), b"ABCDEFGHIJ"),
+    Step::Clone(5),
+    Step::Change(6, Change::MakeLower, b"ABCDEFGHIJ", b"abcdefghij"),
+    Step::Is(5, b"ABCDEFGHIJ"),
 ];
 
 // Runs the session, of which the request of this number is refused.

@@ -64,14 +64,6 @@ impl Recorder {
 impl TendrilSink<StrTendril> for Recorder {
     type Output = Vec<Event>;
 
-    ghost takes = { λ a e b. Unit {0} };
-
-    ghost refuses = { λ a e r b. Unit {0} };
-
-    ghost finishes = { λ a out. Unit {0} };
-
-    ghost ends = { λ a r. Unit {0} };
-
     fn process(&mut self, text: StrTendril) -> Result<(), Refusal> {
         let answer = self.stored.process(text);
         self.count(answer)

@@ -202,14 +202,6 @@ struct Joined {
 impl TendrilSink<StrTendril> for Joined {
     type Output = StrTendril;
 
-    ghost takes = { λ a e b. Unit {0} };
-
-    ghost refuses = { λ a e r b. Unit {0} };
-
-    ghost finishes = { λ a out. Unit {0} };
-
-    ghost ends = { λ a r. Unit {0} };
-
     fn process(&mut self, text: StrTendril) -> Result<(), Refusal> {
         self.text.push_tendril(&text)
     }

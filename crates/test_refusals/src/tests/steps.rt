@@ -76,6 +76,7 @@ pub(super) enum Change<'a> {
     TryPushChar(char),
     PushChar(char),
     WriteStr(&'a str),
+    MakeLower,
     // Changes nothing: a string is made that is the text's.
     ToString,
     // Changes nothing: the text's units are these.
@@ -191,6 +192,7 @@ impl Calls for OfStrings {
             Change::TryPushChar(character) => text.try_push_char(character),
             Change::PushChar(character) => text.push_char(character),
             Change::WriteStr(string) => write_string(text, string),
+            Change::MakeLower => text.make_ascii_lowercase(),
             Change::ToString => to_string(text),
             _ => Err(Refusal::WrongFormat),
         }

@@ -19,14 +19,6 @@ struct Relay {
 impl TendrilSink<StrTendril> for Relay {
     type Output = Vec<Event>;
 
-    ghost takes = { λ a e b. Unit {0} };
-
-    ghost refuses = { λ a e r b. Unit {0} };
-
-    ghost finishes = { λ a out. Unit {0} };
-
-    ghost ends = { λ a r. Unit {0} };
-
     fn process(&mut self, text: StrTendril) -> Result<(), Refusal> {
         self.decoder.process(text.into_bytes())
     }

@@ -27,14 +27,6 @@ impl Joined {
 impl TendrilSink<StrTendril> for Joined {
     type Output = Self;
 
-    ghost takes = { λ a e b. Unit {0} };
-
-    ghost refuses = { λ a e r b. Unit {0} };
-
-    ghost finishes = { λ a out. Unit {0} };
-
-    ghost ends = { λ a r. Unit {0} };
-
     fn process(&mut self, text: StrTendril) -> Result<(), Refusal> {
         self.had_empty = self.had_empty || text.len32() == 0;
         self.texts.extend_from_slice(text.as_byte_slice())?;

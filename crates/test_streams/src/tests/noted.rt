@@ -71,14 +71,6 @@ impl Noted {
 impl TendrilSink<StrTendril> for Noted {
     type Output = Self;
 
-    ghost takes = { λ a e b. Unit {0} };
-
-    ghost refuses = { λ a e r b. Unit {0} };
-
-    ghost finishes = { λ a out. Unit {0} };
-
-    ghost ends = { λ a r. Unit {0} };
-
     fn process(&mut self, text: StrTendril) -> Result<(), Refusal> {
         self.call()?;
         self.had_empty = self.had_empty || text.len32() == 0;

@@ -1,18 +1,18 @@
 //! Sessions on texts of characters: the steps of any session, and pushes and pops of characters and of runs of them.
 
-use crate::tests::steps::{Step, empty_texts, put, take_step, taken};
+use crate::tests::steps::{Played, Step, put};
 use std::alloc::Global;
 use std::test::Fail;
 use tendril::block::Refusal;
 use tendril::fmt::CharFormat;
-use tendril::{Atomic, Atomicity, NonAtomic, Tendril};
-use test_tools::same_at;
+use tendril::{Atomicity, Tendril};
+use test_tools::{At, same_in};
 
 /// What is done with a text of characters. A run is one of white space or of other characters.
 #[derive(Clone, Copy)]
-pub enum CharStep<'a> {
+pub enum CharStep {
     /// A step of any session.
-    Any(Step<'a>),
+    Any(Step),
     /// A character is pushed.
     PushChar(char),
     /// A character is refused, which the format doesn't have.
@@ -28,9 +28,6 @@ pub enum CharStep<'a> {
     /// The same as `Run`, where the classifier is std's function itself.
     RunByName(usize, bool),
 }
-
-/// The number of a text, and the step.
-pub type CharRow<'a> = (usize, CharStep<'a>);
 
 /// A run and its class, where there is one.
 type Run<F, A> = Option<(Tendril<F, A>, bool)>;
@@ -49,111 +46,78 @@ fn pop_run<F: CharFormat, A: Atomicity>(
 
 // A run that must be there, of this class.
 fn run_of<F: CharFormat, A: Atomicity>(
-    row: usize,
+    at: At,
     found: Run<F, A>,
     is_space: bool,
 ) -> Result<Tendril<F, A>, Fail> {
     match found {
         Some((run, class)) => {
-            same_at(row, class, is_space)?;
+            same_in(at, class, is_space)?;
             Ok(run)
         }
-        None => Err(Fail::new(format_args!("row {row}: no run"))),
+        None => Err(Fail::new(format_args!("{at}: no run"))),
     }
 }
 
 fn counted_run<F: CharFormat, A: Atomicity>(
-    row: usize,
+    at: At,
     text: &mut Tendril<F, A>,
     is_space: bool,
     times: u32,
 ) -> Result<Tendril<F, A>, Fail> {
     let (found, asked) = pop_run(text);
-    same_at(row, asked, times)?;
-    run_of(row, found?, is_space)
+    same_in(at, asked, times)?;
+    run_of(at, found?, is_space)
 }
 
 fn run_by_name<F: CharFormat, A: Atomicity>(
-    row: usize,
+    at: At,
     text: &mut Tendril<F, A>,
     is_space: bool,
 ) -> Result<Tendril<F, A>, Fail> {
-    run_of(row, text.pop_front_char_run(char::is_whitespace)?, is_space)
+    run_of(at, text.pop_front_char_run(char::is_whitespace)?, is_space)
 }
 
-fn no_run<F: CharFormat, A: Atomicity>(row: usize, text: &mut Tendril<F, A>) -> Result<(), Fail> {
+fn no_run<F: CharFormat, A: Atomicity>(at: At, text: &mut Tendril<F, A>) -> Result<(), Fail> {
     let (found, asked) = pop_run(text);
-    same_at(row, asked, 0)?;
-    same_at(row, found?.is_none(), true)
+    same_in(at, asked, 0)?;
+    same_in(at, found?.is_none(), true)
 }
 
 fn refused_run<F: CharFormat, A: Atomicity>(
-    row: usize,
+    at: At,
     text: &mut Tendril<F, A>,
     due: Refusal,
     times: u32,
 ) -> Result<(), Fail> {
     let (found, asked) = pop_run(text);
-    same_at(row, asked, times)?;
-    same_at(row, found.err(), Some(due))
+    same_in(at, asked, times)?;
+    same_in(at, found.err(), Some(due))
 }
 
-// Does one step with a text. The others may be seen or become the run.
-fn take_char_step<F: CharFormat, A: Atomicity>(
-    alloc: Global,
-    row: usize,
-    text: &mut Tendril<F, A>,
-    texts: &mut [Tendril<F, A>],
-    step: CharStep,
-) -> Result<(), Fail> {
-    match step {
-        CharStep::Any(step) => take_step(alloc, row, text, texts, step),
-        CharStep::PushChar(character) => Ok(text.try_push_char(character)?),
-        CharStep::NoPushChar(character) => {
-            same_at(
-                row,
-                text.try_push_char(character),
-                Err(Refusal::NotInFormat),
-            )
-        }
-        CharStep::PopChar(due) => same_at(row, text.pop_front_char(), due),
-        CharStep::Run(number, is_space, times) => {
-            put(row, texts, number, counted_run(row, text, is_space, times)?)
-        }
-        CharStep::NoRun => no_run(row, text),
-        CharStep::RefusedRun(due, times) => refused_run(row, text, due, times),
-        CharStep::RunByName(number, is_space) => {
-            put(row, texts, number, run_by_name(row, text, is_space)?)
+impl<F: CharFormat> Played<F> for CharStep {
+    fn play_on<A: Atomicity>(
+        self,
+        alloc: Global,
+        at: At,
+        text: &mut Tendril<F, A>,
+        texts: &mut [Tendril<F, A>],
+    ) -> Result<(), Fail> {
+        match self {
+            CharStep::Any(step) => step.play_on(alloc, at, text, texts),
+            CharStep::PushChar(character) => Ok(text.try_push_char(character)?),
+            CharStep::NoPushChar(character) => {
+                same_in(at, text.try_push_char(character), Err(Refusal::NotInFormat))
+            }
+            CharStep::PopChar(due) => same_in(at, text.pop_front_char(), due),
+            CharStep::Run(number, is_space, times) => {
+                put(at, texts, number, counted_run(at, text, is_space, times)?)
+            }
+            CharStep::NoRun => no_run(at, text),
+            CharStep::RefusedRun(due, times) => refused_run(at, text, due, times),
+            CharStep::RunByName(number, is_space) => {
+                put(at, texts, number, run_by_name(at, text, is_space)?)
+            }
         }
     }
-}
-
-fn play_char_row<F: CharFormat, A: Atomicity>(
-    alloc: Global,
-    row: usize,
-    texts: &mut [Tendril<F, A>],
-    number: usize,
-    step: CharStep,
-) -> Result<(), Fail> {
-    let mut text = taken(alloc, row, texts, number)?;
-    take_char_step(alloc, row, &mut text, texts, step)?;
-    put(row, texts, number, text)
-}
-
-/// Plays rows over one kind of block.
-pub fn play_chars<F: CharFormat, A: Atomicity>(
-    alloc: Global,
-    rows: &[CharRow],
-) -> Result<(), Fail> {
-    let mut texts = empty_texts::<F, A>(alloc)?;
-    for (row, (number, step)) in rows.iter().enumerate() {
-        play_char_row(alloc, row, &mut texts, *number, *step)?;
-    }
-    Ok(())
-}
-
-/// Plays rows over both kinds of block.
-pub fn play_chars_both<F: CharFormat>(alloc: Global, rows: &[CharRow]) -> Result<(), Fail> {
-    play_chars::<F, NonAtomic>(alloc, rows)?;
-    play_chars::<F, Atomic>(alloc, rows)
 }

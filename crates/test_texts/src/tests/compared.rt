@@ -1,5 +1,6 @@
 //! Texts compared, hashed, and as keys of maps.
 
+use crate::tests::kinds::{Check, check_both};
 use std::alloc::Global;
 use std::cmp::Ordering;
 use std::collections::{BTreeMap, HashMap};
@@ -25,6 +26,34 @@ const ORDERED: [&str; 10] = [
     "abd",
     "\u{4e2d}",
 ];
+
+/// What is checked over both kinds of block.
+#[derive(Clone, Copy)]
+enum Case {
+    Ordered,
+    Unsigned,
+    OneByteApart,
+    WithStrings,
+    HashMap,
+    SortedMap,
+}
+
+impl Check for Case {
+    fn check<A: Atomicity>(self, alloc: Global) -> Result<(), Fail> {
+        match self {
+            Case::Ordered => ordered_strings::<A>(alloc),
+            Case::Unsigned => bytes_compare_so::<A>(
+                alloc,
+                b"0123456789\x7f\xff",
+                b"0123456789\x80",
+            ),
+            Case::OneByteApart => differ::<A>(alloc, ONE_BYTE_APART),
+            Case::WithStrings => compared_with_strings::<A>(alloc),
+            Case::HashMap => are_keys_of_a_hash_map::<A>(alloc),
+            Case::SortedMap => are_keys_of_a_sorted_map::<A>(alloc),
+        }
+    }
+}
 
 // Every comparison of two values has this answer.
 fn compare_so<T: Ord>(row: usize, x: &T, y: &T, order: Ordering) -> Result<(), Fail> {
@@ -60,8 +89,7 @@ fn ordered_strings<A: Atomicity>(alloc: Global) -> Result<(), Fail> {
 
 #[test]
 fn strings_have_the_order_of_their_bytes(rt: HostRuntime) -> Result<(), Fail> {
-    ordered_strings::<NonAtomic>(rt.alloc())?;
-    ordered_strings::<Atomic>(rt.alloc())
+    check_both(rt.alloc(), Case::Ordered)
 }
 
 fn bytes_compare_so<A: Atomicity>(alloc: Global, low: &[u8], high: &[u8]) -> Result<(), Fail> {
@@ -73,8 +101,7 @@ fn bytes_compare_so<A: Atomicity>(alloc: Global, low: &[u8], high: &[u8]) -> Res
 
 #[test]
 fn bytes_compare_as_unsigned_numbers(rt: HostRuntime) -> Result<(), Fail> {
-    bytes_compare_so::<NonAtomic>(rt.alloc(), b"0123456789\x7f\xff", b"0123456789\x80")?;
-    bytes_compare_so::<Atomic>(rt.alloc(), b"0123456789\x7f\xff", b"0123456789\x80")
+    check_both(rt.alloc(), Case::Unsigned)
 }
 
 fn hash_of<T: Hash>(value: &T) -> u64 {
@@ -133,11 +160,12 @@ fn are_like_their_like<F: Format>(alloc: Global) -> Result<(), Fail> {
 
 #[test]
 fn what_was_copied_and_shared_is_not_compared(rt: HostRuntime) -> Result<(), Fail> {
-    are_like_their_like::<Bytes>(rt.alloc())?;
-    are_like_their_like::<ASCII>(rt.alloc())?;
-    are_like_their_like::<UTF8>(rt.alloc())?;
-    are_like_their_like::<WTF8>(rt.alloc())?;
-    are_like_their_like::<Latin1>(rt.alloc())
+    let alloc = rt.alloc();
+    are_like_their_like::<Bytes>(alloc)?;
+    are_like_their_like::<ASCII>(alloc)?;
+    are_like_their_like::<UTF8>(alloc)?;
+    are_like_their_like::<WTF8>(alloc)?;
+    are_like_their_like::<Latin1>(alloc)
 }
 
 fn differ<A: Atomicity>(alloc: Global, rows: &[(&str, &str)]) -> Result<(), Fail> {
@@ -148,15 +176,15 @@ fn differ<A: Atomicity>(alloc: Global, rows: &[(&str, &str)]) -> Result<(), Fail
     Ok(())
 }
 
+const ONE_BYTE_APART: &[(&str, &str)] = &[
+    ("abc", "abd"),
+    ("0123456789a", "0123456789b"),
+    ("xbc", "abc"),
+];
+
 #[test]
 fn one_byte_apart(rt: HostRuntime) -> Result<(), Fail> {
-    let rows = [
-        ("abc", "abd"),
-        ("0123456789a", "0123456789b"),
-        ("xbc", "abc"),
-    ];
-    differ::<NonAtomic>(rt.alloc(), &rows)?;
-    differ::<Atomic>(rt.alloc(), &rows)
+    check_both(rt.alloc(), Case::OneByteApart)
 }
 
 // A text of UTF-8 and one of ASCII are a string or are not.
@@ -181,8 +209,7 @@ fn compared_with_strings<A: Atomicity>(alloc: Global) -> Result<(), Fail> {
 
 #[test]
 fn texts_compared_with_strings(rt: HostRuntime) -> Result<(), Fail> {
-    compared_with_strings::<NonAtomic>(rt.alloc())?;
-    compared_with_strings::<Atomic>(rt.alloc())
+    check_both(rt.alloc(), Case::WithStrings)
 }
 
 // A map with the place of each string.
@@ -218,8 +245,7 @@ fn are_keys_of_a_hash_map<A: Atomicity>(alloc: Global) -> Result<(), Fail> {
 
 #[test]
 fn texts_as_keys_of_a_hash_map(rt: HostRuntime) -> Result<(), Fail> {
-    are_keys_of_a_hash_map::<NonAtomic>(rt.alloc())?;
-    are_keys_of_a_hash_map::<Atomic>(rt.alloc())
+    check_both(rt.alloc(), Case::HashMap)
 }
 
 // A map with the length of each string, filled from the last to the first.
@@ -245,6 +271,5 @@ fn are_keys_of_a_sorted_map<A: Atomicity>(alloc: Global) -> Result<(), Fail> {
 
 #[test]
 fn texts_as_keys_of_a_sorted_map(rt: HostRuntime) -> Result<(), Fail> {
-    are_keys_of_a_sorted_map::<NonAtomic>(rt.alloc())?;
-    are_keys_of_a_sorted_map::<Atomic>(rt.alloc())
+    check_both(rt.alloc(), Case::SortedMap)
 }

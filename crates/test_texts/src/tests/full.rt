@@ -1,7 +1,7 @@
 //! Texts in blocks that have as many holders as they may have.
 
-use crate::tests::characters::{CharStep, play_chars};
-use crate::tests::steps::{Step, play};
+use crate::tests::characters::CharStep;
+use crate::tests::steps::{Session, Step, play_each};
 use std::test::Fail;
 use tendril::block::{AtomicUpTo, Refusal};
 use tendril::fmt::{Bytes, UTF8};
@@ -12,29 +12,25 @@ const DIGITS: &[u8] = b"0123456789";
 
 const TWO_WORDS: &[u8] = b"aaaaaaaaaa bbbbbbbbb";
 
-#[test]
-fn a_full_count(rt: HostRuntime) -> Result<(), Fail> {
-    play::<Bytes, ThreeHolders>(
-        rt.alloc(),
-        &[
-            (0, Step::Of(DIGITS)),
-            (1, Step::CloneOf(0)),
-            (2, Step::CloneOf(0)),
-            (0, Step::NoClone(Refusal::Count)),
-            (1, Step::New),
-            (3, Step::CloneOf(0)),
-            (0, Step::NoClone(Refusal::Count)),
-            (0, Step::Is(DIGITS)),
-            (2, Step::Is(DIGITS)),
-            (3, Step::Is(DIGITS)),
-        ],
-    )
-}
+const OF_BYTES: &[Session<Step>] = &[(
+    "a full count",
+    &[
+        (0, Step::Of(DIGITS)),
+        (1, Step::CloneOf(0)),
+        (2, Step::CloneOf(0)),
+        (0, Step::NoClone(Refusal::Count)),
+        (1, Step::New),
+        (3, Step::CloneOf(0)),
+        (0, Step::NoClone(Refusal::Count)),
+        (0, Step::Is(DIGITS)),
+        (2, Step::Is(DIGITS)),
+        (3, Step::Is(DIGITS)),
+    ],
+)];
 
-#[test]
-fn a_run_of_a_text_whose_block_is_full(rt: HostRuntime) -> Result<(), Fail> {
-    play_chars::<UTF8, ThreeHolders>(
-        rt.alloc(),
+const OF_STRINGS: &[Session<CharStep>] = &[
+    (
+        "a run of a text whose block is full",
         &[
             (0, CharStep::Any(Step::Of(TWO_WORDS))),
             (1, CharStep::Any(Step::CloneOf(0))),
@@ -42,22 +38,25 @@ fn a_run_of_a_text_whose_block_is_full(rt: HostRuntime) -> Result<(), Fail> {
             (0, CharStep::RefusedRun(Refusal::Count, 11)),
             (0, CharStep::Any(Step::Is(TWO_WORDS))),
         ],
-    )
-}
+    ),
+    (
+        "clones, slices and pops of a text whose block is full",
+        &[
+            (0, CharStep::Any(Step::Of(TWO_WORDS))),
+            (1, CharStep::Any(Step::CloneOf(0))),
+            (2, CharStep::Any(Step::CloneOf(0))),
+            (0, CharStep::Any(Step::NoClone(Refusal::Count))),
+            (3, CharStep::Any(Step::SliceOf(0, 0, 8))),
+            (3, CharStep::Any(Step::Is(b"aaaaaaaa"))),
+            (0, CharStep::Any(Step::PopFront(1))),
+            (0, CharStep::Any(Step::Is(b"aaaaaaaaa bbbbbbbbb"))),
+        ],
+    ),
+];
 
 #[test]
-fn clones_slices_and_pops_of_a_text_whose_block_is_full(rt: HostRuntime) -> Result<(), Fail> {
-    play::<UTF8, ThreeHolders>(
-        rt.alloc(),
-        &[
-            (0, Step::Of(TWO_WORDS)),
-            (1, Step::CloneOf(0)),
-            (2, Step::CloneOf(0)),
-            (0, Step::NoClone(Refusal::Count)),
-            (3, Step::SliceOf(0, 0, 8)),
-            (3, Step::Is(b"aaaaaaaa")),
-            (0, Step::PopFront(1)),
-            (0, Step::Is(b"aaaaaaaaa bbbbbbbbb")),
-        ],
-    )
+fn sessions(rt: HostRuntime) -> Result<(), Fail> {
+    let alloc = rt.alloc();
+    play_each::<Bytes, ThreeHolders, _>(alloc, OF_BYTES)?;
+    play_each::<UTF8, ThreeHolders, _>(alloc, OF_STRINGS)
 }

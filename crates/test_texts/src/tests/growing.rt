@@ -1,10 +1,10 @@
 //! Texts that are pushed onto the text before them in their block.
 
-use crate::tests::characters::{CharStep, play_chars_both};
-use crate::tests::steps::{Step, play_both};
+use crate::tests::characters::CharStep;
+use crate::tests::steps::{Session, Step, play_all};
 use std::alloc::Global;
 use std::test::Fail;
-use tendril::fmt::{Bytes, UTF8, WTF8};
+use tendril::fmt::{Bytes, Format, UTF8, WTF8};
 use tendril::{Atomic, Atomicity, ByteTendril, NonAtomic, Tendril, slice_to_tendril};
 use test_tools::same_at;
 
@@ -14,10 +14,9 @@ const TWENTY: &[u8] = b"01234567890123456789";
 
 const THIRTY: &[u8] = b"012345678901234567890123456789";
 
-#[test]
-fn two_parts_of_one_text(rt: HostRuntime) -> Result<(), Fail> {
-    play_both::<Bytes>(
-        rt.alloc(),
+const OF_BYTES: &[Session<Step>] = &[
+    (
+        "two parts of one text",
         &[
             (0, Step::Of(THIRTY)),
             (1, Step::SliceOf(0, 0, 10)),
@@ -28,13 +27,9 @@ fn two_parts_of_one_text(rt: HostRuntime) -> Result<(), Fail> {
             (2, Step::Shared(true)),
             (2, Step::Is(TWENTY)),
         ],
-    )
-}
-
-#[test]
-fn parts_that_overlap(rt: HostRuntime) -> Result<(), Fail> {
-    play_both::<Bytes>(
-        rt.alloc(),
+    ),
+    (
+        "parts that overlap",
         &[
             (0, Step::Of(b"aaaaaaaaaaaaaaaaaaaa")),
             (1, Step::SliceOf(0, 0, 9)),
@@ -43,13 +38,9 @@ fn parts_that_overlap(rt: HostRuntime) -> Result<(), Fail> {
             (1, Step::Is(b"aaaaaaaaaaaaaaaaaa")),
             (1, Step::Shared(true)),
         ],
-    )
-}
-
-#[test]
-fn equal_bytes_that_stand_elsewhere(rt: HostRuntime) -> Result<(), Fail> {
-    play_both::<Bytes>(
-        rt.alloc(),
+    ),
+    (
+        "equal bytes that stand elsewhere",
         &[
             (0, Step::Of(TWENTY)),
             (1, Step::Of(TEN)),
@@ -60,14 +51,10 @@ fn equal_bytes_that_stand_elsewhere(rt: HostRuntime) -> Result<(), Fail> {
             (3, Step::Shared(true)),
             (2, Step::Is(TEN)),
         ],
-    )
-}
-
-// The text isn't marked shared, though the other is, and the bytes behind its end in its block are equal.
-#[test]
-fn equal_bytes_onto_an_unmarked_text(rt: HostRuntime) -> Result<(), Fail> {
-    play_both::<Bytes>(
-        rt.alloc(),
+    ),
+    // The text isn't marked shared, though the other is, and the bytes behind its end in its block are equal.
+    (
+        "equal bytes onto an unmarked text",
         &[
             (0, Step::Of(TEN)),
             (1, Step::Of(TEN)),
@@ -85,14 +72,10 @@ fn equal_bytes_onto_an_unmarked_text(rt: HostRuntime) -> Result<(), Fail> {
             (3, Step::Shared(false)),
             (2, Step::Is(TEN)),
         ],
-    )
-}
-
-// The other isn't marked shared, or bytes are pushed, and they equal those behind the text in its block.
-#[test]
-fn an_unmarked_texts_bytes_onto_a_shared_text(rt: HostRuntime) -> Result<(), Fail> {
-    play_both::<Bytes>(
-        rt.alloc(),
+    ),
+    // The other isn't marked shared, or bytes are pushed, and they equal those behind the text in its block.
+    (
+        "an unmarked texts bytes onto a shared text",
         &[
             (0, Step::Of(THIRTY)),
             (1, Step::SliceOf(0, 0, 10)),
@@ -109,27 +92,9 @@ fn an_unmarked_texts_bytes_onto_a_shared_text(rt: HostRuntime) -> Result<(), Fai
             (0, Step::Shared(true)),
             (0, Step::Is(THIRTY)),
         ],
-    )
-}
-
-#[test]
-fn a_run_and_its_rest(rt: HostRuntime) -> Result<(), Fail> {
-    play_chars_both::<UTF8>(
-        rt.alloc(),
-        &[
-            (0, CharStep::Any(Step::Of(b"aaaaaaaaaa bbbbbbbbb"))),
-            (0, CharStep::RunByName(1, false)),
-            (1, CharStep::Any(Step::PushText(0))),
-            (1, CharStep::Any(Step::Is(b"aaaaaaaaaa bbbbbbbbb"))),
-            (1, CharStep::Any(Step::Shared(true))),
-        ],
-    )
-}
-
-#[test]
-fn a_short_text_behind_a_part(rt: HostRuntime) -> Result<(), Fail> {
-    play_both::<Bytes>(
-        rt.alloc(),
+    ),
+    (
+        "a short text behind a part",
         &[
             (0, Step::Of(THIRTY)),
             (1, Step::SliceOf(0, 0, 10)),
@@ -138,13 +103,9 @@ fn a_short_text_behind_a_part(rt: HostRuntime) -> Result<(), Fail> {
             (1, Step::Is(b"0123456789abcd")),
             (1, Step::Shared(false)),
         ],
-    )
-}
-
-#[test]
-fn up_to_the_end_of_the_block_and_past_it(rt: HostRuntime) -> Result<(), Fail> {
-    play_both::<Bytes>(
-        rt.alloc(),
+    ),
+    (
+        "up to the end of the block and past it",
         &[
             (0, Step::Of(THIRTY)),
             (1, Step::SliceOf(0, 0, 20)),
@@ -162,13 +123,9 @@ fn up_to_the_end_of_the_block_and_past_it(rt: HostRuntime) -> Result<(), Fail> {
             (5, Step::Shared(false)),
             (4, Step::Len(11)),
         ],
-    )
-}
-
-#[test]
-fn beside_a_third_part_that_is_written(rt: HostRuntime) -> Result<(), Fail> {
-    play_both::<Bytes>(
-        rt.alloc(),
+    ),
+    (
+        "beside a third part that is written",
         &[
             (0, Step::Of(THIRTY)),
             (1, Step::SliceOf(0, 0, 10)),
@@ -182,7 +139,25 @@ fn beside_a_third_part_that_is_written(rt: HostRuntime) -> Result<(), Fail> {
             (0, Step::Is(THIRTY)),
             (2, Step::Is(b"--------------------!")),
         ],
-    )
+    ),
+];
+
+const OF_CHARACTERS: &[Session<CharStep>] = &[(
+    "a run and its rest",
+    &[
+        (0, CharStep::Any(Step::Of(b"aaaaaaaaaa bbbbbbbbb"))),
+        (0, CharStep::RunByName(1, false)),
+        (1, CharStep::Any(Step::PushText(0))),
+        (1, CharStep::Any(Step::Is(b"aaaaaaaaaa bbbbbbbbb"))),
+        (1, CharStep::Any(Step::Shared(true))),
+    ],
+)];
+
+#[test]
+fn sessions(rt: HostRuntime) -> Result<(), Fail> {
+    let alloc = rt.alloc();
+    play_all::<Bytes, _>(alloc, OF_BYTES)?;
+    play_all::<UTF8, _>(alloc, OF_CHARACTERS)
 }
 
 // A slice that is valid as WTF-8.
@@ -200,22 +175,39 @@ fn wtf8_slice<A: Atomicity>(
     }
 }
 
-fn halves_of_a_pair<A: Atomicity>(alloc: Global, bytes: &[u8]) -> Result<(), Fail> {
-    let text: ByteTendril<A> = slice_to_tendril(alloc, bytes)?;
+const HALVES: &[u8] = b"aaaaaa\xED\xA0\xBD\xED\xB2\xA9aaaaaa";
+
+const PAIR: &[u8] = b"aaaaaa\xF0\x9F\x92\xA9aaaaaa";
+
+// A text of these bytes, which is marked shared or isn't.
+fn is<F: Format, A: Atomicity>(
+    row: usize,
+    text: &Tendril<F, A>,
+    bytes: &[u8],
+    shared: bool,
+) -> Result<(), Fail> {
+    same_at(
+        row,
+        (text.as_byte_slice(), text.is_shared()),
+        (bytes, shared),
+    )
+}
+
+fn halves_of_a_pair<A: Atomicity>(alloc: Global) -> Result<(), Fail> {
+    let text: ByteTendril<A> = slice_to_tendril(alloc, HALVES)?;
     let mut front = wtf8_slice(&text, 0, 9)?;
     let behind = wtf8_slice(&text, 9, 9)?;
-    same_at(0, front.is_shared(), true)?;
-    same_at(1, behind.is_shared(), true)?;
+    is(0, &front, b"aaaaaa\xED\xA0\xBD", true)?;
+    is(1, &behind, b"\xED\xB2\xA9aaaaaa", true)?;
     front.push_tendril(&behind)?;
-    same_at(2, front.as_byte_slice(), b"aaaaaa\xF0\x9F\x92\xA9aaaaaa")?;
-    same_at(3, front.is_shared(), false)?;
-    same_at(4, behind.as_byte_slice(), b"\xED\xB2\xA9aaaaaa")?;
-    same_at(5, text.as_byte_slice(), bytes)
+    is(2, &front, PAIR, false)?;
+    is(3, &behind, b"\xED\xB2\xA9aaaaaa", true)?;
+    is(4, &text, HALVES, true)
 }
 
 #[test]
 fn halves_of_a_pair_in_one_block(rt: HostRuntime) -> Result<(), Fail> {
-    let bytes = b"aaaaaa\xED\xA0\xBD\xED\xB2\xA9aaaaaa";
-    halves_of_a_pair::<NonAtomic>(rt.alloc(), bytes)?;
-    halves_of_a_pair::<Atomic>(rt.alloc(), bytes)
+    let alloc = rt.alloc();
+    halves_of_a_pair::<NonAtomic>(alloc)?;
+    halves_of_a_pair::<Atomic>(alloc)
 }

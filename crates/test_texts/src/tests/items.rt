@@ -2,11 +2,44 @@
 ghost use Rattle.std.specs.Prelude.{◌^◌, ◌-◌, ◌+◌};
 ghost use Rattle.std.specs.Iterator.{at_most};
 
+use crate::tests::kinds::{Check, check_both};
 use std::alloc::Global;
 use std::test::Fail;
 use tendril::fmt::{Format, WTF8};
 use tendril::{Atomic, Atomicity, ByteTendril, NonAtomic, StrTendril, Tendril};
 use test_tools::same;
+
+/// What is checked over both kinds of block.
+#[derive(Clone, Copy)]
+enum Case {
+    Strings,
+    Characters,
+    Bytes,
+    LentBytes,
+    Slices,
+    Texts,
+    Surrogates,
+    Nothing,
+    Million,
+    Boasts,
+}
+
+impl Check for Case {
+    fn check<A: Atomicity>(self, alloc: Global) -> Result<(), Fail> {
+        match self {
+            Case::Strings => of_strings::<A>(alloc),
+            Case::Characters => of_characters::<A>(alloc),
+            Case::Bytes => of_bytes::<A>(alloc),
+            Case::LentBytes => of_lent_bytes::<A>(alloc, b"xyz"),
+            Case::Slices => of_slices::<A>(alloc),
+            Case::Texts => of_texts::<A>(alloc),
+            Case::Surrogates => of_surrogates::<A>(alloc),
+            Case::Nothing => of_nothing::<A>(alloc),
+            Case::Million => of_a_million::<A>(alloc),
+            Case::Boasts => of_boasts::<A>(alloc),
+        }
+    }
+}
 
 fn is<F: Format, A: Atomicity>(text: &Tendril<F, A>, due: &[u8]) -> Result<(), Fail> {
     same(text.as_byte_slice(), due)
@@ -21,8 +54,7 @@ fn of_strings<A: Atomicity>(alloc: Global) -> Result<(), Fail> {
 
 #[test]
 fn a_text_of_strings(rt: HostRuntime) -> Result<(), Fail> {
-    of_strings::<NonAtomic>(rt.alloc())?;
-    of_strings::<Atomic>(rt.alloc())
+    check_both(rt.alloc(), Case::Strings)
 }
 
 fn of_characters<A: Atomicity>(alloc: Global) -> Result<(), Fail> {
@@ -34,8 +66,7 @@ fn of_characters<A: Atomicity>(alloc: Global) -> Result<(), Fail> {
 
 #[test]
 fn a_text_of_characters(rt: HostRuntime) -> Result<(), Fail> {
-    of_characters::<NonAtomic>(rt.alloc())?;
-    of_characters::<Atomic>(rt.alloc())
+    check_both(rt.alloc(), Case::Characters)
 }
 
 fn of_bytes<A: Atomicity>(alloc: Global) -> Result<(), Fail> {
@@ -47,8 +78,7 @@ fn of_bytes<A: Atomicity>(alloc: Global) -> Result<(), Fail> {
 
 #[test]
 fn a_text_of_bytes(rt: HostRuntime) -> Result<(), Fail> {
-    of_bytes::<NonAtomic>(rt.alloc())?;
-    of_bytes::<Atomic>(rt.alloc())
+    check_both(rt.alloc(), Case::Bytes)
 }
 
 fn of_lent_bytes<A: Atomicity>(alloc: Global, bytes: &[u8]) -> Result<(), Fail> {
@@ -60,8 +90,7 @@ fn of_lent_bytes<A: Atomicity>(alloc: Global, bytes: &[u8]) -> Result<(), Fail> 
 
 #[test]
 fn a_text_of_bytes_that_are_lent(rt: HostRuntime) -> Result<(), Fail> {
-    of_lent_bytes::<NonAtomic>(rt.alloc(), b"xyz")?;
-    of_lent_bytes::<Atomic>(rt.alloc(), b"xyz")
+    check_both(rt.alloc(), Case::LentBytes)
 }
 
 fn of_slices<A: Atomicity>(alloc: Global) -> Result<(), Fail> {
@@ -74,8 +103,7 @@ fn of_slices<A: Atomicity>(alloc: Global) -> Result<(), Fail> {
 
 #[test]
 fn a_text_of_slices(rt: HostRuntime) -> Result<(), Fail> {
-    of_slices::<NonAtomic>(rt.alloc())?;
-    of_slices::<Atomic>(rt.alloc())
+    check_both(rt.alloc(), Case::Slices)
 }
 
 // Texts of one format, one for each of these.
@@ -100,8 +128,7 @@ fn of_texts<A: Atomicity>(alloc: Global) -> Result<(), Fail> {
 
 #[test]
 fn a_text_of_texts(rt: HostRuntime) -> Result<(), Fail> {
-    of_texts::<NonAtomic>(rt.alloc())?;
-    of_texts::<Atomic>(rt.alloc())
+    check_both(rt.alloc(), Case::Texts)
 }
 
 fn of_surrogates<A: Atomicity>(alloc: Global) -> Result<(), Fail> {
@@ -114,8 +141,7 @@ fn of_surrogates<A: Atomicity>(alloc: Global) -> Result<(), Fail> {
 
 #[test]
 fn surrogates_of_two_items_meet(rt: HostRuntime) -> Result<(), Fail> {
-    of_surrogates::<NonAtomic>(rt.alloc())?;
-    of_surrogates::<Atomic>(rt.alloc())
+    check_both(rt.alloc(), Case::Surrogates)
 }
 
 fn of_nothing<A: Atomicity>(alloc: Global) -> Result<(), Fail> {
@@ -128,8 +154,7 @@ fn of_nothing<A: Atomicity>(alloc: Global) -> Result<(), Fail> {
 
 #[test]
 fn no_items(rt: HostRuntime) -> Result<(), Fail> {
-    of_nothing::<NonAtomic>(rt.alloc())?;
-    of_nothing::<Atomic>(rt.alloc())
+    check_both(rt.alloc(), Case::Nothing)
 }
 
 fn leave_a_clone<A: Atomicity>(mut text: ByteTendril<A>) -> Result<(), Fail> {
@@ -141,8 +166,9 @@ fn leave_a_clone<A: Atomicity>(mut text: ByteTendril<A>) -> Result<(), Fail> {
 
 #[test]
 fn items_leave_a_clone(rt: HostRuntime) -> Result<(), Fail> {
-    leave_a_clone(ByteTendril::<NonAtomic>::from_slice(rt.alloc(), b"0123456789")?)?;
-    leave_a_clone(ByteTendril::<Atomic>::from_slice(rt.alloc(), b"0123456789")?)
+    let alloc = rt.alloc();
+    leave_a_clone(ByteTendril::<NonAtomic>::from_slice(alloc, b"0123456789")?)?;
+    leave_a_clone(ByteTendril::<Atomic>::from_slice(alloc, b"0123456789")?)
 }
 
 // The bytes from 0 to 250, again and again.
@@ -166,8 +192,7 @@ fn of_a_million<A: Atomicity>(alloc: Global) -> Result<(), Fail> {
 
 #[test]
 fn a_million_items(rt: HostRuntime) -> Result<(), Fail> {
-    of_a_million::<NonAtomic>(rt.alloc())?;
-    of_a_million::<Atomic>(rt.alloc())
+    check_both(rt.alloc(), Case::Million)
 }
 
 // An iterator that gives few bytes, and hints at more than a text can have.
@@ -203,6 +228,5 @@ fn of_boasts<A: Atomicity>(alloc: Global) -> Result<(), Fail> {
 
 #[test]
 fn a_hint_decides_nothing(rt: HostRuntime) -> Result<(), Fail> {
-    of_boasts::<NonAtomic>(rt.alloc())?;
-    of_boasts::<Atomic>(rt.alloc())
+    check_both(rt.alloc(), Case::Boasts)
 }

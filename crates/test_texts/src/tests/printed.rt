@@ -1,5 +1,6 @@
 //! What Display and Debug print.
 
+use crate::tests::kinds::{Check, check_both};
 use std::alloc::{AllocError, Global};
 use std::fmt::{Debug, Display, Write};
 use std::test::Fail;
@@ -7,6 +8,30 @@ use tendril::{
     Atomic, Atomicity, ByteTendril, NonAtomic, StrTendril, slice_to_tendril, str_to_tendril,
 };
 use test_tools::{same, same_at};
+
+/// What is checked over both kinds of block.
+#[derive(Clone, Copy)]
+enum Case {
+    WidthsAndFills,
+    Writer,
+    InlineStrings,
+    InlineBytes,
+    LongText,
+    LongBytes,
+}
+
+impl Check for Case {
+    fn check<A: Atomicity>(self, alloc: Global) -> Result<(), Fail> {
+        match self {
+            Case::WidthsAndFills => print_so::<A>(alloc, WIDTHS_AND_FILLS),
+            Case::Writer => written_to_a_string::<A>(alloc),
+            Case::InlineStrings => strings_debug_so::<A>(alloc, INLINE),
+            Case::InlineBytes => bytes_debug_so::<A>(alloc, b"foobar", INLINE_BYTES),
+            Case::LongText => long_text_debugs_so::<A>(alloc),
+            Case::LongBytes => long_bytes_debug_so::<A>(alloc),
+        }
+    }
+}
 
 #[derive(Clone, Copy)]
 enum Style {
@@ -77,16 +102,16 @@ fn print_so<A: Atomicity>(alloc: Global, rows: &[(&str, Style, &str)]) -> Result
     Ok(())
 }
 
+const WIDTHS_AND_FILLS: &[(&str, Style, &str)] = &[
+    ("foobar", Right, "      foobar"),
+    ("foobar", Dashed, "<foobar------>"),
+    ("foobar", Cut, "<______fo>"),
+    ("anextralongstring", Right, "anextralongstring"),
+];
+
 #[test]
 fn widths_and_fills(rt: HostRuntime) -> Result<(), Fail> {
-    let rows = [
-        ("foobar", Right, "      foobar"),
-        ("foobar", Dashed, "<foobar------>"),
-        ("foobar", Cut, "<______fo>"),
-        ("anextralongstring", Right, "anextralongstring"),
-    ];
-    print_so::<NonAtomic>(rt.alloc(), &rows)?;
-    print_so::<Atomic>(rt.alloc(), &rows)
+    check_both(rt.alloc(), Case::WidthsAndFills)
 }
 
 fn written_to_a_string<A: Atomicity>(alloc: Global) -> Result<(), Fail> {
@@ -98,8 +123,7 @@ fn written_to_a_string<A: Atomicity>(alloc: Global) -> Result<(), Fail> {
 
 #[test]
 fn a_text_is_written_to_a_writer(rt: HostRuntime) -> Result<(), Fail> {
-    written_to_a_string::<NonAtomic>(rt.alloc())?;
-    written_to_a_string::<Atomic>(rt.alloc())
+    check_both(rt.alloc(), Case::Writer)
 }
 
 fn debugs<T: Debug>(alloc: Global, row: usize, value: &T, due: &str) -> Result<(), Fail> {
@@ -118,21 +142,22 @@ fn bytes_debug_so<A: Atomicity>(alloc: Global, bytes: &[u8], due: &str) -> Resul
     debugs(alloc, 0, &slice_to_tendril::<A>(alloc, bytes)?, due)
 }
 
+const INLINE: &[(&str, &str)] = &[
+    ("", "Tendril<UTF8>(inline: \"\")"),
+    ("foobar", "Tendril<UTF8>(inline: \"foobar\")"),
+    (
+        "a\"\n\u{4e2d}",
+        "Tendril<UTF8>(inline: \"a\\\"\\n\u{4e2d}\")",
+    ),
+];
+
+const INLINE_BYTES: &str = "Tendril<Bytes>(inline: [102, 111, 111, 98, 97, 114])";
+
 #[test]
 fn debug_of_inline_texts(rt: HostRuntime) -> Result<(), Fail> {
-    let rows = [
-        ("", "Tendril<UTF8>(inline: \"\")"),
-        ("foobar", "Tendril<UTF8>(inline: \"foobar\")"),
-        (
-            "a\"\n\u{4e2d}",
-            "Tendril<UTF8>(inline: \"a\\\"\\n\u{4e2d}\")",
-        ),
-    ];
-    strings_debug_so::<NonAtomic>(rt.alloc(), &rows)?;
-    strings_debug_so::<Atomic>(rt.alloc(), &rows)?;
-    let due = "Tendril<Bytes>(inline: [102, 111, 111, 98, 97, 114])";
-    bytes_debug_so::<NonAtomic>(rt.alloc(), b"foobar", due)?;
-    bytes_debug_so::<Atomic>(rt.alloc(), b"foobar", due)
+    let alloc = rt.alloc();
+    check_both(alloc, Case::InlineStrings)?;
+    check_both(alloc, Case::InlineBytes)
 }
 
 // A long text is owned, and it and its clone are shared.
@@ -161,8 +186,7 @@ fn long_text_debugs_so<A: Atomicity>(alloc: Global) -> Result<(), Fail> {
 
 #[test]
 fn debug_of_long_texts(rt: HostRuntime) -> Result<(), Fail> {
-    long_text_debugs_so::<NonAtomic>(rt.alloc())?;
-    long_text_debugs_so::<Atomic>(rt.alloc())
+    check_both(rt.alloc(), Case::LongText)
 }
 
 // A long text is owned, shared beside a clone, and owned again after a push.
@@ -192,6 +216,5 @@ fn long_bytes_debug_so<A: Atomicity>(alloc: Global) -> Result<(), Fail> {
 
 #[test]
 fn debug_of_long_byte_texts(rt: HostRuntime) -> Result<(), Fail> {
-    long_bytes_debug_so::<NonAtomic>(rt.alloc())?;
-    long_bytes_debug_so::<Atomic>(rt.alloc())
+    check_both(rt.alloc(), Case::LongBytes)
 }

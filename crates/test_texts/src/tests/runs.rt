@@ -1,7 +1,8 @@
 //! Characters of texts, and runs of them: pushes, pops, and how often a classifier is asked.
 
-use crate::tests::characters::{CharStep, play_chars_both};
-use crate::tests::steps::Step;
+use crate::tests::characters::CharStep;
+use crate::tests::kinds::{Check, check_both};
+use crate::tests::steps::{Session, Step, play_all, play_both};
 use std::alloc::Global;
 use std::test::Fail;
 use tendril::block::Refusal;
@@ -9,12 +10,11 @@ use tendril::fmt::{ASCII, Latin1, UTF8};
 use tendril::{Atomic, Atomicity, NonAtomic, StrTendril, Tendril, str_to_tendril};
 use test_tools::{same, same_at};
 
-#[test]
-fn characters_one_by_one(rt: HostRuntime) -> Result<(), Fail> {
-    play_chars_both::<UTF8>(
-        rt.alloc(),
+const OF_UTF8: &[Session<CharStep>] = &[
+    (
+        "characters one by one",
         &[
-            (0, CharStep::Any(Step::Of("f\u{151}o-".as_bytes()))),
+            (0, CharStep::Any(Step::OfString("f\u{151}o-"))),
             (0, CharStep::PopChar(Some('f'))),
             (0, CharStep::PopChar(Some('\u{151}'))),
             (0, CharStep::PopChar(Some('o'))),
@@ -22,44 +22,32 @@ fn characters_one_by_one(rt: HostRuntime) -> Result<(), Fail> {
             (0, CharStep::PopChar(None)),
             (0, CharStep::Any(Step::Len(0))),
         ],
-    )
-}
-
-#[test]
-fn a_pop_of_a_character_leaves_a_clone(rt: HostRuntime) -> Result<(), Fail> {
-    play_chars_both::<UTF8>(
-        rt.alloc(),
+    ),
+    (
+        "a pop of a character leaves a clone",
         &[
-            (0, CharStep::Any(Step::Of("\u{4e2d}0123456789".as_bytes()))),
+            (0, CharStep::Any(Step::OfString("\u{4e2d}0123456789"))),
             (1, CharStep::Any(Step::CloneOf(0))),
             (0, CharStep::PopChar(Some('\u{4e2d}'))),
             (0, CharStep::Any(Step::Is(b"0123456789"))),
-            (1, CharStep::Any(Step::Is("\u{4e2d}0123456789".as_bytes()))),
+            (1, CharStep::Any(Step::IsString("\u{4e2d}0123456789"))),
         ],
-    )
-}
-
-#[test]
-fn a_run_of_one_character(rt: HostRuntime) -> Result<(), Fail> {
-    play_chars_both::<UTF8>(
-        rt.alloc(),
+    ),
+    (
+        "a run of one character",
         &[
-            (0, CharStep::Any(Step::Of("\u{4e2d} ".as_bytes()))),
+            (0, CharStep::Any(Step::OfString("\u{4e2d} "))),
             (0, CharStep::Run(1, false, 2)),
-            (1, CharStep::Any(Step::Is("\u{4e2d}".as_bytes()))),
+            (1, CharStep::Any(Step::IsString("\u{4e2d}"))),
             (0, CharStep::Any(Step::Is(b" "))),
             // A function serves as well.
             (0, CharStep::RunByName(2, true)),
             (2, CharStep::Any(Step::Is(b" "))),
             (0, CharStep::Any(Step::Len(0))),
         ],
-    )
-}
-
-#[test]
-fn runs_until_the_text_is_empty(rt: HostRuntime) -> Result<(), Fail> {
-    play_chars_both::<UTF8>(
-        rt.alloc(),
+    ),
+    (
+        "runs until the text is empty",
         &[
             (0, CharStep::Any(Step::Of(b"   xyzzy  "))),
             (0, CharStep::Run(1, true, 4)),
@@ -71,7 +59,99 @@ fn runs_until_the_text_is_empty(rt: HostRuntime) -> Result<(), Fail> {
             (0, CharStep::NoRun),
             (0, CharStep::Any(Step::Len(0))),
         ],
-    )
+    ),
+    (
+        "a run over the whole text",
+        &[
+            (0, CharStep::Any(Step::OfString("abcdefghijklmno\u{151}"))),
+            (0, CharStep::Run(1, false, 16)),
+            (1, CharStep::Any(Step::IsString("abcdefghijklmno\u{151}"))),
+            (0, CharStep::Any(Step::Len(0))),
+        ],
+    ),
+    (
+        "long parts share",
+        &[
+            (0, CharStep::Any(Step::Of(b"0123456789          "))),
+            (0, CharStep::Run(1, false, 11)),
+            (1, CharStep::Any(Step::Shared(true))),
+            (0, CharStep::Any(Step::Shared(true))),
+            // A push onto the run leaves the rest, and one onto the rest the run.
+            (1, CharStep::PushChar('!')),
+            (0, CharStep::PushChar('?')),
+            (1, CharStep::Any(Step::Is(b"0123456789!"))),
+            (0, CharStep::Any(Step::Is(b"          ?"))),
+        ],
+    ),
+    (
+        "a long run and a long rest",
+        &[
+            (0, CharStep::Any(Step::Of(b"aaaaaaaaa         "))),
+            (0, CharStep::Run(1, false, 10)),
+            (1, CharStep::Any(Step::Shared(true))),
+            (0, CharStep::Any(Step::Shared(true))),
+        ],
+    ),
+];
+
+const OF_LATIN1: &[Session<CharStep>] = &[(
+    "characters that latin1 has",
+    &[
+        (0, CharStep::PushChar('x')),
+        (0, CharStep::PushChar('\0')),
+        (0, CharStep::PushChar('\u{a0}')),
+        (0, CharStep::NoPushChar('\u{151}')),
+        (0, CharStep::NoPushChar('\u{100}')),
+        (0, CharStep::Any(Step::Is(b"\x78\x00\xa0"))),
+        (0, CharStep::PopChar(Some('x'))),
+        (0, CharStep::PopChar(Some('\0'))),
+        (0, CharStep::PopChar(Some('\u{a0}'))),
+        (0, CharStep::PushChar('\u{ff}')),
+        (0, CharStep::Any(Step::Is(b"\xff"))),
+    ],
+)];
+
+const OF_ASCII: &[Session<CharStep>] = &[(
+    "characters that ascii has",
+    &[
+        (0, CharStep::PushChar('x')),
+        (0, CharStep::PushChar('\0')),
+        (0, CharStep::PushChar('\u{7f}')),
+        (0, CharStep::NoPushChar('\u{80}')),
+        (0, CharStep::Any(Step::Is(b"\x78\x00\x7f"))),
+        (0, CharStep::PopChar(Some('x'))),
+        (0, CharStep::PopChar(Some('\0'))),
+        (0, CharStep::PopChar(Some('\u{7f}'))),
+        (0, CharStep::PopChar(None)),
+    ],
+)];
+
+/// What is checked over both kinds of block.
+#[derive(Clone, Copy)]
+enum Case {
+    Digits,
+    Words,
+    EachLength,
+    TwentyPushes,
+}
+
+impl Check for Case {
+    fn check<A: Atomicity>(self, alloc: Global) -> Result<(), Fail> {
+        match self {
+            Case::Digits => check_runs_of_digits::<A>(alloc),
+            Case::Words => check_words::<A>(alloc),
+            Case::EachLength => check_characters_of_each_length::<A>(alloc),
+            Case::TwentyPushes => check_twenty_pushes::<A>(alloc),
+        }
+    }
+}
+
+#[test]
+fn sessions(rt: HostRuntime) -> Result<(), Fail> {
+    let alloc = rt.alloc();
+    play_all::<UTF8, _>(alloc, OF_UTF8)?;
+    play_all::<Latin1, _>(alloc, OF_LATIN1)?;
+    play_all::<ASCII, _>(alloc, OF_ASCII)
 }
 
 // Takes the first run of one digit, or of other characters than digits.
@@ -101,8 +181,7 @@ fn check_runs_of_digits<A: Atomicity>(alloc: Global) -> Result<(), Fail> {
 
 #[test]
 fn runs_of_one_answer_among_many(rt: HostRuntime) -> Result<(), Fail> {
-    check_runs_of_digits::<NonAtomic>(rt.alloc())?;
-    check_runs_of_digits::<Atomic>(rt.alloc())
+    check_both(rt.alloc(), Case::Digits)
 }
 
 // As in the README of `tendril`.
@@ -135,8 +214,7 @@ fn check_words<A: Atomicity>(alloc: Global) -> Result<(), Fail> {
 
 #[test]
 fn words_of_a_line(rt: HostRuntime) -> Result<(), Fail> {
-    check_words::<NonAtomic>(rt.alloc())?;
-    check_words::<Atomic>(rt.alloc())
+    check_both(rt.alloc(), Case::Words)
 }
 
 const LETTERS: [(&[u8], u32); 3] = [(b"aaaaaaa", 7), (b"aaaaaaaa", 8), (b"aaaaaaaaa", 9)];
@@ -153,8 +231,9 @@ const SPACES: [(&[u8], u32); 4] = [
 fn runs_and_rests_round_the_inline_length(rt: HostRuntime) -> Result<(), Fail> {
     for (letters, asked) in LETTERS {
         for (spaces, once_more) in SPACES {
-            play_chars_both::<UTF8>(
+            play_both::<UTF8, _>(
                 rt.alloc(),
+                "runs and rests round the inline length",
                 &[
                     (0, CharStep::Any(Step::Of(letters))),
                     (0, CharStep::Any(Step::Push(spaces))),
@@ -165,91 +244,7 @@ fn runs_and_rests_round_the_inline_length(rt: HostRuntime) -> Result<(), Fail> {
             )?;
         }
     }
-    // Where both are long.
-    play_chars_both::<UTF8>(
-        rt.alloc(),
-        &[
-            (0, CharStep::Any(Step::Of(b"aaaaaaaaa         "))),
-            (0, CharStep::Run(1, false, 10)),
-            (1, CharStep::Any(Step::Shared(true))),
-            (0, CharStep::Any(Step::Shared(true))),
-        ],
-    )
-}
-
-#[test]
-fn a_run_over_the_whole_text(rt: HostRuntime) -> Result<(), Fail> {
-    play_chars_both::<UTF8>(
-        rt.alloc(),
-        &[
-            (
-                0,
-                CharStep::Any(Step::Of("abcdefghijklmno\u{151}".as_bytes())),
-            ),
-            (0, CharStep::Run(1, false, 16)),
-            (
-                1,
-                CharStep::Any(Step::Is("abcdefghijklmno\u{151}".as_bytes())),
-            ),
-            (0, CharStep::Any(Step::Len(0))),
-        ],
-    )
-}
-
-#[test]
-fn long_parts_share(rt: HostRuntime) -> Result<(), Fail> {
-    play_chars_both::<UTF8>(
-        rt.alloc(),
-        &[
-            (0, CharStep::Any(Step::Of(b"0123456789          "))),
-            (0, CharStep::Run(1, false, 11)),
-            (1, CharStep::Any(Step::Shared(true))),
-            (0, CharStep::Any(Step::Shared(true))),
-            // A push onto the run leaves the rest, and one onto the rest the run.
-            (1, CharStep::PushChar('!')),
-            (0, CharStep::PushChar('?')),
-            (1, CharStep::Any(Step::Is(b"0123456789!"))),
-            (0, CharStep::Any(Step::Is(b"          ?"))),
-        ],
-    )
-}
-
-#[test]
-fn characters_that_latin1_has(rt: HostRuntime) -> Result<(), Fail> {
-    play_chars_both::<Latin1>(
-        rt.alloc(),
-        &[
-            (0, CharStep::PushChar('x')),
-            (0, CharStep::PushChar('\0')),
-            (0, CharStep::PushChar('\u{a0}')),
-            (0, CharStep::NoPushChar('\u{151}')),
-            (0, CharStep::NoPushChar('\u{100}')),
-            (0, CharStep::Any(Step::Is(b"\x78\x00\xa0"))),
-            (0, CharStep::PopChar(Some('x'))),
-            (0, CharStep::PopChar(Some('\0'))),
-            (0, CharStep::PopChar(Some('\u{a0}'))),
-            (0, CharStep::PushChar('\u{ff}')),
-            (0, CharStep::Any(Step::Is(b"\xff"))),
-        ],
-    )
-}
-
-#[test]
-fn characters_that_ascii_has(rt: HostRuntime) -> Result<(), Fail> {
-    play_chars_both::<ASCII>(
-        rt.alloc(),
-        &[
-            (0, CharStep::PushChar('x')),
-            (0, CharStep::PushChar('\0')),
-            (0, CharStep::PushChar('\u{7f}')),
-            (0, CharStep::NoPushChar('\u{80}')),
-            (0, CharStep::Any(Step::Is(b"\x78\x00\x7f"))),
-            (0, CharStep::PopChar(Some('x'))),
-            (0, CharStep::PopChar(Some('\0'))),
-            (0, CharStep::PopChar(Some('\u{7f}'))),
-            (0, CharStep::PopChar(None)),
-        ],
-    )
+    Ok(())
 }
 
 // A text of one character, which is popped and pushed.
@@ -286,8 +281,7 @@ fn check_characters_of_each_length<A: Atomicity>(alloc: Global) -> Result<(), Fa
 
 #[test]
 fn characters_of_one_to_four_bytes(rt: HostRuntime) -> Result<(), Fail> {
-    check_characters_of_each_length::<NonAtomic>(rt.alloc())?;
-    check_characters_of_each_length::<Atomic>(rt.alloc())
+    check_both(rt.alloc(), Case::EachLength)
 }
 
 fn check_twenty_pushes<A: Atomicity>(alloc: Global) -> Result<(), Fail> {
@@ -307,8 +301,7 @@ fn check_twenty_pushes<A: Atomicity>(alloc: Global) -> Result<(), Fail> {
 
 #[test]
 fn twenty_pushes_leave_a_clone(rt: HostRuntime) -> Result<(), Fail> {
-    check_twenty_pushes::<NonAtomic>(rt.alloc())?;
-    check_twenty_pushes::<Atomic>(rt.alloc())
+    check_both(rt.alloc(), Case::TwentyPushes)
 }
 
 // Pushes a character onto an empty text, and pops it.

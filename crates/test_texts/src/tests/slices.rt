@@ -1,12 +1,12 @@
 //! Slices and pops of texts.
 
-use crate::tests::steps::{Step, play_both};
+use crate::tests::kinds::{Check, check_both};
+use crate::tests::steps::{Session, Step, play_all};
 use std::alloc::Global;
 use std::test::Fail;
 use tendril::fmt::{Format, UTF8, WTF8};
 use tendril::{
-    Atomic, Atomicity, ByteTendril, NonAtomic, StrTendril, SubtendrilError, slice_to_tendril,
-    str_to_tendril,
+    Atomicity, ByteTendril, StrTendril, SubtendrilError, slice_to_tendril, str_to_tendril,
 };
 use test_tools::{same, same_at};
 
@@ -14,76 +14,89 @@ const OUTSIDE: SubtendrilError = SubtendrilError::OutOfBounds;
 
 const INVALID: SubtendrilError = SubtendrilError::ValidationFailed;
 
-#[test]
-fn slices_of_a_character(rt: HostRuntime) -> Result<(), Fail> {
-    play_both::<UTF8>(
-        rt.alloc(),
+const OF_UTF8: &[Session<Step>] = &[
+    (
+        "slices of a character",
         &[
-            (0, Step::Of("\u{a66e}".as_bytes())),
+            (0, Step::OfString("\u{a66e}")),
             (1, Step::SliceOf(0, 1, 0)),
             (1, Step::Len(0)),
             (0, Step::NoSlice(4, 0, OUTSIDE)),
             (0, Step::NoSlice(0, 2, INVALID)),
         ],
-    )
-}
-
-#[test]
-fn slices_between_surrogates(rt: HostRuntime) -> Result<(), Fail> {
-    play_both::<WTF8>(
-        rt.alloc(),
+    ),
+    (
+        "pops through a character at the front",
         &[
-            (0, Step::Of(b"\xed\xa0\xbd\xea\x99\xae")),
-            (1, Step::SliceOf(0, 0, 3)),
-            (1, Step::Is(b"\xed\xa0\xbd")),
-            (0, Step::NoSlice(0, 1, INVALID)),
-            (0, Step::NoSlice(3, 2, INVALID)),
-            (0, Step::NoSlice(4, 1, INVALID)),
-            (2, Step::SliceOf(0, 2, 0)),
-            (2, Step::Len(0)),
-            (0, Step::NoSlice(6, 1, OUTSIDE)),
-            (0, Step::NoSlice(7, 0, OUTSIDE)),
-        ],
-    )
-}
-
-#[test]
-fn pops_through_a_character_at_the_front(rt: HostRuntime) -> Result<(), Fail> {
-    play_both::<UTF8>(
-        rt.alloc(),
-        &[
-            (0, Step::Of("\u{1f4a9}zzzzzz".as_bytes())),
+            (0, Step::OfString("\u{1f4a9}zzzzzz")),
             (0, Step::NoPopFront(1, INVALID)),
-            (0, Step::Is("\u{1f4a9}zzzzzz".as_bytes())),
+            (0, Step::IsString("\u{1f4a9}zzzzzz")),
             (0, Step::NoPopFront(2, INVALID)),
-            (0, Step::Is("\u{1f4a9}zzzzzz".as_bytes())),
+            (0, Step::IsString("\u{1f4a9}zzzzzz")),
             (0, Step::NoPopFront(3, INVALID)),
-            (0, Step::Is("\u{1f4a9}zzzzzz".as_bytes())),
+            (0, Step::IsString("\u{1f4a9}zzzzzz")),
             (0, Step::PopFront(4)),
             (0, Step::Is(b"zzzzzz")),
         ],
-    )
-}
-
-#[test]
-fn pops_through_a_character_at_the_back(rt: HostRuntime) -> Result<(), Fail> {
-    play_both::<UTF8>(
-        rt.alloc(),
+    ),
+    (
+        "pops through a character at the back",
         &[
-            (0, Step::Of("zzzzzz\u{1f4a9}".as_bytes())),
+            (0, Step::OfString("zzzzzz\u{1f4a9}")),
             (0, Step::NoPopBack(1, INVALID)),
-            (0, Step::Is("zzzzzz\u{1f4a9}".as_bytes())),
+            (0, Step::IsString("zzzzzz\u{1f4a9}")),
             (0, Step::NoPopBack(2, INVALID)),
-            (0, Step::Is("zzzzzz\u{1f4a9}".as_bytes())),
+            (0, Step::IsString("zzzzzz\u{1f4a9}")),
             (0, Step::NoPopBack(3, INVALID)),
-            (0, Step::Is("zzzzzz\u{1f4a9}".as_bytes())),
+            (0, Step::IsString("zzzzzz\u{1f4a9}")),
             (0, Step::PopBack(4)),
             (0, Step::Is(b"zzzzzz")),
             (0, Step::NoPopBack(7, OUTSIDE)),
             (0, Step::PopBack(6)),
             (0, Step::Len(0)),
         ],
-    )
+    ),
+];
+
+const OF_WTF8: &[Session<Step>] = &[(
+    "slices between surrogates",
+    &[
+        (0, Step::Of(b"\xed\xa0\xbd\xea\x99\xae")),
+        (1, Step::SliceOf(0, 0, 3)),
+        (1, Step::Is(b"\xed\xa0\xbd")),
+        (0, Step::NoSlice(0, 1, INVALID)),
+        (0, Step::NoSlice(3, 2, INVALID)),
+        (0, Step::NoSlice(4, 1, INVALID)),
+        (2, Step::SliceOf(0, 2, 0)),
+        (2, Step::Len(0)),
+        (0, Step::NoSlice(6, 1, OUTSIDE)),
+        (0, Step::NoSlice(7, 0, OUTSIDE)),
+    ],
+)];
+
+/// What is checked over both kinds of block.
+#[derive(Clone, Copy)]
+enum Case {
+    Pops,
+    KnownParts,
+    PartsOfAView,
+}
+
+impl Check for Case {
+    fn check<A: Atomicity>(self, alloc: Global) -> Result<(), Fail> {
+        match self {
+            Case::Pops => check_pops::<A>(alloc),
+            Case::KnownParts => check_known_parts::<A>(alloc),
+            Case::PartsOfAView => check_parts_of_a_view::<A>(alloc),
+        }
+    }
+}
+
+#[test]
+fn sessions(rt: HostRuntime) -> Result<(), Fail> {
+    let alloc = rt.alloc();
+    play_all::<UTF8, _>(alloc, OF_UTF8)?;
+    play_all::<WTF8, _>(alloc, OF_WTF8)
 }
 
 // The conditions of these pops are proved here.
@@ -106,8 +119,7 @@ fn check_pops<A: Atomicity>(alloc: Global) -> Result<(), Fail> {
 
 #[test]
 fn pops_share(rt: HostRuntime) -> Result<(), Fail> {
-    check_pops::<NonAtomic>(rt.alloc())?;
-    check_pops::<Atomic>(rt.alloc())
+    check_both(rt.alloc(), Case::Pops)
 }
 
 fn check_known_parts<A: Atomicity>(alloc: Global) -> Result<(), Fail> {
@@ -125,8 +137,7 @@ fn check_known_parts<A: Atomicity>(alloc: Global) -> Result<(), Fail> {
 
 #[test]
 fn parts_that_are_known_to_be_valid(rt: HostRuntime) -> Result<(), Fail> {
-    check_known_parts::<NonAtomic>(rt.alloc())?;
-    check_known_parts::<Atomic>(rt.alloc())
+    check_both(rt.alloc(), Case::KnownParts)
 }
 
 #[test]
@@ -152,6 +163,5 @@ fn check_parts_of_a_view<A: Atomicity>(alloc: Global) -> Result<(), Fail> {
 
 #[test]
 fn parts_of_a_view(rt: HostRuntime) -> Result<(), Fail> {
-    check_parts_of_a_view::<NonAtomic>(rt.alloc())?;
-    check_parts_of_a_view::<Atomic>(rt.alloc())
+    check_both(rt.alloc(), Case::PartsOfAView)
 }

@@ -6,20 +6,22 @@ use std::test::Fail;
 use tendril::block::Refusal;
 use tendril::fmt::{Bytes, Format};
 use tendril::{Atomic, Atomicity, NonAtomic, SubtendrilError, Tendril};
-use test_tools::same_at;
+use test_tools::{At, same_in};
 
 /// How many texts a session has. All are empty at first.
 const TEXTS: usize = 6;
 
 /// What is done with a text, or must be seen of it. Where memory or a holder is refused, the session fails.
 #[derive(Clone, Copy)]
-pub enum Step<'a> {
+pub enum Step {
     /// It is made empty, and what it was is dropped.
     New,
     /// It is made empty, with room for so many bytes.
     Room(u32),
     /// It is made of bytes that are valid in the format.
-    Of(&'a [u8]),
+    Of(&'static [u8]),
+    /// It is made of a string.
+    OfString(&'static str),
     /// It is made a clone of another text.
     CloneOf(usize),
     /// A clone of it is refused.
@@ -29,7 +31,7 @@ pub enum Step<'a> {
     /// A slice of it is refused.
     NoSlice(u32, u32, SubtendrilError),
     /// Bytes are pushed that are valid in the format.
-    Push(&'a [u8]),
+    Push(&'static [u8]),
     /// Another text is pushed.
     PushText(usize),
     /// Its first bytes are popped.
@@ -51,18 +53,31 @@ pub enum Step<'a> {
     /// So many zeros are pushed.
     Zeros(u32),
     /// It has these bytes.
-    Is(&'a [u8]),
+    Is(&'static [u8]),
+    /// It has the bytes of this string.
+    IsString(&'static str),
     /// It has so many bytes.
     Len(u32),
     /// It is marked shared, or it isn't.
     Shared(bool),
 }
 
-/// The number of a text, and the step.
-pub type Row<'a> = (usize, Step<'a>);
+/// What a row does with a text, or sees of it. Other texts of the session may be seen by it or be made.
+pub trait Played<F: Format>: Copy + Drop {
+    fn play_on<A: Atomicity>(
+        self,
+        alloc: Global,
+        at: At,
+        text: &mut Tendril<F, A>,
+        texts: &mut [Tendril<F, A>],
+    ) -> Result<(), Fail>;
+}
 
-/// The texts of a session.
-pub fn empty_texts<F: Format, A: Atomicity>(alloc: Global) -> Result<Vec<Tendril<F, A>>, Fail> {
+/// The name of a session, and its rows: each the number of a text, and the step.
+pub type Session<S> = (&'static str, &'static [(usize, S)]);
+
+// The texts of a session.
+fn empty_texts<F: Format, A: Atomicity>(alloc: Global) -> Result<Vec<Tendril<F, A>>, Fail> {
     let mut texts: Vec<Tendril<F, A>> = Vec::new(alloc);
     for _ in 0..TEXTS {
         texts.push(Tendril::new(alloc))?;
@@ -70,26 +85,26 @@ pub fn empty_texts<F: Format, A: Atomicity>(alloc: Global) -> Result<Vec<Tendril
     Ok(texts)
 }
 
-fn no_such_text(row: usize, number: usize) -> Fail {
-    Fail::new(format_args!("row {row}: no text {number}"))
+fn no_such_text(at: At, number: usize) -> Fail {
+    Fail::new(format_args!("{at}: no text {number}"))
 }
 
-/// The text with this number. An empty one stands in its place.
-pub fn taken<F: Format, A: Atomicity>(
+// The text with this number. An empty one stands in its place.
+fn taken<F: Format, A: Atomicity>(
     alloc: Global,
-    row: usize,
+    at: At,
     texts: &mut [Tendril<F, A>],
     number: usize,
 ) -> Result<Tendril<F, A>, Fail> {
     match texts.get_mut(number) {
         Some(place) => Ok(mem::replace(place, Tendril::new(alloc))),
-        None => Err(no_such_text(row, number)),
+        None => Err(no_such_text(at, number)),
     }
 }
 
 /// Puts a text in the place with this number.
 pub fn put<F: Format, A: Atomicity>(
-    row: usize,
+    at: At,
     texts: &mut [Tendril<F, A>],
     number: usize,
     text: Tendril<F, A>,
@@ -99,32 +114,32 @@ pub fn put<F: Format, A: Atomicity>(
             *place = text;
             Ok(())
         }
-        None => Err(no_such_text(row, number)),
+        None => Err(no_such_text(at, number)),
     }
 }
 
 fn text_at<F: Format, A: Atomicity>(
-    row: usize,
+    at: At,
     texts: &[Tendril<F, A>],
     number: usize,
 ) -> Result<&Tendril<F, A>, Fail> {
     match texts.get(number) {
         Some(text) => Ok(text),
-        None => Err(no_such_text(row, number)),
+        None => Err(no_such_text(at, number)),
     }
 }
 
 // What was refused must be this.
-fn refused<T: Drop>(row: usize, found: Result<T, Refusal>, due: Refusal) -> Result<(), Fail> {
-    same_at(row, found.err(), Some(due))
+fn refused<T: Drop>(at: At, found: Result<T, Refusal>, due: Refusal) -> Result<(), Fail> {
+    same_in(at, found.err(), Some(due))
 }
 
 fn part_refused<T: Drop>(
-    row: usize,
+    at: At,
     found: Result<T, SubtendrilError>,
     due: SubtendrilError,
 ) -> Result<(), Fail> {
-    same_at(row, found.err(), Some(due))
+    same_in(at, found.err(), Some(due))
 }
 
 // The bytes of a text, whatever its format. An empty text stands in its place.
@@ -134,7 +149,7 @@ fn bytes_of<F: Format, A: Atomicity>(alloc: Global, text: &mut Tendril<F, A>) ->
 
 // Puts bytes back that are valid in the format.
 fn put_bytes<F: Format, A: Atomicity>(
-    row: usize,
+    at: At,
     text: &mut Tendril<F, A>,
     bytes: Tendril<Bytes, A>,
 ) -> Result<(), Fail> {
@@ -143,45 +158,46 @@ fn put_bytes<F: Format, A: Atomicity>(
             *text = valid;
             Ok(())
         }
-        Err(_) => Err(Fail::new(format_args!("row {row}: not valid any more"))),
+        Err(_) => Err(Fail::new(format_args!("{at}: not valid any more"))),
     }
 }
 
 fn fill<F: Format, A: Atomicity>(
     alloc: Global,
-    row: usize,
+    at: At,
     text: &mut Tendril<F, A>,
     byte: u8,
 ) -> Result<(), Fail> {
     let mut bytes = bytes_of(alloc, text);
     bytes.bytes_mut(|bytes: &mut [u8]| bytes.fill(byte))?;
-    put_bytes(row, text, bytes)
+    put_bytes(at, text, bytes)
 }
 
 fn push_zeros<F: Format, A: Atomicity>(
     alloc: Global,
-    row: usize,
+    at: At,
     text: &mut Tendril<F, A>,
     count: u32,
 ) -> Result<(), Fail> {
     let mut bytes = bytes_of(alloc, text);
     bytes.push_uninitialized(count)?;
-    put_bytes(row, text, bytes)
+    put_bytes(at, text, bytes)
 }
 
 // What makes a text.
 fn make<F: Format, A: Atomicity>(
     alloc: Global,
-    row: usize,
+    at: At,
     texts: &[Tendril<F, A>],
     step: Step,
 ) -> Result<Tendril<F, A>, Fail> {
     match step {
         Step::Room(capacity) => Ok(Tendril::with_capacity(alloc, capacity)?),
         Step::Of(bytes) => Ok(Tendril::try_from_byte_slice(alloc, bytes)?),
-        Step::CloneOf(other) => Ok(text_at(row, texts, other)?.clone()?),
+        Step::OfString(string) => Ok(Tendril::try_from_byte_slice(alloc, string.as_bytes())?),
+        Step::CloneOf(other) => Ok(text_at(at, texts, other)?.clone()?),
         Step::SliceOf(other, offset, count) => {
-            Ok(text_at(row, texts, other)?.try_subtendril(offset, count)?)
+            Ok(text_at(at, texts, other)?.try_subtendril(offset, count)?)
         }
         _ => Ok(Tendril::new(alloc)),
     }
@@ -189,36 +205,37 @@ fn make<F: Format, A: Atomicity>(
 
 // What must be refused.
 fn refuse<F: Format, A: Atomicity>(
-    row: usize,
+    at: At,
     text: &mut Tendril<F, A>,
     step: Step,
 ) -> Result<(), Fail> {
     match step {
-        Step::NoClone(due) => refused(row, text.clone(), due),
+        Step::NoClone(due) => refused(at, text.clone(), due),
         Step::NoSlice(offset, count, due) => {
-            part_refused(row, text.try_subtendril(offset, count), due)
+            part_refused(at, text.try_subtendril(offset, count), due)
         }
-        Step::NoPopFront(count, due) => part_refused(row, text.try_pop_front(count), due),
-        Step::NoPopBack(count, due) => part_refused(row, text.try_pop_back(count), due),
-        Step::NoReserve(more, due) => refused(row, text.reserve(more), due),
-        _ => Err(Fail::new(format_args!("row {row}: no such step"))),
+        Step::NoPopFront(count, due) => part_refused(at, text.try_pop_front(count), due),
+        Step::NoPopBack(count, due) => part_refused(at, text.try_pop_back(count), due),
+        Step::NoReserve(more, due) => refused(at, text.reserve(more), due),
+        _ => Err(Fail::new(format_args!("{at}: no such step"))),
     }
 }
 
 // What must be seen.
-fn see<F: Format, A: Atomicity>(row: usize, text: &Tendril<F, A>, step: Step) -> Result<(), Fail> {
+fn see<F: Format, A: Atomicity>(at: At, text: &Tendril<F, A>, step: Step) -> Result<(), Fail> {
     match step {
-        Step::Is(due) => same_at(row, text.as_byte_slice(), due),
-        Step::Len(due) => same_at(row, text.len32(), due),
-        Step::Shared(due) => same_at(row, text.is_shared(), due),
-        _ => Err(Fail::new(format_args!("row {row}: no such step"))),
+        Step::Is(due) => same_in(at, text.as_byte_slice(), due),
+        Step::IsString(due) => same_in(at, text.as_byte_slice(), due.as_bytes()),
+        Step::Len(due) => same_in(at, text.len32(), due),
+        Step::Shared(due) => same_in(at, text.is_shared(), due),
+        _ => Err(Fail::new(format_args!("{at}: no such step"))),
     }
 }
 
 // What changes a text alone.
 fn change<F: Format, A: Atomicity>(
     alloc: Global,
-    row: usize,
+    at: At,
     text: &mut Tendril<F, A>,
     step: Step,
 ) -> Result<(), Fail> {
@@ -227,8 +244,8 @@ fn change<F: Format, A: Atomicity>(
         Step::PopFront(count) => Ok(text.try_pop_front(count)?),
         Step::PopBack(count) => Ok(text.try_pop_back(count)?),
         Step::Reserve(more) => Ok(text.reserve(more)?),
-        Step::Fill(byte) => fill(alloc, row, text, byte),
-        Step::Zeros(count) => push_zeros(alloc, row, text, count),
+        Step::Fill(byte) => fill(alloc, at, text, byte),
+        Step::Zeros(count) => push_zeros(alloc, at, text, count),
         _ => {
             text.clear();
             Ok(())
@@ -236,53 +253,87 @@ fn change<F: Format, A: Atomicity>(
     }
 }
 
-/// Does one step with a text. The others may be seen by it.
-pub fn take_step<F: Format, A: Atomicity>(
-    alloc: Global,
-    row: usize,
-    text: &mut Tendril<F, A>,
-    texts: &[Tendril<F, A>],
-    step: Step,
-) -> Result<(), Fail> {
-    match step {
-        Step::New | Step::Room(_) | Step::Of(_) | Step::CloneOf(_) | Step::SliceOf(..) => {
-            *text = make(alloc, row, texts, step)?;
-            Ok(())
+impl<F: Format> Played<F> for Step {
+    fn play_on<A: Atomicity>(
+        self,
+        alloc: Global,
+        at: At,
+        text: &mut Tendril<F, A>,
+        texts: &mut [Tendril<F, A>],
+    ) -> Result<(), Fail> {
+        match self {
+            Step::New
+            | Step::Room(_)
+            | Step::Of(_)
+            | Step::OfString(_)
+            | Step::CloneOf(_)
+            | Step::SliceOf(..) => {
+                *text = make(alloc, at, texts, self)?;
+                Ok(())
+            }
+            Step::PushText(other) => Ok(text.push_tendril(text_at(at, texts, other)?)?),
+            Step::Is(_) | Step::IsString(_) | Step::Len(_) | Step::Shared(_) => see(at, text, self),
+            Step::NoClone(_)
+            | Step::NoSlice(..)
+            | Step::NoPopFront(..)
+            | Step::NoPopBack(..)
+            | Step::NoReserve(..) => refuse(at, text, self),
+            _ => change(alloc, at, text, self),
         }
-        Step::PushText(other) => Ok(text.push_tendril(text_at(row, texts, other)?)?),
-        Step::Is(_) | Step::Len(_) | Step::Shared(_) => see(row, text, step),
-        Step::NoClone(_)
-        | Step::NoSlice(..)
-        | Step::NoPopFront(..)
-        | Step::NoPopBack(..)
-        | Step::NoReserve(..) => refuse(row, text, step),
-        _ => change(alloc, row, text, step),
     }
 }
 
-fn play_row<F: Format, A: Atomicity>(
+fn play_row<F: Format, A: Atomicity, S: Played<F>>(
     alloc: Global,
-    row: usize,
+    at: At,
     texts: &mut [Tendril<F, A>],
     number: usize,
-    step: Step,
+    step: S,
 ) -> Result<(), Fail> {
-    let mut text = taken(alloc, row, texts, number)?;
-    take_step(alloc, row, &mut text, texts, step)?;
-    put(row, texts, number, text)
+    let mut text = taken(alloc, at, texts, number)?;
+    step.play_on(alloc, at, &mut text, texts)?;
+    put(at, texts, number, text)
 }
 
-/// Plays rows over one kind of block.
-pub fn play<F: Format, A: Atomicity>(alloc: Global, rows: &[Row]) -> Result<(), Fail> {
+/// Plays the rows of a session over one kind of block.
+pub fn play<F: Format, A: Atomicity, S: Played<F>>(
+    alloc: Global,
+    session: &'static str,
+    rows: &[(usize, S)],
+) -> Result<(), Fail> {
     let mut texts = empty_texts::<F, A>(alloc)?;
     for (row, (number, step)) in rows.iter().enumerate() {
-        play_row(alloc, row, &mut texts, *number, *step)?;
+        play_row(alloc, At { session, row }, &mut texts, *number, *step)?;
     }
     Ok(())
 }
 
-/// Plays rows over both kinds of block.
-pub fn play_both<F: Format>(alloc: Global, rows: &[Row]) -> Result<(), Fail> {
-    play::<F, NonAtomic>(alloc, rows)?;
-    play::<F, Atomic>(alloc, rows)
+/// Plays the rows of a session over both kinds of block.
+pub fn play_both<F: Format, S: Played<F>>(
+    alloc: Global,
+    session: &'static str,
+    rows: &[(usize, S)],
+) -> Result<(), Fail> {
+    play::<F, NonAtomic, S>(alloc, session, rows)?;
+    play::<F, Atomic, S>(alloc, session, rows)
+}
+
+/// Plays sessions over one kind of block.
+pub fn play_each<F: Format, A: Atomicity, S: Played<F>>(
+    alloc: Global,
+    sessions: &[Session<S>],
+) -> Result<(), Fail> {
+    for (session, rows) in sessions {
+        play::<F, A, S>(alloc, *session, *rows)?;
+    }
+    Ok(())
+}
+
+/// Plays sessions over both kinds of block.
+pub fn play_all<F: Format, S: Played<F>>(
+    alloc: Global,
+    sessions: &[Session<S>],
+) -> Result<(), Fail> {
+    play_each::<F, NonAtomic, S>(alloc, sessions)?;
+    play_each::<F, Atomic, S>(alloc, sessions)
 }

@@ -1,13 +1,12 @@
 //! Texts of strings, strings of texts, and texts lent as strings and slices.
 
+use crate::tests::kinds::{Check, check_both};
 use std::alloc::Global;
 use std::collections::BTreeMap;
 use std::convert::{AsSlice, AsStr};
 use std::default::MadeWith;
 use std::test::Fail;
-use tendril::{
-    Atomic, Atomicity, ByteTendril, NonAtomic, StrTendril, slice_to_tendril, str_to_tendril,
-};
+use tendril::{Atomicity, ByteTendril, StrTendril, slice_to_tendril, str_to_tendril};
 use test_tools::{same, same_at};
 
 const STRINGS: [&str; 6] = [
@@ -18,6 +17,36 @@ const STRINGS: [&str; 6] = [
     "f\u{151}o \u{4e2d}!",
     "anextralongstring",
 ];
+
+/// What is checked over both kinds of block.
+#[derive(Clone, Copy)]
+enum Case {
+    LentAsStrings,
+    LentAsSlices,
+    HandedOver,
+    Room,
+    Lent,
+    Given,
+    Million,
+    MadeEmpty,
+    MadeByAMap,
+}
+
+impl Check for Case {
+    fn check<A: Atomicity>(self, alloc: Global) -> Result<(), Fail> {
+        match self {
+            Case::LentAsStrings => lent_as_strings::<A>(alloc),
+            Case::LentAsSlices => lent_as_slices::<A>(alloc),
+            Case::HandedOver => handed_over::<A>(alloc),
+            Case::Room => keeps_its_room::<A>(alloc),
+            Case::Lent => lent::<A>(alloc),
+            Case::Given => give_strings::<A>(alloc),
+            Case::Million => there_and_back::<A>(alloc),
+            Case::MadeEmpty => made_empty::<A>(alloc),
+            Case::MadeByAMap => made_by_a_map::<A>(alloc),
+        }
+    }
+}
 
 fn length_by_trait<T: AsStr>(text: &T) -> usize {
     text.as_str().len()
@@ -51,10 +80,9 @@ fn lent_as_slices<A: Atomicity>(alloc: Global) -> Result<(), Fail> {
 
 #[test]
 fn texts_lent_as_strings_and_slices(rt: HostRuntime) -> Result<(), Fail> {
-    lent_as_strings::<NonAtomic>(rt.alloc())?;
-    lent_as_strings::<Atomic>(rt.alloc())?;
-    lent_as_slices::<NonAtomic>(rt.alloc())?;
-    lent_as_slices::<Atomic>(rt.alloc())
+    let alloc = rt.alloc();
+    check_both(alloc, Case::LentAsStrings)?;
+    check_both(alloc, Case::LentAsSlices)
 }
 
 // Such a text is pushed onto, cloned and popped as any other.
@@ -82,8 +110,7 @@ fn handed_over<A: Atomicity>(alloc: Global) -> Result<(), Fail> {
 
 #[test]
 fn texts_of_strings_that_are_handed_over(rt: HostRuntime) -> Result<(), Fail> {
-    handed_over::<NonAtomic>(rt.alloc())?;
-    handed_over::<Atomic>(rt.alloc())
+    check_both(rt.alloc(), Case::HandedOver)
 }
 
 fn with_room(alloc: Global) -> Result<String, Fail> {
@@ -104,8 +131,7 @@ fn keeps_its_room<A: Atomicity>(alloc: Global) -> Result<(), Fail> {
 
 #[test]
 fn a_string_with_room_keeps_it(rt: HostRuntime) -> Result<(), Fail> {
-    keeps_its_room::<NonAtomic>(rt.alloc())?;
-    keeps_its_room::<Atomic>(rt.alloc())
+    check_both(rt.alloc(), Case::Room)
 }
 
 fn lent<A: Atomicity>(alloc: Global) -> Result<(), Fail> {
@@ -118,8 +144,7 @@ fn lent<A: Atomicity>(alloc: Global) -> Result<(), Fail> {
 
 #[test]
 fn texts_of_lent_strings(rt: HostRuntime) -> Result<(), Fail> {
-    lent::<NonAtomic>(rt.alloc())?;
-    lent::<Atomic>(rt.alloc())
+    check_both(rt.alloc(), Case::Lent)
 }
 
 // The string is the caller's own, and the text stays.
@@ -152,8 +177,7 @@ fn give_strings<A: Atomicity>(alloc: Global) -> Result<(), Fail> {
 
 #[test]
 fn strings_of_texts(rt: HostRuntime) -> Result<(), Fail> {
-    give_strings::<NonAtomic>(rt.alloc())?;
-    give_strings::<Atomic>(rt.alloc())
+    check_both(rt.alloc(), Case::Given)
 }
 
 fn million_bytes(alloc: Global) -> Result<String, Fail> {
@@ -173,8 +197,7 @@ fn there_and_back<A: Atomicity>(alloc: Global) -> Result<(), Fail> {
 
 #[test]
 fn a_million_bytes_there_and_back(rt: HostRuntime) -> Result<(), Fail> {
-    there_and_back::<NonAtomic>(rt.alloc())?;
-    there_and_back::<Atomic>(rt.alloc())
+    check_both(rt.alloc(), Case::Million)
 }
 
 fn made_empty<A: Atomicity>(alloc: Global) -> Result<(), Fail> {
@@ -204,8 +227,7 @@ fn made_by_a_map<A: Atomicity>(alloc: Global) -> Result<(), Fail> {
 
 #[test]
 fn texts_made_by_a_map(rt: HostRuntime) -> Result<(), Fail> {
-    made_empty::<NonAtomic>(rt.alloc())?;
-    made_empty::<Atomic>(rt.alloc())?;
-    made_by_a_map::<NonAtomic>(rt.alloc())?;
-    made_by_a_map::<Atomic>(rt.alloc())
+    let alloc = rt.alloc();
+    check_both(alloc, Case::MadeEmpty)?;
+    check_both(alloc, Case::MadeByAMap)
 }

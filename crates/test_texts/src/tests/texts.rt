@@ -1,6 +1,7 @@
 //! Texts: that calls succeed where there is memory, how large a text is, and when it is shared.
 
-use crate::tests::steps::{Step, play_both};
+use crate::tests::kinds::{Check, check_both};
+use crate::tests::steps::{Session, Step, play_all, play_both};
 use std::alloc::Global;
 use std::fs::{self, Files};
 use std::test::Fail;
@@ -16,18 +17,9 @@ const DIGITS: &[u8] = b"0123456789";
 
 const OUTSIDE: SubtendrilError = SubtendrilError::OutOfBounds;
 
-#[test]
-fn a_text_is_three_words() -> Result<(), Fail> {
-    same(size_of::<Tendril<Bytes, NonAtomic>>(), 24)?;
-    same(size_of::<Tendril<Bytes, Atomic>>(), 24)?;
-    same(size_of::<ByteTendril>(), 24)?;
-    same(align_of::<ByteTendril>(), 8)
-}
-
-#[test]
-fn empty_text(rt: HostRuntime) -> Result<(), Fail> {
-    play_both::<Bytes>(
-        rt.alloc(),
+const SESSIONS: &[Session<Step>] = &[
+    (
+        "empty text",
         &[
             (0, Step::New),
             (0, Step::Len(0)),
@@ -37,43 +29,9 @@ fn empty_text(rt: HostRuntime) -> Result<(), Fail> {
             (0, Step::NoPopFront(1, OUTSIDE)),
             (0, Step::NoPopBack(1, OUTSIDE)),
         ],
-    )
-}
-
-// Bytes of texts, and what they are and how many with one byte more.
-const PUSHED: [(&[u8], &[u8], u32); 6] = [
-    (b"", b"X", 1),
-    (b"0", b"0X", 2),
-    (b"0123456", b"0123456X", 8),
-    (b"01234567", b"01234567X", 9),
-    (b"012345678", b"012345678X", 10),
-    (b"0123456789", b"0123456789X", 11),
-];
-
-#[test]
-fn texts_round_the_inline_length(rt: HostRuntime) -> Result<(), Fail> {
-    for (bytes, pushed, len) in PUSHED {
-        play_both::<Bytes>(
-            rt.alloc(),
-            &[
-                (0, Step::Of(bytes)),
-                (0, Step::Is(bytes)),
-                (1, Step::CloneOf(0)),
-                (1, Step::Is(bytes)),
-                (1, Step::New),
-                (0, Step::Push(b"X")),
-                (0, Step::Len(len)),
-                (0, Step::Is(pushed)),
-            ],
-        )?;
-    }
-    Ok(())
-}
-
-#[test]
-fn a_push_onto_a_clone_or_its_source_leaves_the_other(rt: HostRuntime) -> Result<(), Fail> {
-    play_both::<Bytes>(
-        rt.alloc(),
+    ),
+    (
+        "a push onto a clone or its source leaves the other",
         &[
             (0, Step::Of(DIGITS)),
             (1, Step::CloneOf(0)),
@@ -87,13 +45,9 @@ fn a_push_onto_a_clone_or_its_source_leaves_the_other(rt: HostRuntime) -> Result
             (2, Step::Is(DIGITS)),
             (1, Step::Is(b"0123456789X")),
         ],
-    )
-}
-
-#[test]
-fn a_push_onto_a_slice_cuts_what_lies_behind_it(rt: HostRuntime) -> Result<(), Fail> {
-    play_both::<Bytes>(
-        rt.alloc(),
+    ),
+    (
+        "a push onto a slice cuts what lies behind it",
         &[
             (0, Step::Of(b"0123456789abcdef")),
             (1, Step::SliceOf(0, 2, 9)),
@@ -101,13 +55,9 @@ fn a_push_onto_a_slice_cuts_what_lies_behind_it(rt: HostRuntime) -> Result<(), F
             (1, Step::Push(b"X")),
             (1, Step::Is(b"23456789aX")),
         ],
-    )
-}
-
-#[test]
-fn slices_end_within_the_text(rt: HostRuntime) -> Result<(), Fail> {
-    play_both::<Bytes>(
-        rt.alloc(),
+    ),
+    (
+        "slices end within the text",
         &[
             (0, Step::Of(DIGITS)),
             (1, Step::SliceOf(0, 0, 10)),
@@ -127,13 +77,9 @@ fn slices_end_within_the_text(rt: HostRuntime) -> Result<(), Fail> {
             (0, Step::NoSlice(0, 11, OUTSIDE)),
             (0, Step::NoSlice(4294967295, 4294967295, OUTSIDE)),
         ],
-    )
-}
-
-#[test]
-fn marks_of_sharing(rt: HostRuntime) -> Result<(), Fail> {
-    play_both::<Bytes>(
-        rt.alloc(),
+    ),
+    (
+        "marks of sharing",
         &[
             (0, Step::Of(DIGITS)),
             (0, Step::Shared(false)),
@@ -147,7 +93,121 @@ fn marks_of_sharing(rt: HostRuntime) -> Result<(), Fail> {
             (0, Step::Push(b"X")),
             (0, Step::Shared(false)),
         ],
-    )
+    ),
+    (
+        "too long",
+        &[
+            (0, Step::Of(b"abc")),
+            (0, Step::NoReserve(4294967293, Refusal::TooLong)),
+            (0, Step::Is(b"abc")),
+            // Also where the text is shared.
+            (1, Step::Of(DIGITS)),
+            (2, Step::CloneOf(1)),
+            (1, Step::NoReserve(4294967295, Refusal::TooLong)),
+            (2, Step::NoReserve(4294967295, Refusal::TooLong)),
+            (2, Step::Reserve(0)),
+        ],
+    ),
+    (
+        "a text pushed on its clone",
+        &[
+            (0, Step::Of(DIGITS)),
+            (1, Step::CloneOf(0)),
+            (0, Step::PushText(1)),
+            (0, Step::Is(b"01234567890123456789")),
+            (1, Step::Is(DIGITS)),
+        ],
+    ),
+    (
+        "room behind bytes that were popped",
+        &[
+            (0, Step::Of(&[b'x'; 100])),
+            (0, Step::PopFront(90)),
+            (0, Step::Fill(b'y')),
+            (0, Step::Reserve(100)),
+            (0, Step::Is(b"yyyyyyyyyy")),
+            (0, Step::Zeros(3)),
+            (0, Step::Push(b"z")),
+            (0, Step::Is(b"yyyyyyyyyy\0\0\0z")),
+        ],
+    ),
+    (
+        "room asked for a shared text leaves it",
+        &[
+            (0, Step::Of(&[b'x'; 1000])),
+            (1, Step::CloneOf(0)),
+            (0, Step::PopFront(900)),
+            (0, Step::Reserve(0)),
+            (0, Step::Shared(true)),
+            (0, Step::Reserve(100)),
+            (0, Step::Shared(true)),
+            (0, Step::Is(&[b'x'; 100])),
+        ],
+    ),
+];
+
+/// What is checked over both kinds of block.
+#[derive(Clone, Copy)]
+enum Case {
+    MakersOfStrings,
+    MakersOfBytes,
+    Million,
+    Queue,
+}
+
+impl Check for Case {
+    fn check<A: Atomicity>(self, alloc: Global) -> Result<(), Fail> {
+        match self {
+            Case::MakersOfStrings => check_makers_of_strings::<A>(alloc),
+            Case::MakersOfBytes => check_makers_of_bytes::<A>(alloc),
+            Case::Million => check_a_million_bytes::<A>(alloc),
+            Case::Queue => check_a_queue::<A>(alloc),
+        }
+    }
+}
+
+#[test]
+fn sessions(rt: HostRuntime) -> Result<(), Fail> {
+    play_all::<Bytes, _>(rt.alloc(), SESSIONS)
+}
+
+#[test]
+fn a_text_is_three_words() -> Result<(), Fail> {
+    same(size_of::<Tendril<Bytes, NonAtomic>>(), 24)?;
+    same(size_of::<Tendril<Bytes, Atomic>>(), 24)?;
+    same(size_of::<ByteTendril>(), 24)?;
+    same(align_of::<ByteTendril>(), 8)
+}
+
+// Bytes of texts, and what they are and how many with one byte more.
+const PUSHED: [(&[u8], &[u8], u32); 6] = [
+    (b"", b"X", 1),
+    (b"0", b"0X", 2),
+    (b"0123456", b"0123456X", 8),
+    (b"01234567", b"01234567X", 9),
+    (b"012345678", b"012345678X", 10),
+    (b"0123456789", b"0123456789X", 11),
+];
+
+#[test]
+fn texts_round_the_inline_length(rt: HostRuntime) -> Result<(), Fail> {
+    for (bytes, pushed, len) in PUSHED {
+        play_both::<Bytes, _>(
+            rt.alloc(),
+            "texts round the inline length",
+            &[
+                (0, Step::Of(bytes)),
+                (0, Step::Is(bytes)),
+                (1, Step::CloneOf(0)),
+                (1, Step::Is(bytes)),
+                (1, Step::New),
+                (0, Step::Push(b"X")),
+                (0, Step::Len(len)),
+                (0, Step::Is(pushed)),
+            ],
+        )?;
+    }
+    Ok(())
 }
 
 fn check_makers_of_strings<A: Atomicity>(alloc: Global) -> Result<(), Fail> {
@@ -158,30 +218,33 @@ fn check_makers_of_strings<A: Atomicity>(alloc: Global) -> Result<(), Fail> {
     same(text.as_byte_slice(), DIGITS)
 }
 
-fn check_makers_of_bytes<A: Atomicity>(alloc: Global) -> Result<(), Fail> {
-    let text: ByteTendril<A> = slice_to_tendril(alloc, DIGITS)?;
+// A text of the digits, which takes more bytes.
+fn takes_more<A: Atomicity>(mut text: ByteTendril<A>) -> Result<(), Fail> {
     same(text.as_byte_slice(), DIGITS)?;
-    let mut text: ByteTendril<A> = ByteTendril::<A>::from_slice(alloc, DIGITS)?;
     text.push_slice(b"ab")?;
-    same(text.as_byte_slice(), b"0123456789ab")?;
-    let mut text: ByteTendril<A> = Tendril::from_byte_slice_without_validating(alloc, DIGITS)?;
     text.push_bytes_without_validating(b"x")?;
-    same(text.as_byte_slice(), b"0123456789x")
+    same(text.as_byte_slice(), b"0123456789abx")
+}
+
+fn check_makers_of_bytes<A: Atomicity>(alloc: Global) -> Result<(), Fail> {
+    takes_more::<A>(slice_to_tendril(alloc, DIGITS)?)?;
+    takes_more::<A>(ByteTendril::from_slice(alloc, DIGITS)?)?;
+    takes_more::<A>(Tendril::from_byte_slice_without_validating(alloc, DIGITS)?)
 }
 
 #[test]
 fn texts_of_slices_and_strings(rt: HostRuntime) -> Result<(), Fail> {
-    check_makers_of_strings::<NonAtomic>(rt.alloc())?;
-    check_makers_of_strings::<Atomic>(rt.alloc())?;
-    check_makers_of_bytes::<NonAtomic>(rt.alloc())?;
-    check_makers_of_bytes::<Atomic>(rt.alloc())
+    let alloc = rt.alloc();
+    check_both(alloc, Case::MakersOfStrings)?;
+    check_both(alloc, Case::MakersOfBytes)
 }
 
 #[test]
 fn room_for_more(rt: HostRuntime) -> Result<(), Fail> {
     for capacity in [0u32, 8, 9, 1000] {
-        play_both::<Bytes>(
+        play_both::<Bytes, _>(
             rt.alloc(),
+            "room for more",
             &[
                 (0, Step::Room(capacity)),
                 (0, Step::Len(0)),
@@ -203,38 +266,6 @@ fn room_for_more(rt: HostRuntime) -> Result<(), Fail> {
     Ok(())
 }
 
-#[test]
-fn too_long(rt: HostRuntime) -> Result<(), Fail> {
-    play_both::<Bytes>(
-        rt.alloc(),
-        &[
-            (0, Step::Of(b"abc")),
-            (0, Step::NoReserve(4294967293, Refusal::TooLong)),
-            (0, Step::Is(b"abc")),
-            // Also where the text is shared.
-            (1, Step::Of(DIGITS)),
-            (2, Step::CloneOf(1)),
-            (1, Step::NoReserve(4294967295, Refusal::TooLong)),
-            (2, Step::NoReserve(4294967295, Refusal::TooLong)),
-            (2, Step::Reserve(0)),
-        ],
-    )
-}
-
-#[test]
-fn a_text_pushed_on_its_clone(rt: HostRuntime) -> Result<(), Fail> {
-    play_both::<Bytes>(
-        rt.alloc(),
-        &[
-            (0, Step::Of(DIGITS)),
-            (1, Step::CloneOf(0)),
-            (0, Step::PushText(1)),
-            (0, Step::Is(b"01234567890123456789")),
-            (1, Step::Is(DIGITS)),
-        ],
-    )
-}
-
 fn check_a_million_bytes<A: Atomicity>(alloc: Global) -> Result<(), Fail> {
     let mut text: ByteTendril<A> = Tendril::new(alloc);
     for _ in 0..1000000 {
@@ -247,8 +278,7 @@ fn check_a_million_bytes<A: Atomicity>(alloc: Global) -> Result<(), Fail> {
 
 #[test]
 fn a_million_bytes_one_by_one(rt: HostRuntime) -> Result<(), Fail> {
-    check_a_million_bytes::<NonAtomic>(rt.alloc())?;
-    check_a_million_bytes::<Atomic>(rt.alloc())
+    check_both(rt.alloc(), Case::Million)
 }
 
 fn check_a_queue<A: Atomicity>(alloc: Global) -> Result<(), Fail> {
@@ -267,8 +297,7 @@ fn check_a_queue<A: Atomicity>(alloc: Global) -> Result<(), Fail> {
 
 #[test]
 fn a_queue_of_pieces(rt: HostRuntime) -> Result<(), Fail> {
-    check_a_queue::<NonAtomic>(rt.alloc())?;
-    check_a_queue::<Atomic>(rt.alloc())
+    check_both(rt.alloc(), Case::Queue)
 }
 
 // How much memory the process holds, in pages, as Linux tells it.
@@ -296,38 +325,4 @@ fn a_queue_holds_no_more_memory_the_longer_it_runs(rt: HostRuntime) -> Result<()
     // All that went through would be some 20000 pages.
     let more = resident_pages(&rt)?.saturating_sub(before);
     holds_at(0, more < 200, "fewer than 200 pages more")
-}
-
-#[test]
-fn room_behind_bytes_that_were_popped(rt: HostRuntime) -> Result<(), Fail> {
-    play_both::<Bytes>(
-        rt.alloc(),
-        &[
-            (0, Step::Of(&[b'x'; 100])),
-            (0, Step::PopFront(90)),
-            (0, Step::Fill(b'y')),
-            (0, Step::Reserve(100)),
-            (0, Step::Is(b"yyyyyyyyyy")),
-            (0, Step::Zeros(3)),
-            (0, Step::Push(b"z")),
-            (0, Step::Is(b"yyyyyyyyyy\0\0\0z")),
-        ],
-    )
-}
-
-#[test]
-fn room_asked_for_a_shared_text_leaves_it(rt: HostRuntime) -> Result<(), Fail> {
-    play_both::<Bytes>(
-        rt.alloc(),
-        &[
-            (0, Step::Of(&[b'x'; 1000])),
-            (1, Step::CloneOf(0)),
-            (0, Step::PopFront(900)),
-            (0, Step::Reserve(0)),
-            (0, Step::Shared(true)),
-            (0, Step::Reserve(100)),
-            (0, Step::Shared(true)),
-            (0, Step::Is(&[b'x'; 100])),
-        ],
-    )
 }

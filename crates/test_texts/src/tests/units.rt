@@ -343,12 +343,13 @@ fn a_million_units_of_each_width(rt: HostRuntime) -> Result<(), Fail> {
 // A pair that meets, and a lone lead behind it.
 #[test]
 fn a_caller_joins_units_and_counts_surrogates(rt: HostRuntime) -> Result<(), Fail> {
-    let both = units::joined_units(rt.alloc(), &[0x61, 0xD83D], &[0xDCA9, 0xD83D])?;
+    let alloc = rt.alloc();
+    let both = units::joined_units(alloc, &[0x61, 0xD83D], &[0xDCA9, 0xD83D])?;
     same_at(
         0,
         both.as_slice(),
         [0x61, 0xD83D, 0xDCA9, 0xD83D].as_slice(),
     )?;
-    let text: Wtf8Tendril<NonAtomic> = Tendril::from_units(rt.alloc(), both.as_slice())?;
+    let text: Wtf8Tendril<NonAtomic> = Tendril::from_units(alloc, both.as_slice())?;
     same_at(1, units::surrogates(&text), 3)
 }

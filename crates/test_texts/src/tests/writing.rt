@@ -1,314 +1,272 @@
 //! Bytes that are written in place, zeros, and what writers and `format` put into texts.
 
+use crate::tests::kinds::{Check, check_both};
+use crate::tests::steps::{Played, Session, Step, play_all, play_both};
 use std::alloc::Global;
 use std::fmt::{Display, Formatter, Write};
 use std::test::Fail;
 use std::{fmt, io};
 use tendril::block::Refusal;
-use tendril::fmt::UTF8;
+use tendril::fmt::{Bytes, UTF8};
 use tendril::{Atomic, Atomicity, ByteTendril, NonAtomic, StrTendril, Tendril, format_tendril};
 use tendril_callers::writing::{print_line, set_byte, write_twice};
-use test_tools::{same, same_at};
+use test_tools::{At, same, same_in};
 
 const DIGITS: &[u8] = b"0123456789";
 
-/// What is done with a text, or is seen of it.
+/// What is checked over both kinds of block.
 #[derive(Clone, Copy)]
-enum Act<'a> {
-    /// Its clone is the next text.
-    Clone,
-    /// So many of its bytes from an offset on are the next text.
-    Slice(u32, u32),
-    /// It is dropped.
-    Drop,
-    /// Bytes are pushed.
-    Push(&'a [u8]),
-    /// So many zeros are pushed.
-    Zeros(u32),
+enum Case {
+    Values,
+    Told,
+    Breaks,
+}
+
+impl Check for Case {
+    fn check<A: Atomicity>(self, alloc: Global) -> Result<(), Fail> {
+        match self {
+            Case::Values => values_are_printed::<A>(alloc),
+            Case::Told => hold_what_they_tell::<A>(alloc),
+            Case::Breaks => breaks_and_is_whole::<A>(alloc),
+        }
+    }
+}
+
+/// What is done with a text of bytes, or must be seen of it.
+#[derive(Clone, Copy)]
+enum WriteStep {
+    /// A step of any session.
+    Any(Step),
     /// A push of so many zeros is refused, since the text would be too long.
     TooManyZeros(u32),
     /// One byte is set.
     Set(u32, u8),
-    /// All bytes are set to one.
+    /// All bytes are set to one. The edit sees all of them, and what it answers comes back.
     Fill(u8),
     /// The bytes are turned round.
     Reverse,
     /// Bytes are written as to a file, in one call.
-    Write(&'a [u8]),
+    Write(&'static [u8]),
     /// Bytes are written as to a file.
-    WriteAll(&'a [u8]),
+    WriteAll(&'static [u8]),
     /// A number is printed as to a file, in a width of 3, and a mark behind it.
     Print(u32),
-    /// It has these bytes.
-    Is(&'a [u8]),
     /// It has these bytes and so many zeros behind them.
-    IsBeforeZeros(&'a [u8], u32),
-    /// It shares its block or does not.
-    IsShared(bool),
+    IsBeforeZeros(&'static [u8], u32),
     /// It is this string, or is refused as one.
-    IsString(Result<&'a str, Refusal>),
+    Says(Result<&'static str, Refusal>),
 }
 
-// One row of a session: the number of a text, and what is done with it.
-type Row<'a> = (usize, Act<'a>);
-
-fn set<A: Atomicity>(text: &mut ByteTendril<A>, index: u32, byte: u8) -> Result<(), Fail> {
+fn set<A: Atomicity>(at: At, text: &mut ByteTendril<A>, index: u32, byte: u8) -> Result<(), Fail> {
     if index < text.len32() {
         set_byte(text, index, byte)?;
         return Ok(());
     }
-    Err(Fail::new("no such byte"))
+    Err(Fail::new(format_args!("{at}: no byte {index}")))
 }
 
-// The edit sees all the bytes, and what it answers comes back.
-fn fill<A: Atomicity>(row: usize, text: &mut ByteTendril<A>, byte: u8) -> Result<(), Fail> {
+fn fill<A: Atomicity>(at: At, text: &mut ByteTendril<A>, byte: u8) -> Result<(), Fail> {
     let seen = text.bytes_mut(|bytes| {
         bytes.fill(byte);
         bytes.len()
     })?;
-    same_at(row, seen, text.len32() as usize)
+    same_in(at, seen, text.len32() as usize)
 }
 
-fn write<A: Atomicity>(row: usize, text: &mut ByteTendril<A>, bytes: &[u8]) -> Result<(), Fail> {
+fn write<A: Atomicity>(at: At, text: &mut ByteTendril<A>, bytes: &[u8]) -> Result<(), Fail> {
     let count = io::Write::write(text, bytes)?;
     io::Write::flush(text)?;
-    same_at(row, count, bytes.len())
+    same_in(at, count, bytes.len())
 }
 
-fn is_before_zeros(row: usize, bytes: &[u8], front: &[u8], count: u32) -> Result<(), Fail> {
+fn is_before_zeros(at: At, bytes: &[u8], front: &[u8], count: u32) -> Result<(), Fail> {
     match bytes.split_at_checked(front.len()) {
         Some((found, zeros)) => {
-            same_at(row, found, front)?;
-            same_at(row, zeros.len(), count as usize)?;
-            same_at(row, zeros.iter().all(|byte| *byte == 0), true)
+            same_in(at, found, front)?;
+            same_in(at, zeros.len(), count as usize)?;
+            same_in(at, zeros.iter().all(|byte| *byte == 0), true)
         }
-        None => Err(Fail::new("fewer bytes than were due")),
+        None => Err(Fail::new(format_args!("{at}: fewer bytes than were due"))),
     }
 }
 
-fn is_string<A: Atomicity>(
-    row: usize,
+fn says<A: Atomicity>(
+    at: At,
     text: &ByteTendril<A>,
     due: Result<&str, Refusal>,
 ) -> Result<(), Fail> {
     match text.try_reinterpret_view::<UTF8>() {
-        Ok(view) => same_at(row, Ok(view.as_str()), due),
-        Err(refusal) => same_at(row, Err(refusal), due),
+        Ok(view) => same_in(at, Ok(view.as_str()), due),
+        Err(refusal) => same_in(at, Err(refusal), due),
     }
 }
 
-// What changes a text.
-fn change<A: Atomicity>(row: usize, text: &mut ByteTendril<A>, act: Act) -> Result<(), Fail> {
-    match act {
-        Act::Push(bytes) => Ok(text.push_slice(bytes)?),
-        Act::Zeros(count) => Ok(text.push_uninitialized(count)?),
-        Act::TooManyZeros(count) => {
-            same_at(row, text.push_uninitialized(count), Err(Refusal::TooLong))
-        }
-        Act::Set(index, byte) => set(text, index, byte),
-        Act::Fill(byte) => fill(row, text, byte),
-        Act::Reverse => Ok(text.bytes_mut(|bytes| bytes.reverse())?),
-        Act::Write(bytes) => write(row, text, bytes),
-        Act::WriteAll(bytes) => Ok(io::Write::write_all(text, bytes)?),
-        Act::Print(number) => Ok(io::Write::write_fmt(text, format_args!("{number:>3}!"))?),
-        seen => see(row, text, seen),
-    }
-}
-
-// What is seen of a text.
-fn see<A: Atomicity>(row: usize, text: &ByteTendril<A>, act: Act) -> Result<(), Fail> {
-    match act {
-        Act::Is(due) => same_at(row, text.as_byte_slice(), due),
-        Act::IsBeforeZeros(front, count) => {
-            is_before_zeros(row, text.as_byte_slice(), front, count)
-        }
-        Act::IsShared(due) => same_at(row, text.is_shared(), due),
-        Act::IsString(due) => is_string(row, text, due),
-        _ => Err(Fail::new("nothing that is seen")),
-    }
-}
-
-// The text that is made of another, if one is.
-fn act_on<A: Atomicity>(
-    alloc: Global,
-    row: usize,
-    text: &mut ByteTendril<A>,
-    act: Act,
-) -> Result<Option<ByteTendril<A>>, Fail> {
-    match act {
-        Act::Clone => Ok(Some(text.clone()?)),
-        Act::Slice(offset, count) => Ok(Some(text.try_subtendril(offset, count)?)),
-        Act::Drop => {
-            *text = Tendril::new(alloc);
-            Ok(None)
-        }
-        change_or_sight => {
-            change(row, text, change_or_sight)?;
-            Ok(None)
+impl Played<Bytes> for WriteStep {
+    fn play_on<A: Atomicity>(
+        self,
+        alloc: Global,
+        at: At,
+        text: &mut ByteTendril<A>,
+        texts: &mut [ByteTendril<A>],
+    ) -> Result<(), Fail> {
+        match self {
+            WriteStep::Any(step) => step.play_on(alloc, at, text, texts),
+            WriteStep::TooManyZeros(count) => {
+                same_in(at, text.push_uninitialized(count), Err(Refusal::TooLong))
+            }
+            WriteStep::Set(index, byte) => set(at, text, index, byte),
+            WriteStep::Fill(byte) => fill(at, text, byte),
+            WriteStep::Reverse => Ok(text.bytes_mut(|bytes| bytes.reverse())?),
+            WriteStep::Write(bytes) => write(at, text, bytes),
+            WriteStep::WriteAll(bytes) => Ok(io::Write::write_all(text, bytes)?),
+            WriteStep::Print(number) => {
+                Ok(io::Write::write_fmt(text, format_args!("{number:>3}!"))?)
+            }
+            WriteStep::IsBeforeZeros(front, count) => {
+                is_before_zeros(at, text.as_byte_slice(), front, count)
+            }
+            WriteStep::Says(due) => says(at, text, due),
         }
     }
 }
 
-// A session on numbered texts. The first has these bytes.
-fn play<A: Atomicity>(alloc: Global, first: &[u8], rows: &[Row]) -> Result<(), Fail> {
-    let mut texts: Vec<ByteTendril<A>> = Vec::new(alloc);
-    texts.push(ByteTendril::from_slice(alloc, first)?)?;
-    for (row, (number, act)) in rows.iter().enumerate() {
-        let made = match texts.get_mut(*number) {
-            Some(text) => act_on(alloc, row, text, *act)?,
-            None => return Err(Fail::new("no such text")),
-        };
-        if let Some(text) = made {
-            texts.push(text)?;
-        }
-    }
-    Ok(())
-}
-
-fn play_both(alloc: Global, first: &[u8], rows: &[Row]) -> Result<(), Fail> {
-    play::<NonAtomic>(alloc, first, rows)?;
-    play::<Atomic>(alloc, first, rows)
-}
+const SESSIONS: &[Session<WriteStep>] = &[
+    (
+        "a byte written beside a clone",
+        &[
+            (0, WriteStep::Any(Step::Of(DIGITS))),
+            (1, WriteStep::Any(Step::CloneOf(0))),
+            (0, WriteStep::Any(Step::Shared(true))),
+            (0, WriteStep::Set(9, 0xFF)),
+            (1, WriteStep::Any(Step::Is(DIGITS))),
+            (0, WriteStep::Any(Step::Is(b"012345678\xFF"))),
+            (0, WriteStep::Any(Step::Shared(false))),
+            (1, WriteStep::Any(Step::New)),
+            (0, WriteStep::Set(0, b'X')),
+            (0, WriteStep::Any(Step::Is(b"X12345678\xFF"))),
+        ],
+    ),
+    (
+        "bytes written into a slice stay in it",
+        &[
+            (0, WriteStep::Any(Step::Of(b"0123456789abcdef"))),
+            (1, WriteStep::Any(Step::SliceOf(0, 2, 9))),
+            (1, WriteStep::Fill(b'-')),
+            (1, WriteStep::Any(Step::Is(b"---------"))),
+            (0, WriteStep::Any(Step::Is(b"0123456789abcdef"))),
+            (2, WriteStep::Any(Step::SliceOf(0, 5, 10))),
+            (0, WriteStep::Any(Step::New)),
+            (2, WriteStep::Reverse),
+            (2, WriteStep::Any(Step::Push(b"!"))),
+            (2, WriteStep::Any(Step::Is(b"edcba98765!"))),
+        ],
+    ),
+    (
+        "a character written byte by byte",
+        &[
+            (0, WriteStep::Any(Step::Of(b"xy\xC5\x91"))),
+            (0, WriteStep::Set(3, 0xFF)),
+            (0, WriteStep::Says(Err(Refusal::Invalid))),
+            (0, WriteStep::Set(3, 0x8B)),
+            (0, WriteStep::Says(Ok("xy\u{14B}"))),
+            (0, WriteStep::Any(Step::Zeros(3))),
+            (0, WriteStep::Any(Step::Is(b"xy\xC5\x8B\0\0\0"))),
+        ],
+    ),
+    (
+        "zeros cut what lies behind a slice",
+        &[
+            (0, WriteStep::Any(Step::Of(b"0123456789abcdef"))),
+            (1, WriteStep::Any(Step::SliceOf(0, 2, 9))),
+            (0, WriteStep::Any(Step::New)),
+            (1, WriteStep::Any(Step::Zeros(2))),
+            (1, WriteStep::Any(Step::Is(b"23456789a\0\0"))),
+        ],
+    ),
+    (
+        "zeros past the greatest length",
+        &[
+            (0, WriteStep::Any(Step::Of(b"abc"))),
+            (0, WriteStep::TooManyZeros(4294967293)),
+            (0, WriteStep::Any(Step::Is(b"abc"))),
+            (1, WriteStep::Any(Step::Zeros(0))),
+            (1, WriteStep::Any(Step::Is(b""))),
+        ],
+    ),
+    (
+        "bytes written as to a file",
+        &[
+            (0, WriteStep::WriteAll(DIGITS)),
+            (1, WriteStep::Any(Step::CloneOf(0))),
+            (0, WriteStep::Write(b"\xFF\x00")),
+            (0, WriteStep::Write(b"")),
+            (0, WriteStep::Any(Step::Is(b"0123456789\xFF\x00"))),
+            (1, WriteStep::Any(Step::Is(DIGITS))),
+            (0, WriteStep::Print(5)),
+            (0, WriteStep::Any(Step::Is(b"0123456789\xFF\x00  5!"))),
+        ],
+    ),
+];
 
 #[test]
-fn a_byte_written_beside_a_clone(rt: HostRuntime) -> Result<(), Fail> {
-    play_both(
-        rt.alloc(),
-        DIGITS,
-        &[
-            (0, Act::Clone),
-            (0, Act::IsShared(true)),
-            (0, Act::Set(9, 0xFF)),
-            (1, Act::Is(DIGITS)),
-            (0, Act::Is(b"012345678\xFF")),
-            (0, Act::IsShared(false)),
-            (1, Act::Drop),
-            (0, Act::Set(0, b'X')),
-            (0, Act::Is(b"X12345678\xFF")),
-        ],
-    )
-}
-
-#[test]
-fn bytes_written_into_a_slice_stay_in_it(rt: HostRuntime) -> Result<(), Fail> {
-    play_both(
-        rt.alloc(),
-        b"0123456789abcdef",
-        &[
-            (0, Act::Slice(2, 9)),
-            (1, Act::Fill(b'-')),
-            (1, Act::Is(b"---------")),
-            (0, Act::Is(b"0123456789abcdef")),
-            (0, Act::Slice(5, 10)),
-            (0, Act::Drop),
-            (2, Act::Reverse),
-            (2, Act::Push(b"!")),
-            (2, Act::Is(b"edcba98765!")),
-        ],
-    )
+fn sessions(rt: HostRuntime) -> Result<(), Fail> {
+    play_all::<Bytes, _>(rt.alloc(), SESSIONS)
 }
 
 // The digits and as many crosses, from none to all.
-fn each_length() -> [(&'static [u8], &'static [u8]); 11] {
-    [
-        (b"", b""),
-        (b"0", b"x"),
-        (b"01", b"xx"),
-        (b"012", b"xxx"),
-        (b"0123", b"xxxx"),
-        (b"01234", b"xxxxx"),
-        (b"012345", b"xxxxxx"),
-        (b"0123456", b"xxxxxxx"),
-        (b"01234567", b"xxxxxxxx"),
-        (b"012345678", b"xxxxxxxxx"),
-        (b"0123456789", b"xxxxxxxxxx"),
-    ]
-}
+const EACH_LENGTH: [(&[u8], &[u8]); 11] = [
+    (b"", b""),
+    (b"0", b"x"),
+    (b"01", b"xx"),
+    (b"012", b"xxx"),
+    (b"0123", b"xxxx"),
+    (b"01234", b"xxxxx"),
+    (b"012345", b"xxxxxx"),
+    (b"0123456", b"xxxxxxx"),
+    (b"01234567", b"xxxxxxxx"),
+    (b"012345678", b"xxxxxxxxx"),
+    (b"0123456789", b"xxxxxxxxxx"),
+];
 
 #[test]
 fn short_texts_are_written_without_memory(rt: HostRuntime) -> Result<(), Fail> {
-    for (digits, crosses) in each_length() {
-        play_both(
+    for (digits, crosses) in EACH_LENGTH {
+        play_both::<Bytes, _>(
             rt.alloc(),
-            digits,
-            &[(0, Act::Fill(b'x')), (0, Act::Is(crosses))],
+            "short texts are written without memory",
+            &[
+                (0, WriteStep::Any(Step::Of(digits))),
+                (0, WriteStep::Fill(b'x')),
+                (0, WriteStep::Any(Step::Is(crosses))),
+            ],
         )?;
     }
     Ok(())
 }
 
-#[test]
-fn a_character_written_byte_by_byte(rt: HostRuntime) -> Result<(), Fail> {
-    play_both(
-        rt.alloc(),
-        b"xy\xC5\x91",
+// Zeros behind bytes and beside a clone of these.
+fn zeros_behind(alloc: Global, digits: &'static [u8], count: u32) -> Result<(), Fail> {
+    play_both::<Bytes, _>(
+        alloc,
+        "zeros round the inline length",
         &[
-            (0, Act::Set(3, 0xFF)),
-            (0, Act::IsString(Err(Refusal::Invalid))),
-            (0, Act::Set(3, 0x8B)),
-            (0, Act::IsString(Ok("xy\u{14B}"))),
-            (0, Act::Zeros(3)),
-            (0, Act::Is(b"xy\xC5\x8B\0\0\0")),
+            (0, WriteStep::Any(Step::Of(digits))),
+            (1, WriteStep::Any(Step::CloneOf(0))),
+            (0, WriteStep::Any(Step::Zeros(count))),
+            (0, WriteStep::IsBeforeZeros(digits, count)),
+            (1, WriteStep::Any(Step::Is(digits))),
         ],
     )
 }
 
 #[test]
 fn zeros_round_the_inline_length(rt: HostRuntime) -> Result<(), Fail> {
-    for (digits, _) in each_length() {
+    for (digits, _) in EACH_LENGTH {
         for count in [0u32, 1, 7, 8, 9, 100] {
-            let rows = [
-                (0, Act::Clone),
-                (0, Act::Zeros(count)),
-                (0, Act::IsBeforeZeros(digits, count)),
-                (1, Act::Is(digits)),
-            ];
-            play_both(rt.alloc(), digits, &rows)?;
+            zeros_behind(rt.alloc(), digits, count)?;
         }
     }
     Ok(())
-}
-
-#[test]
-fn zeros_cut_what_lies_behind_a_slice(rt: HostRuntime) -> Result<(), Fail> {
-    play_both(
-        rt.alloc(),
-        b"0123456789abcdef",
-        &[
-            (0, Act::Slice(2, 9)),
-            (0, Act::Drop),
-            (1, Act::Zeros(2)),
-            (1, Act::Is(b"23456789a\0\0")),
-        ],
-    )
-}
-
-#[test]
-fn zeros_past_the_greatest_length(rt: HostRuntime) -> Result<(), Fail> {
-    play_both(
-        rt.alloc(),
-        b"abc",
-        &[(0, Act::TooManyZeros(4294967293)), (0, Act::Is(b"abc"))],
-    )?;
-    play_both(rt.alloc(), b"", &[(0, Act::Zeros(0)), (0, Act::Is(b""))])
-}
-
-#[test]
-fn bytes_written_as_to_a_file(rt: HostRuntime) -> Result<(), Fail> {
-    play_both(
-        rt.alloc(),
-        b"",
-        &[
-            (0, Act::WriteAll(DIGITS)),
-            (0, Act::Clone),
-            (0, Act::Write(b"\xFF\x00")),
-            (0, Act::Write(b"")),
-            (0, Act::Is(b"0123456789\xFF\x00")),
-            (1, Act::Is(DIGITS)),
-            (0, Act::Print(5)),
-            (0, Act::Is(b"0123456789\xFF\x00  5!")),
-        ],
-    )
 }
 
 fn print_values<A: Atomicity>(text: &mut StrTendril<A>) -> Result<(), Fail> {
@@ -337,8 +295,7 @@ fn values_are_printed<A: Atomicity>(alloc: Global) -> Result<(), Fail> {
 
 #[test]
 fn values_printed_with_widths_and_fills(rt: HostRuntime) -> Result<(), Fail> {
-    values_are_printed::<NonAtomic>(rt.alloc())?;
-    values_are_printed::<Atomic>(rt.alloc())
+    check_both(rt.alloc(), Case::Values)
 }
 
 fn hold_what_they_tell<A: Atomicity>(alloc: Global) -> Result<(), Fail> {
@@ -352,8 +309,7 @@ fn hold_what_they_tell<A: Atomicity>(alloc: Global) -> Result<(), Fail> {
 
 #[test]
 fn writers_that_tell_what_they_hold(rt: HostRuntime) -> Result<(), Fail> {
-    hold_what_they_tell::<NonAtomic>(rt.alloc())?;
-    hold_what_they_tell::<Atomic>(rt.alloc())
+    check_both(rt.alloc(), Case::Told)
 }
 
 // What a value prints is this.
@@ -363,12 +319,13 @@ fn formats<A: Atomicity, T: Display>(alloc: Global, value: &T, due: &str) -> Res
 
 #[test]
 fn texts_of_formats(rt: HostRuntime) -> Result<(), Fail> {
-    let text = format_tendril!(in rt.alloc(); "two and two make {}", 4)?;
+    let alloc = rt.alloc();
+    let text = format_tendril!(in alloc; "two and two make {}", 4)?;
     same(text.as_str(), "two and two make 4")?;
-    let inline = format_tendril!(in rt.alloc(); "{:>3}", 4)?;
+    let inline = format_tendril!(in alloc; "{:>3}", 4)?;
     same(inline.as_str(), "  4")?;
-    formats::<NonAtomic, char>(rt.alloc(), &'\u{A66E}', "\u{A66E}")?;
-    formats::<Atomic, char>(rt.alloc(), &'\u{A66E}', "\u{A66E}")
+    formats::<NonAtomic, char>(alloc, &'\u{A66E}', "\u{A66E}")?;
+    formats::<Atomic, char>(alloc, &'\u{A66E}', "\u{A66E}")
 }
 
 // Prints a part, and fails.
@@ -403,6 +360,5 @@ fn breaks_and_is_whole<A: Atomicity>(alloc: Global) -> Result<(), Fail> {
 
 #[test]
 fn a_value_whose_display_fails(rt: HostRuntime) -> Result<(), Fail> {
-    breaks_and_is_whole::<NonAtomic>(rt.alloc())?;
-    breaks_and_is_whole::<Atomic>(rt.alloc())
+    check_both(rt.alloc(), Case::Breaks)
 }

@@ -5,8 +5,8 @@ use Rattle.tendril_lossy.specs.declared.search.Ending.TheVariants.{Broken}
 use Rattle.tendril_stream.proofs.Turns.{ended, more, stopped, unbroken, unpopped, unsent}
 use Rattle.tendril_stream.proofs.decoder.feed_rest.Goals as goal
 
-pub incomplete-requires : goal.incomplete-requires
-incomplete-requires g c =
+pub new_without_validating-requires : goal.new_without_validating-requires
+new_without_validating-requires g c =
     let l = unbroken c.loop-found.piece c.pop_text_after.new.self c.in-Ok.found.0 c.in-Ok.found.1 c.in-Ok.ensures.1 c.in-Whole.is in
     subst IsOpen (sym c.as_byte_slice.ensures.value) l.0
 
@@ -14,7 +14,7 @@ pub returns-in-Whole : goal.returns-in-Whole
 returns-in-Whole g c =
     let e = ended g.S.TendrilSink.takes g.S.TendrilSink.refuses c.args.piece c.loop-found.piece c.pop_text_after.new.self c.args.sink.now c.loop-found.sink c.send_some.new.sink c.in-Ok.found.0 c.in-Ok.found.1
     c.loop-found.invariant c.in-Ok.ensures.1 c.in_default.ensures.ok c.in-Whole.is in
-    record { ok = (e.0, c.incomplete.ensures ∙ c.as_byte_slice.ensures.value ∙ e.1); err = tt }
+    record { ok = (e.0, c.new_without_validating.ensures ∙ c.as_byte_slice.ensures.value ∙ e.1); err = tt }
 
 pub returns-in-Err-send_some-clause-err : goal.returns-in-Err-send_some-clause-err
 returns-in-Err-send_some-clause-err g c =

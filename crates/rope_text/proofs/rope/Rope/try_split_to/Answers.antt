@@ -1,5 +1,6 @@
-use Rattle.std.proofs.Common.{rules, ◌≡◌, ◌≤◌, length, true, false, refl, ap, subst, arith, inl, inr}
+use Rattle.std.proofs.Common.{rules, ◌≡◌, ◌≤◌, length, true, false, refl, sym, ap, subst, arith, inl, inr}
 use Rattle.std.specs.Prelude.{IsUtf8}
+use Rattle.std.specs.Str.{IsCharBoundary}
 use Rattle.std.proofs.lemmas.Str.{IsUtf8-take, IsCharBoundary-from_take}
 use Rattle.rope_text.proofs.Joined.{joined_valid}
 use Rattle.rope_text.proofs.Shared.{not_false, not_true}
@@ -18,12 +19,12 @@ returns-then-not-is_cut g c =
     let there : c.args.count ≤ length b = omega arith in
     let valid = subst (λ (r : RopeText). IsUtf8 r.bytes) c.self.view_is (joined_valid c.self.inside.pieces.items c.self.invariant.each) in
     let no : c.is_cut.result ≡ false = first_of (cc, search (rules, not_true, c.if-not-is_cut.true)) in
-    (inl (inr (there, inl (λ u. let yes = c.is_cut.ensures.1 (IsCharBoundary-from_take b c.args.count valid there u) in cc, refl))), refl)
+    (inl (inr (there, inl (λ u. let yes = c.is_cut.ensures.1 (subst (λ n. IsCharBoundary b n) (sym c.place_of_cut-whole.ensures.place) (IsCharBoundary-from_take b c.args.count valid there u)) in cc, refl))), refl)
 
 pub split_to-requires-clause-cut : goal.split_to-requires-clause-cut
 split_to-requires-clause-cut g c =
     let yes : c.is_cut.result ≡ true = first_of (cc, search (rules, not_false, c.if-not-is_cut.false)) in
-    c.is_cut.ensures.0 yes
+    subst (λ n. IsCharBoundary c.args.self.now.bytes n) c.place_of_cut-whole.ensures.place (c.is_cut.ensures.0 yes)
 
 pub returns : goal.returns
 returns g c =
@@ -33,4 +34,4 @@ returns g c =
     let there : c.args.count ≤ length b = omega arith in
     let valid = subst (λ (r : RopeText). IsUtf8 r.bytes) c.self.view_is (joined_valid c.self.inside.pieces.items c.self.invariant.each) in
     let yes : c.is_cut.result ≡ true = first_of (cc, search (rules, not_false, c.if-not-is_cut.false)) in
-    splits_off c.args.count c.args.self.now c.split_to.result c.split_to.new.self there (IsUtf8-take b c.args.count valid (c.is_cut.ensures.0 yes)) c.split_to.ensures
+    splits_off c.args.count c.args.self.now c.split_to.result c.split_to.new.self there (IsUtf8-take b c.args.count valid (subst (λ n. IsCharBoundary b n) c.place_of_cut-whole.ensures.place (c.is_cut.ensures.0 yes))) c.split_to.ensures

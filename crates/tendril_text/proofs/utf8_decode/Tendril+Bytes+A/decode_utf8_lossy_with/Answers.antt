@@ -1,7 +1,7 @@
-use Rattle.std.proofs.Common.{rules, of_calls, length, sym, subst, ap, ◌∙◌, arith}
+use Rattle.std.proofs.Common.{rules, of_calls, length, sym, subst, ap, ◌∙◌}
 use Rattle.tendril_text.proofs.Decoding.{start, at_whole, at_open, at_broken}
 use Rattle.tendril_text.specs.Decoding.{PopsText}
-use Rattle.tendril_lossy.proofs.Completions.{open_len}
+use Rattle.tendril_lossy.specs.Lossy.{IsOpen}
 use Rattle.tendril_text.proofs.utf8_decode.Tendril+Bytes+A.decode_utf8_lossy_with.Goals as goal
 
 pub loop-text-init : goal.loop-text-init
@@ -12,15 +12,15 @@ returns-in-Whole-clause-ok g c =
     at_whole (λ p t u q. goal.P-step g p (g.bound-5.handed t) u q) c.args.push_utf8.now c.loop-text.push_utf8 c.push_some.new.push_utf8 c.args.self.now c.loop-text.self c.pop_text_after.new.self c.in_ok-text.text
     c.loop-text.invariant.1 (subst (λ e. PopsText c.loop-text.self c.in_ok-text.text e c.pop_text_after.new.self) c.in-Whole.is c.in_ok-text.ensures.1) c.push_some.ensures.hands
 
-pub new-bytes-requires : goal.new-bytes-requires
-new-bytes-requires g c =
+pub new_without_validating-kept-requires : goal.new_without_validating-kept-requires
+new_without_validating-kept-requires g c =
     let popped = subst (λ e. PopsText c.loop-text.self c.in_ok-text.text e c.pop_text_after.new.self) c.in-Open.is c.in_ok-text.ensures.1 in
-    omega (arith, ap length c.as_byte_slice.ensures.value, open_len c.pop_text_after.new.self.bytes popped.leaves.2)
+    subst IsOpen (sym c.as_byte_slice.ensures.value) popped.leaves.2
 
 pub returns-in-Open-clause-ok : goal.returns-in-Open-clause-ok
 returns-in-Open-clause-ok g c =
-    at_open (λ p t u q. goal.P-step g p (g.bound-5.handed t) u q) c.args.push_utf8.now c.loop-text.push_utf8 c.push_some.new.push_utf8 c.args.self.now c.loop-text.self c.pop_text_after.new.self c.in_ok-text.text c.new-bytes.result
-    c.loop-text.invariant.1 (subst (λ e. PopsText c.loop-text.self c.in_ok-text.text e c.pop_text_after.new.self) c.in-Open.is c.in_ok-text.ensures.1) c.push_some.ensures.hands (c.new-bytes.ensures ∙ c.as_byte_slice.ensures.value)
+    at_open (λ p t u q. goal.P-step g p (g.bound-5.handed t) u q) c.args.push_utf8.now c.loop-text.push_utf8 c.push_some.new.push_utf8 c.args.self.now c.loop-text.self c.pop_text_after.new.self c.in_ok-text.text c.new_without_validating-kept.result
+    c.loop-text.invariant.1 (subst (λ e. PopsText c.loop-text.self c.in_ok-text.text e c.pop_text_after.new.self) c.in-Open.is c.in_ok-text.ensures.1) c.push_some.ensures.hands (c.new_without_validating-kept.ensures ∙ c.as_byte_slice.ensures.value)
 
 pub loop-text-preserved : goal.loop-text-preserved
 loop-text-preserved g c = (

@@ -1,0 +1,38 @@
+//! The characters of a text, one by one.
+ghost use Rattle.std.specs.Prelude.{◌≡◌};
+ghost use Rattle.std.specs.Iterator.{YieldsFirst, item_count};
+
+use crate::tendril::Tendril;
+use std::iter::FusedIterator;
+use tendril_block::Atomicity;
+use tendril_fmt::fmt::CharFormat;
+
+/// The characters of a text, from the front on. Takes no memory.
+#[derive(Drop)]
+pub struct IntoChars<F: CharFormat, A: Atomicity> {
+    /// What is left of the text.
+    pub rest: Tendril<F, A>,
+}
+
+impl<F: CharFormat, A: Atomicity> Iterator for IntoChars<F, A> {
+    type Item = char;
+
+    ghost next_gives = { YieldsFirst (λ chars. F.chars chars.rest.bytes) };
+
+    ghost remaining = { item_count (λ chars. F.chars chars.rest.bytes) };
+
+    fn next(&mut self) -> Option<char> {
+        self.rest.pop_front_char()
+    }
+}
+
+impl<F: CharFormat, A: Atomicity> FusedIterator for IntoChars<F, A> {}
+
+impl<F: CharFormat, A: Atomicity> Tendril<F, A> {
+    /// The characters of the text, for a `for`.
+    pub fn into_chars(self) -> IntoChars<F, A>
+        ensures { result.rest ≡ self }
+    {
+        IntoChars { rest: self }
+    }
+}

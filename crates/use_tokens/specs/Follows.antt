@@ -1,0 +1,36 @@
+-- What a tokenizer spells is the UTF-8 of what it was told.
+use Rattle.std.proofs.Common.{◌≡◌, ℕ, List, [], ◌∷◌, ◌++◌, map, refl, sym, ap, ◌∙◌, append_assoc, append-nil}
+use Rattle.std.proofs.lemmas.Str.{encodes-append, encodes-chars}
+use Rattle.std.specs.Prelude.{chars, encode_utf8_all}
+use Rattle.tendril_lossy.specs.Lossy.{Told, Char, Mark, characters}
+use Rattle.tendril_stream.specs.Sinks.{Sent, Piece, Fault, IsSent, told_of}
+use Rattle.use_tokens.specs.Spelled.{Spells, sent_bytes, joined_sources}
+use Rattle.use_tokens.specs.declared.token.Token.{Token}
+
+pub characters-append : (xs ys : List Told) → characters (xs ++ ys) ≡ characters xs ++ characters ys
+characters-append [] ys = refl
+characters-append (Char c ∷ xs) ys = ap (λ l. c ∷ l) (characters-append xs ys)
+characters-append (Mark words ∷ xs) ys = characters-append xs ys
+
+characters-text : (cs : List ℕ) → characters (map Char cs) ≡ cs
+characters-text [] = refl
+characters-text (c ∷ cs) = ap (λ l. c ∷ l) (characters-text cs)
+
+-- a call tells the characters of its bytes
+pub told_bytes : (e : Sent) → IsSent e → encode_utf8_all (characters (told_of e)) ≡ sent_bytes e
+told_bytes (Piece t) is = ap encode_utf8_all (characters-text (chars t.bytes)) ∙ encodes-chars t.bytes is.1
+told_bytes (Fault words) is = refl
+
+-- the joined sources from a start on, after one more call
+pub spelled_on : (start : List ℕ) (told : List Told) (e : Sent) (tokens : List Token) (held : List ℕ)
+    (tokens' : List Token) (held' : List ℕ)
+    → IsSent e → joined_sources tokens ++ held ≡ start ++ encode_utf8_all (characters told)
+    → Spells tokens (held ++ sent_bytes e) tokens' held'
+    → joined_sources tokens' ++ held' ≡ start ++ encode_utf8_all (characters (told ++ told_of e))
+spelled_on start told e tokens held tokens' held' is_sent was call =
+    call ∙ sym (append_assoc (joined_sources tokens) held (sent_bytes e)) ∙ ap (λ l. l ++ sent_bytes e) was
+    ∙ append_assoc start (encode_utf8_all (characters told)) (sent_bytes e)
+    ∙ ap (λ l. start ++ l)
+    (ap (λ l. encode_utf8_all (characters told) ++ l) (sym (told_bytes e is_sent))
+    ∙ sym (encodes-append (characters told) (characters (told_of e)))
+    ∙ ap encode_utf8_all (sym (characters-append told (told_of e))))

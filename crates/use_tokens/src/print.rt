@@ -1,0 +1,31 @@
+//! Tokens in print, a line each.
+
+use crate::token::{Kind, Token};
+use std::io::{self, Write};
+
+/// Prints each token: its kind, the name of a tag, and its source in quotes.
+pub fn print_tokens<W: Write>(out: &mut W, tokens: &[Token]) -> io::Result<()> {
+    for token in tokens {
+        print(out, token)?;
+    }
+    Ok(())
+}
+
+fn print<W: Write>(out: &mut W, token: &Token) -> io::Result<()> {
+    let source = token.source.as_str();
+    match &token.kind {
+        Kind::Text => writeln!(out, "text {source:?}"),
+        Kind::StartTag {
+            name,
+            self_closing: false,
+        } => writeln!(out, "start {name} {source:?}"),
+        Kind::StartTag {
+            name,
+            self_closing: true,
+        } => writeln!(out, "self-closing {name} {source:?}"),
+        Kind::EndTag { name } => writeln!(out, "end {name} {source:?}"),
+        Kind::Comment => writeln!(out, "comment {source:?}"),
+        Kind::Other => writeln!(out, "other {source:?}"),
+        Kind::Cut => writeln!(out, "cut {source:?}"),
+    }
+}
