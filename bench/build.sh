@@ -54,8 +54,12 @@ add_exports() {
             sed "s/extern \"C\" fn port_/extern \"C\" fn $2_/" "$file" > "$1/crates/$crate/src/$(basename "$file" .txt)"
         done
     done
+    # The tokenizer that is measured, with its definitions and proofs.
+    tar -C "$1/crates/use_tokens" --exclude=proofs/tokenize -cf - src/{markup,state,token,tokenizer}.rt specs proofs \
+        | tar -C "$1/crates/port_exports" -xf -
+    grep -rl use_tokens "$1/crates/port_exports" | xargs sed -i 's/Rattle\.use_tokens\./Rattle.port_exports./'
     local used='tendril tendril_stream tendril_text tendril_block tendril_fmt tendril_lossy'
-    printf 'port_exports staticlib: rope %s\nport_threads: %s\n' "$used" "$used" >> "$1/crates.txt"
+    printf 'port_exports staticlib: rope memchr %s\nport_threads: %s\n' "$used" "$used" >> "$1/crates.txt"
 }
 
 # build_port FROM NAME: proves and links a checkout's port.

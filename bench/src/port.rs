@@ -21,6 +21,7 @@ struct Exports {
     make: OnPieces,
     parse_by_class: OnBytes,
     parse_by_search: OnBytes,
+    parts: OnBytes,
     pop_characters: OnBytes,
     pop_rope: OnPieces,
     push: OnPieces,
@@ -31,6 +32,7 @@ struct Exports {
     slice: Repeated,
     sub_ropes: OnPlaces,
     to_units: Repeated,
+    tokenize: OnBytes,
     tokens: OnBytes,
     validate: OnBytes,
 }
@@ -63,6 +65,7 @@ macro_rules! exports {
             make(bytes: *const u8, length: usize, lengths: *const u32, count: usize, calls: u64)
             parse_by_class(bytes: *const u8, length: usize)
             parse_by_search(bytes: *const u8, length: usize)
+            parts(bytes: *const u8, length: usize)
             pop_characters(bytes: *const u8, length: usize)
             pop_rope(bytes: *const u8, length: usize, lengths: *const u32, count: usize, all: u64)
             push(bytes: *const u8, length: usize, lengths: *const u32, count: usize, each: u64)
@@ -74,6 +77,7 @@ macro_rules! exports {
             sub_ropes(bytes: *const u8, length: usize, lengths: *const u32, count: usize, all: u64,
                 places: *const u32, parts: usize)
             to_units(bytes: *const u8, length: usize, times: u64)
+            tokenize(bytes: *const u8, length: usize)
             tokens(bytes: *const u8, length: usize)
             validate(bytes: *const u8, length: usize)
         }
@@ -152,6 +156,10 @@ impl Port {
         on_bytes(self.exports.parse_by_search, bytes)
     }
 
+    pub fn parts(&self, bytes: &[u8]) -> u64 {
+        on_bytes(self.exports.parts, bytes)
+    }
+
     pub fn pop_characters(&self, text: &str) -> u64 {
         on_bytes(self.exports.pop_characters, text.as_bytes())
     }
@@ -208,6 +216,10 @@ impl Port {
     /// Takes the units of the text, so many times.
     pub fn to_units(&self, text: &str, times: usize) -> u64 {
         repeated(self.exports.to_units, text.as_bytes(), times)
+    }
+
+    pub fn tokenize(&self, bytes: &[u8]) -> u64 {
+        on_bytes(self.exports.tokenize, bytes)
     }
 
     pub fn tokens(&self, text: &str) -> u64 {

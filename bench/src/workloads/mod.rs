@@ -12,6 +12,7 @@ mod runs;
 mod send;
 mod share;
 mod threads;
+mod tokens;
 mod units;
 mod validate;
 
@@ -50,6 +51,8 @@ pub fn all<'a>(inputs: &'a Inputs, ports: &'a [Port]) -> Vec<Workload<'a>> {
         parse::by_search(inputs, ports),
         parse::by_class(inputs, ports),
         parse::multilingual(inputs, ports),
+        parse::parts_alone(inputs, ports),
+        tokens::of_page(inputs, ports),
         ropes::pushes(inputs, ports),
         ropes::characters(inputs, ports),
         ropes::parts_of_few(inputs, ports),

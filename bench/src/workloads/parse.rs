@@ -1,6 +1,6 @@
 //! A parser's way with a stream: pieces are decoded, each decoded text is cut at the characters
 //! that a tokenizer of HTML looks for, and the runs between them are pushed onto a current text
-//! (n).
+//! (n1 to n3). And the cuts alone (n4).
 
 use super::PIECE;
 use crate::inputs::Inputs;
@@ -38,6 +38,23 @@ pub fn multilingual<'a>(inputs: &'a Inputs, ports: &'a [Port]) -> Workload<'a> {
         inputs.large_mixed.as_bytes(),
         ports,
     )
+}
+
+/// Cuts texts that are at hand, and pushes nothing.
+pub fn parts_alone<'a>(inputs: &'a Inputs, ports: &'a [Port]) -> Workload<'a> {
+    let input = inputs.large.as_bytes();
+    Workload::new(
+        "n4",
+        "pieces validated and cut at '<', '&', NUL and CR; HTML in ASCII",
+        Unit::Bytes(input.len()),
+    )
+    .with("tendril 0.5.1, pop_front_char_run", move || {
+        parts(input, parts_by_class)
+    })
+    .with("tendril 0.5.1, 16 bytes at a time", move || {
+        parts(input, parts_by_blocks)
+    })
+    .with_ports(ports, |port| move || port.parts(input))
 }
 
 fn searches<'a>(
@@ -217,8 +234,71 @@ fn cut_borrowed(text: &str, mut sum: u64, current: &mut String) -> u64 {
     sum
 }
 
+/// The sum over the parts of each piece.
+fn parts(input: &[u8], cut: fn(StrTendril, u64) -> u64) -> u64 {
+    input.chunks(PIECE).fold(0, |sum, piece| {
+        cut(StrTendril::try_from_byte_slice(piece).expect("ASCII"), sum)
+    })
+}
+
+fn parts_by_class(mut text: StrTendril, mut sum: u64) -> u64 {
+    while let Some((run, special)) = text.pop_front_char_run(is_special_character) {
+        if special {
+            sum = run.bytes().fold(sum, |sum, it| add(sum, u64::from(it)));
+        } else {
+            sum = add(sum, run.len() as u64);
+        }
+    }
+    sum
+}
+
+fn parts_by_blocks(mut text: StrTendril, mut sum: u64) -> u64 {
+    loop {
+        let count = first_special(text.as_bytes());
+        if count > 0 {
+            sum = add(sum, take(&mut text, count as u32).len() as u64);
+        } else if let Some(character) = text.pop_front_char() {
+            sum = add(sum, u64::from(u32::from(character)));
+        } else {
+            return sum;
+        }
+    }
+}
+
+/// How many bytes stand before the first that is special.
+fn first_special(bytes: &[u8]) -> usize {
+    let (blocks, rest) = bytes.as_chunks::<16>();
+    for (at, block) in blocks.iter().enumerate() {
+        let found = specials(block);
+        if found != 0 {
+            return at * 16 + found.trailing_zeros() as usize;
+        }
+    }
+    let end = rest.iter().position(|it| is_special(*it));
+    bytes.len() - rest.len() + end.unwrap_or(rest.len())
+}
+
+/// A bit for each special byte of the 16.
+fn specials(block: &[u8; 16]) -> i32 {
+    use std::arch::x86_64::{
+        _mm_cmpeq_epi8, _mm_loadu_si128, _mm_movemask_epi8, _mm_or_si128, _mm_set1_epi8,
+    };
+    // SAFETY: each x86-64 has SSE2, and 16 bytes are read of 16.
+    unsafe {
+        let bytes = _mm_loadu_si128(block.as_ptr().cast());
+        let are = |byte: u8| _mm_cmpeq_epi8(bytes, _mm_set1_epi8(byte as i8));
+        let markup = _mm_or_si128(are(b'<'), are(b'&'));
+        let controls = _mm_or_si128(are(b'\0'), are(b'\r'));
+        _mm_movemask_epi8(_mm_or_si128(markup, controls))
+    }
+}
+
+fn add(sum: u64, value: u64) -> u64 {
+    sum.wrapping_mul(31).wrapping_add(value)
+}
+
 /// The longest valid text at the front.
-fn valid_part(bytes: &[u8]) -> &str {
+pub fn valid_part(bytes: &[u8]) -> &str {
     match simdutf8::compat::from_utf8(bytes) {
         Ok(text) => text,
         // SAFETY: the error says that these bytes are valid.

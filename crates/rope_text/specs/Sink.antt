@@ -4,6 +4,7 @@ use Rattle.std.proofs.Common.{refl, sym, ap, ◌∙◌, append-nil}
 use Rattle.std.proofs.lemmas.Str.{IsUtf8-append, chars-append}
 use Rattle.tendril_block.specs.declared.refusal.Refusal.{Refusal}
 use Rattle.tendril_block.specs.Outcomes.{Refused}
+use Rattle.tendril_lossy.proofs.Told.{characters-append, characters-map}
 use Rattle.tendril_lossy.specs.Lossy.{Told, Char, Mark, characters}
 use Rattle.rope_text.specs.Growth.{IsLonger, RoomMay, TotalMust, piece_of}
 use Rattle.rope_text.specs.Ropes.{RopeText}
@@ -23,15 +24,6 @@ RefusesSent old (Fault words) r new = ⊥
 -- a rope has the characters that were told
 abbrev pub HasCharacters : RopeText → List Told → Type 0
 HasCharacters rope told = IsUtf8 rope.bytes × (chars rope.bytes ≡ characters told)
-
-characters-append : (told more : List Told) → characters (told ++ more) ≡ characters told ++ characters more
-characters-append [] more = refl
-characters-append (Char c ∷ told) more = ap (λ l. c ∷ l) (characters-append told more)
-characters-append (Mark words ∷ told) more = characters-append told more
-
-characters-map : (cs : List ℕ) → characters (map Char cs) ≡ cs
-characters-map [] = refl
-characters-map (c ∷ cs) = ap (λ l. c ∷ l) (characters-map cs)
 
 pub goes_on_by : (told : List Told) (old : RopeText) (e : Sent) (new : RopeText)
     → IsSent e → HasCharacters old told → TakesSent old e new → HasCharacters new (told ++ told_of e)

@@ -11,8 +11,9 @@ use Rattle.tendril_text.specs.Pushes.{Joins as Pushes}
 use Rattle.tendril_text.specs.Texts.{Text}
 use Rattle.tendril_block.specs.declared.refusal.Refusal.{Refusal}
 use Rattle.tendril_block.specs.declared.refusal.Refusal.TheVariants.{Failed, Io, Memory, SinkRefused}
-use Rattle.tendril_lossy.proofs.Streams.{due-append, due_open-append, kept-append}
+use Rattle.tendril_lossy.proofs.Streams.{due-end, due_open-append, kept-append}
 use Rattle.tendril_lossy.proofs.Lossy.{lossy-nil}
+use Rattle.tendril_lossy.proofs.Told.{characters-append, characters-map}
 use Rattle.tendril_lossy.specs.Lossy.{Told, Char, Mark, characters, closed_of, cut_bytes, due, due_open, kept}
 use Rattle.tendril_stream.proofs.Fed.{given-push, MakesReads-none}
 use Rattle.tendril_stream.specs.Decoders.{Decodes, DecodingStops as Stopping, Ends, EndStops, no_piece}
@@ -21,15 +22,6 @@ use Rattle.tendril_stream.specs.Reads.{OneRead, Gave, WasInterrupted, HasFailed,
 use Rattle.tendril_stream.specs.Sinks.{Sent, Piece, Feeds, IsStop, told, told_of}
 use Rattle.tendril_cli.specs.Decodings.{Decoded, DecodeStops, IsReady, JoinRefused, WritesText, WritesAll, WritesFrontOfText}
 use Rattle.tendril_script.specs.Writing.{AppendsFront}
-
-pub characters-append : (xs ys : List Told) → characters (xs ++ ys) ≡ characters xs ++ characters ys
-characters-append [] ys = refl
-characters-append (Char c ∷ xs) ys = ap (λ l. c ∷ l) (characters-append xs ys)
-characters-append (Mark words ∷ xs) ys = characters-append xs ys
-
-pub characters-text : (cs : List ℕ) → characters (map Char cs) ≡ cs
-characters-text [] = refl
-characters-text (c ∷ cs) = ap (λ l. c ∷ l) (characters-text cs)
 
 -- a sink that adds the characters of what it is sent to those that it has
 module _ {S : Type 0} (has : S → List ℕ) where
@@ -64,7 +56,7 @@ module _ {S : Type 0} (has : S → List ℕ) where
   ended written finishes sink k b out s h = (
     h.0,
     ap (λ l. written ++ l) (fed no_piece sink h.0 (due k) h.1) ∙ sym (append_assoc written (has sink) (characters (due k))) ∙ ap₂ (λ x y. x ++ characters (due y)) s.tells s.keeps ∙ sym (characters-append (due_open b) (due (kept b)))
-        ∙ ap characters (sym (ap due (sym (append-nil b)) ∙ due-append b [] ∙ ap (λ l. due_open b ++ due l) (append-nil (kept b)))),
+        ∙ ap characters (sym (due-end b)),
     h.2,
   )
 
@@ -113,7 +105,7 @@ front_of_all before after b l w = record {
 }
 
 pub pushed : (r : Result (Unit {0}) Refusal) (old new : Text) (more : List ℕ) → IsUtf8 old.bytes → Pushes (λ a b. a ++ b) more old r new → OnOk r (chars new.bytes ≡ chars old.bytes ++ characters (map Char (chars more)))
-pushed (Ok r) old new more u h = ap chars h.outcome.1 ∙ chars-append old.bytes more u ∙ ap (λ l. chars old.bytes ++ l) (sym (characters-text (chars more)))
+pushed (Ok r) old new more u h = ap chars h.outcome.1 ∙ chars-append old.bytes more u ∙ ap (λ l. chars old.bytes ++ l) (sym (characters-map (chars more)))
 pushed (Err e) old new more u h = tt
 
 pub push_refused : (r : Result (Unit {0}) Refusal) (old new text : Text) → Pushes (λ a b. a ++ b) text.bytes old r new → IfErr r (λ e. (new.bytes ≡ old.bytes) × JoinRefused old.bytes (Piece text) e)
@@ -127,7 +119,7 @@ front_of_end before after b w = record {
   rest = characters (due (kept b));
   utf8 = w.utf8;
   spells = ap (λ cs. cs ++ characters (due (kept b))) w.spells ∙ sym (characters-append (due_open b) (due (kept b)))
-      ∙ ap characters (sym (ap due (sym (append-nil b)) ∙ due-append b [] ∙ ap (λ l. due_open b ++ due l) (append-nil (kept b))));
+      ∙ ap characters (sym (due-end b));
   front = record { taken = w.bytes; rest = []; splits = sym (append-nil w.bytes); appends = w.appends };
 }
 

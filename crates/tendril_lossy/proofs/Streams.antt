@@ -92,6 +92,10 @@ kept-append b p = ap cut_bytes (lossy-append b p) ∙ cut-closed (lossy b) (loss
 pub due-append : (b p : List ℕ) → due (b ++ p) ≡ due_open b ++ due (kept b ++ p)
 due-append b p = ap (flat_map due_of) (lossy-append b p) ∙ due-closed (lossy b) (lossy (kept b ++ p))
 
+-- All that is due: what was due while the stream could go on, and what is due at its end.
+pub due-end : (b : List ℕ) → due b ≡ due_open b ++ due (kept b)
+due-end b = ap due (sym (append-nil b)) ∙ due-append b [] ∙ ap (λ l. due_open b ++ due l) (append-nil (kept b))
+
 -- The items are those of the practice, and no others are.
 
 is_step : (fuel : ℕ) (b : List ℕ) → length b < suc fuel → ((l : List ℕ) → length l < fuel → IsLossy l (lossy l)) → Front b → IsLossy b (lossy b)

@@ -7,3 +7,4 @@ pub mod Filled
 pub mod Own
 pub mod Walks
 pub mod Refused
+pub mod Halted

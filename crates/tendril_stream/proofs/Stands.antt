@@ -5,7 +5,7 @@ use Rattle.std.specs.Prelude.{All}
 use Rattle.std.specs.List.{FoldsTo}
 use Rattle.tendril_text.specs.Texts.{Text}
 use Rattle.tendril_lossy.proofs.Lossy.{lossy-nil}
-use Rattle.tendril_lossy.proofs.Streams.{due_open-append, kept-append, due-append}
+use Rattle.tendril_lossy.proofs.Streams.{due_open-append, kept-append, due-end}
 use Rattle.tendril_lossy.specs.Lossy.{Told, due, due_open, kept, cut_bytes, closed_of}
 use Rattle.tendril_stream.specs.Compositions.{FollowsCalls, StandsAt}
 use Rattle.tendril_stream.specs.Decoders.{Decodes, Ends, no_piece}
@@ -17,15 +17,12 @@ bytes_of pieces = flat_map (λ p. p.bytes) pieces
 due_nil : due_open [] ≡ []
 due_nil = ap (flat_map closed_of) lossy-nil
 
-finish : (b : List ℕ) → due b ≡ due_open b ++ due (kept b)
-finish b = ap due (sym (append-nil b)) ∙ due-append b [] ∙ ap (λ l. due_open b ++ due l) (append-nil (kept b))
-
-is_sent : (piece : Text) (e : Sent) → IsSentOf piece e → IsSent e
+pub is_sent : (piece : Text) (e : Sent) → IsSentOf piece e → IsSent e
 is_sent piece (Piece t) h = (h.some, h.text)
 is_sent piece (Fault words) h = tt
 
 module _ {S : Type 0} (takes : S → Sent → S → Type 0) (after : S → List Told → Type 0) (goes : FollowsCalls takes after) where
-  sent_on : (piece : Text) (t : List Told) (a : S) (es : List Sent) (b : S) → All (IsSentOf piece) es → after a t → FoldsTo takes a es b → after b (t ++ told es)
+  pub sent_on : (piece : Text) (t : List Told) (a : S) (es : List Sent) (b : S) → All (IsSentOf piece) es → after a t → FoldsTo takes a es b → after b (t ++ told es)
   sent_on piece t a [] b each h f = subst (after b) (sym (append-nil t)) (subst (λ s. after s t) f h)
   sent_on piece t a (e ∷ es) b each h f =
       let goes_one = goes t a e f.0 (is_sent piece e (All-head (IsSentOf piece) e es each)) h f.1 in
@@ -44,7 +41,7 @@ module _ {S : Type 0} (takes : S → Sent → S → Type 0) (after : S → List 
   }
 
   pub ends_at : {O : Type 0} (finishes : S → O → Type 0) (sink : S) (k b : List ℕ) (out : O) → StandsAt after sink k b → Ends takes finishes sink k out → (last : S) × after last (due b) × finishes last out
-  ends_at finishes sink k b out s h = (h.0, subst (after h.0) (ap (λ x. due_open b ++ due x) s.keeps ∙ sym (finish b)) (fed no_piece (due_open b) (due k) sink h.0 s.tells h.1), h.2)
+  ends_at finishes sink k b out s h = (h.0, subst (after h.0) (ap (λ x. due_open b ++ due x) s.keeps ∙ sym (due-end b)) (fed no_piece (due_open b) (due k) sink h.0 s.tells h.1), h.2)
 
   -- after many pieces
   module _ {D : Type 0} (inner : D → S) (held : D → List ℕ) (failed : D → Bool) where

@@ -13,6 +13,7 @@ use Rattle.tendril_lossy.proofs.Lossy.{lossy-nil}
 use Rattle.tendril_lossy.proofs.Completions.{IsFirstPart, rest_items, open_len}
 use Rattle.tendril_lossy.proofs.Resume.{closed-keeps, cut-keeps}
 use Rattle.tendril_lossy.proofs.Streams.{IsLossy-lossy, only_lossy}
+use Rattle.tendril_lossy.proofs.Told.{characters-append, characters-map}
 use Rattle.tendril_lossy.specs.Completions.{BreaksAt, CompletesTo}
 use Rattle.tendril_lossy.specs.AfterText.{EndsWithin, items_after}
 use Rattle.tendril_lossy.specs.Lossy.{Item, Told, Keep, Bad, Cut, Char, Mark, IsLossy, IsOpen, lossy, closed_of, characters, due_open, cut_bytes, kept}
@@ -141,15 +142,6 @@ FoldsTo-append : {P A : Type 0} (R : P → A → P → Type 0) (p : P) (xs ys : 
 FoldsTo-append R p [] ys q r h k = subst (λ s. FoldsTo R s ys r) (sym h) k
 FoldsTo-append R p (x ∷ xs) ys q r h k = (h.0, h.1, FoldsTo-append R h.0 xs ys q r h.2 k)
 
-characters-append : (xs ys : List Told) → characters (xs ++ ys) ≡ characters xs ++ characters ys
-characters-append [] ys = refl
-characters-append (Char c ∷ xs) ys = ap (λ l. c ∷ l) (characters-append xs ys)
-characters-append (Mark w ∷ xs) ys = characters-append xs ys
-
-characters-chars : (cs : List ℕ) → characters (map Char cs) ≡ cs
-characters-chars [] = refl
-characters-chars (c ∷ cs) = ap (λ l. c ∷ l) (characters-chars cs)
-
 -- the characters of texts
 abbrev pub chars_of : List Text → List ℕ
 chars_of texts = flat_map (λ t. chars t.bytes) texts
@@ -172,7 +164,7 @@ listed-handed b (Some t) h = one-handed b t h
 says : (text : Option Text) (more : List Text) (tail : List Item) → chars_of more ≡ characters (flat_map closed_of tail) → chars_of (listed text ++ more) ≡ characters (flat_map closed_of (map Keep (chars (bytes_of text)) ++ tail))
 says text more tail h =
     let cs = chars (bytes_of text) in
-    flat_map-append (λ t. chars t.bytes) (listed text) more ∙ ap₂ (λ x y. x ++ y) (listed-chars text ∙ sym (characters-chars cs)) h
+    flat_map-append (λ t. chars t.bytes) (listed text) more ∙ ap₂ (λ x y. x ++ y) (listed-chars text ∙ sym (characters-map cs)) h
     ∙ sym (characters-append (map Char cs) (flat_map closed_of tail)) ∙ ap characters (sym (closed-keeps cs tail))
 
 -- U+FFFD, as a short text

@@ -1,5 +1,22 @@
 -- Iterators that take a text apart, up to the first part that is refused.
-use Rattle.std.specs.Prelude.{ℕ, ◌≡◌, ◌+◌, ◌⊎◌, Bool, true, false, List, [], length, Option, Some, None, Result, Ok, Err}
+use Rattle.std.specs.Prelude.{
+  ℕ,
+  ◌≡◌,
+  ◌+◌,
+  ◌⊎◌,
+  Bool,
+  true,
+  false,
+  List,
+  [],
+  length,
+  Option,
+  Some,
+  None,
+  Result,
+  Ok,
+  Err,
+}
 use Rattle.tendril_block.specs.declared.refusal.Refusal.{Refusal}
 use Rattle.tendril_block.specs.declared.refusal.Refusal.TheVariants.{Count}
 use Rattle.tendril_storage.specs.Texts.{Text, Parts}
@@ -17,8 +34,8 @@ abbrev pub IsOver : Text → Bool → Text → Bool → Type 0
 IsOver text refused rest then = ((refused ≡ true) ⊎ (text.bytes ≡ [])) × (rest ≡ text) × (then ≡ refused)
 
 -- a part comes, and none was refused
-abbrev pub GoesOn : Bool → Bool → Type 0
-GoesOn refused then = (refused ≡ false) × (then ≡ false)
+abbrev pub PartComes : Bool → Bool → Type 0
+PartComes refused then = (refused ≡ false) × (then ≡ false)
 
 -- a part is refused, and the text stays
 abbrev pub IsRefusedNow : Text → Bool → Text → Bool → Type 0
@@ -30,7 +47,7 @@ module _ {F R : Type 0} (step : F → ℕ → R → F → Type 0) (eq : R → R 
   abbrev pub NextRun : Text → F → Bool → Option (Result (Text × R) Refusal) → Text → F → Bool → Type 0
   NextRun text classify refused None rest last then = IsOver text refused rest then × (last ≡ classify)
   NextRun text classify refused (Some (Ok run)) rest last then =
-      GoesOn refused then × AsksRun step eq valid chars classify run.1 text.bytes run.0.bytes rest.bytes last
+      PartComes refused then × AsksRun step eq valid chars classify run.1 text.bytes run.0.bytes rest.bytes last
       × Parts text run.0 rest
   NextRun text classify refused (Some (Err r)) rest last then =
       IsRefusedNow text refused rest then × (r ≡ Count)
@@ -40,6 +57,7 @@ module _ {F R : Type 0} (step : F → ℕ → R → F → Type 0) (eq : R → R 
 module _ {F A B : _} (chars : List ℕ → List ℕ) (encoding : ℕ → List ℕ) (set : ℕ → Bool) where
   abbrev pub NextPart : Text → Bool → Option (Result (SetResult F A B) Refusal) → Text → Bool → Type 0
   NextPart text refused None rest then = IsOver text refused rest then
-  NextPart text refused (Some (Ok part)) rest then = GoesOn refused then × TakesPart chars encoding set text part rest
+  NextPart text refused (Some (Ok part)) rest then =
+      PartComes refused then × TakesPart chars encoding set text part rest
   NextPart text refused (Some (Err r)) rest then =
       IsRefusedNow text refused rest then × HasLongPartBefore set text.bytes r

@@ -2,23 +2,15 @@
 use Rattle.std.proofs.Common.{◌≡◌, ℕ, List, [], ◌∷◌, ◌++◌, map, refl, sym, ap, ◌∙◌, append_assoc, append-nil}
 use Rattle.std.proofs.lemmas.Str.{encodes-append, encodes-chars}
 use Rattle.std.specs.Prelude.{chars, encode_utf8_all}
-use Rattle.tendril_lossy.specs.Lossy.{Told, Char, Mark, characters}
+use Rattle.tendril_lossy.proofs.Told.{characters-append, characters-map}
+use Rattle.tendril_lossy.specs.Lossy.{Told, characters}
 use Rattle.tendril_stream.specs.Sinks.{Sent, Piece, Fault, IsSent, told_of}
 use Rattle.use_tokens.specs.Spelled.{Spells, sent_bytes, joined_sources}
 use Rattle.use_tokens.specs.declared.token.Token.{Token}
 
-pub characters-append : (xs ys : List Told) → characters (xs ++ ys) ≡ characters xs ++ characters ys
-characters-append [] ys = refl
-characters-append (Char c ∷ xs) ys = ap (λ l. c ∷ l) (characters-append xs ys)
-characters-append (Mark words ∷ xs) ys = characters-append xs ys
-
-characters-text : (cs : List ℕ) → characters (map Char cs) ≡ cs
-characters-text [] = refl
-characters-text (c ∷ cs) = ap (λ l. c ∷ l) (characters-text cs)
-
 -- a call tells the characters of its bytes
 pub told_bytes : (e : Sent) → IsSent e → encode_utf8_all (characters (told_of e)) ≡ sent_bytes e
-told_bytes (Piece t) is = ap encode_utf8_all (characters-text (chars t.bytes)) ∙ encodes-chars t.bytes is.1
+told_bytes (Piece t) is = ap encode_utf8_all (characters-map (chars t.bytes)) ∙ encodes-chars t.bytes is.1
 told_bytes (Fault words) is = refl
 
 -- the joined sources from a start on, after one more call

@@ -1,6 +1,6 @@
 //! Texts that go to another thread.
 ghost use Rattle.std.specs.Prelude.{◌≡◌, IfOk, IfErr, length};
-ghost use Rattle.tendril_block.specs.Outcomes.{MemoryMay};
+ghost use Rattle.tendril_block.specs.Outcomes.{Gives, MemoryMay, NoneMust};
 
 use crate::tendril::Tendril;
 use std::marker::{Model, PhantomData};
@@ -28,8 +28,7 @@ impl<F: Format> Model for SendTendril<F> {
 impl<F: Format> SendTendril<F> {
     /// A copy, in time of its length.
     pub fn clone(&self) -> Result<Self, Refusal>
-        ensures bytes { IfOk result (λ t. t ≡ self.now) }
-        ensures refusal { IfErr result (MemoryMay (length self.now)) }
+        ensures { Gives NoneMust (MemoryMay (length self.now)) (λ t. t ≡ self.now) result }
     {
         Ok(SendTendril {
             apart: self.apart.copy()?,

@@ -54,7 +54,8 @@ impl<A: Atomicity> Tendril<UTF8, A> {
         ensures outcome { Outcome NoneMust (MemoryMay (length self.old.bytes))
             (λ _ t. t.bytes ≡ map to_ascii_lowercase self.old.bytes) self.old result self.new }
         ensures copied { self.new.copied ≤ max self.old.copied (length self.old.bytes) }
-        ensures kept { map to_ascii_lowercase self.old.bytes ≡ self.old.bytes → self.new.copied ≡ self.old.copied }
+        ensures unchanged { map to_ascii_lowercase self.old.bytes ≡ self.old.bytes
+            → IsOk result × (self.new ≡ self.old) }
     {
         if !has_capital(self.as_byte_slice()) {
             return Ok(());
