@@ -293,7 +293,8 @@ fn specials(block: &[u8; 16]) -> i32 {
     }
 }
 
-fn add(sum: u64, value: u64) -> u64 {
+/// The sum behind one value more.
+pub fn add(sum: u64, value: u64) -> u64 {
     sum.wrapping_mul(31).wrapping_add(value)
 }
 

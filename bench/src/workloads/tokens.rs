@@ -2,7 +2,7 @@
 //! comments (n5). The port's is the tokenizer of the crate `use_tokens`.
 
 use super::PIECE;
-use super::parse::valid_part;
+use super::parse::{add, valid_part};
 use crate::inputs::Inputs;
 use crate::measure::{Unit, Workload};
 use crate::port::Port;
@@ -24,7 +24,7 @@ pub fn of_page<'a>(inputs: &'a Inputs, ports: &'a [Port]) -> Workload<'a> {
     .with_ports(ports, |port| move || port.tokenize(input))
 }
 
-/// What a token is, in the order in which `sum` counts them.
+/// What a token is.
 enum Kind<S> {
     Text,
     StartTag { name: S, self_closing: bool },
@@ -284,7 +284,7 @@ impl<S: Part> Tokenizer<S> {
             State::TagOpen => self.send(Kind::Cut, "<".into()),
             State::Inside(_, begun) => self.send(Kind::Cut, begun),
         }
-        self.tokens.iter().fold(0, add)
+        self.tokens.iter().fold(0, with_token)
     }
 }
 
@@ -310,7 +310,7 @@ fn name<S: Part>(source: &S, from: usize) -> S {
 }
 
 /// The sum over the tokens before, and this one.
-fn add<S: Part>(sum: u64, token: &Token<S>) -> u64 {
+fn with_token<S: Part>(sum: u64, token: &Token<S>) -> u64 {
     let (kind, name) = match &token.kind {
         Kind::Text => (0, 0),
         Kind::StartTag { name, self_closing } => (1 + u64::from(*self_closing), name.length()),
@@ -320,8 +320,8 @@ fn add<S: Part>(sum: u64, token: &Token<S>) -> u64 {
         Kind::Cut => (6, 0),
     };
     [kind, name, token.source.length()]
-        .iter()
-        .fold(sum, |sum, it| sum.wrapping_mul(31).wrapping_add(*it))
+        .into_iter()
+        .fold(sum, add)
 }
 
 impl TendrilSink<UTF8, NonAtomic> for Tokenizer<StrTendril> {
