@@ -13,7 +13,7 @@ use Rattle.rope_run.specs.RopeCells.{Cells, RopeCell, IsRopeCell, gone, rope_at}
 use Rattle.rope_run.specs.RopeOf.{rope_cell_of}
 use Rattle.rope_run.specs.RopeSteps.{RopeReplied, LeavesRope}
 use Rattle.tendril_run.specs.Cells.{Cell}
-use Rattle.tendril_run.specs.Rules.{Answered}
+use Rattle.rope_run.specs.RopeRules.{Answered}
 
 -- the cells of slots and ropes
 abbrev pub cells_of : List Cell → List (Option RopeText) → Cells

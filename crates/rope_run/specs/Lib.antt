@@ -3,6 +3,7 @@ pub mod RopeLines
 pub mod RopePrinted
 pub mod RopeCells
 pub mod RopeOf
+pub mod RopeRules
 pub mod RopeRows
 pub mod RopeSteps
 pub mod RopeChains

@@ -6,7 +6,7 @@ ghost use Rattle.rope_run.specs.RopeCells.{IsRopeCell, gone as gone_cell, rope a
 ghost use Rattle.rope_run.specs.RopeOf.{rope_cell_of};
 ghost use Rattle.rope_run.specs.RopeRows.{AppendMay, AppendMust, RopeMust, RopePushMay, RopePushMust, ShareMay, rope_appended, rope_char, rope_popped, rope_pushed};
 ghost use Rattle.tendril_run.specs.CellOf.{cell_of};
-ghost use Rattle.tendril_run.specs.Rules.{Answered, Changed};
+ghost use Rattle.rope_run.specs.RopeRules.{Answered, Changed};
 
 use rope_text::{MAX_TOTAL, Rope};
 use tendril_run::{Reply, Slot};

@@ -1,17 +1,17 @@
-use Rattle.std.proofs.Common.{◌≡◌, ℕ, List, [], ◌∷◌, ◌++◌, length, set, Some, None, refl, sym, subst, ap, ap₂, ◌∙◌, ◌⊎◌}
+use Rattle.std.proofs.Common.{◌≡◌, ℕ, List, [], ◌∷◌, ◌++◌, length, set, Some, None, refl, sym, subst, ap, ap₂, ◌∙◌, ◌⊎◌, Ok, Err}
 use Rattle.std.proofs.lemmas.List.{length-set}
 use Rattle.std.specs.Option.{MatchOption}
 use Rattle.tendril_block.specs.declared.refusal.Refusal.{Refusal}
 use Rattle.tendril_run.proofs.OneChanged.{OneChanged}
 use Rattle.tendril_run.specs.Cells.{Cell, cell_at}
 use Rattle.tendril_run.specs.OneCell.{CharsMust, char_of, RunMay, IsRunOf, run_of, run_popped}
-use Rattle.tendril_run.specs.Steps.{Step}
+use Rattle.tendril_run.specs.Steps.{CommandOutcome}
 use Rattle.tendril_lines.specs.declared.command.Command.TheVariants.{PopRun}
-use Rattle.tendril_lines.specs.declared.command.Reply.TheVariants.{Run, Refused}
+use Rattle.tendril_lines.specs.declared.command.Reply.TheVariants.{Run}
 
 module _ (class : ℕ → ℕ) (cells : List Cell) (slot : ℕ) (old new : Cell) (mid : List Cell) (one : OneChanged cells slot old new mid) where
   -- an empty cell has no run
-  pub none_taken : CharsMust old None → (char_of old ≡ None) × (new ≡ old) → Step class cells (PopRun slot) (Run None) mid
+  pub none_taken : CharsMust old None → (char_of old ≡ None) × (new ≡ old) → CommandOutcome class cells (PopRun slot) (Ok (Run None)) mid
   none_taken must h = (
     subst (λ cell. CharsMust cell None) (sym one.here) must,
     subst (λ c. MatchOption c ((Run None ≡ Run None) × (mid ≡ cells)) (λ c. (Run None ≡ Run (Some (length cells, class c))) × (mid ≡ set cells slot (run_popped class (cell_at cells slot)) ++ run_of class (cell_at cells slot) ∷ [])))
@@ -19,7 +19,7 @@ module _ (class : ℕ → ℕ) (cells : List Cell) (slot : ℕ) (old new : Cell)
   )
 
   -- the run of a cell is added to its table
-  pub run_taken : (k number : ℕ) (run : Cell) (after : List Cell) → CharsMust old None → IsRunOf class old k run new → number ≡ length mid → after ≡ mid ++ run ∷ [] → Step class cells (PopRun slot) (Run (Some (number, k))) after
+  pub run_taken : (k number : ℕ) (run : Cell) (after : List Cell) → CharsMust old None → IsRunOf class old k run new → number ≡ length mid → after ≡ mid ++ run ∷ [] → CommandOutcome class cells (PopRun slot) (Ok (Run (Some (number, k)))) after
   run_taken k number run after must (c, first, of_class, is_run, is_rest) at added =
       let here : (cell : Cell → Cell) → cell old ≡ cell (cell_at cells slot) = λ cell. ap cell (sym one.here) in
       let rest : mid ≡ set cells slot (run_popped class (cell_at cells slot)) = one.there ∙ ap (set cells slot) (is_rest ∙ here (run_popped class)) in
@@ -31,5 +31,5 @@ module _ (class : ℕ → ℕ) (cells : List Cell) (slot : ℕ) (old new : Cell)
       )
 
   -- a refused run changes nothing
-  pub run_refused : (r : Refusal) → CharsMust old (Some r) ⊎ (CharsMust old None × RunMay class old r) → new ≡ old → Step class cells (PopRun slot) (Refused r) mid
+  pub run_refused : (r : Refusal) → CharsMust old (Some r) ⊎ (CharsMust old None × RunMay class old r) → new ≡ old → CommandOutcome class cells (PopRun slot) (Err r) mid
   run_refused r h same = (subst (λ cell. CharsMust cell (Some r) ⊎ (CharsMust cell None × RunMay class cell r)) (sym one.here) h, one.kept same)

@@ -1,14 +1,14 @@
 -- How two cells compare, and what is answered to that.
-use Rattle.std.specs.Prelude.{ℕ, ◌≡◌, List, Option, Some, nat_eq, if◌then◌else◌}
+use Rattle.std.specs.Prelude.{ℕ, ◌≡◌, List, Option, nat_eq, if◌then◌else◌}
 use Rattle.std.specs.Cmp.Lexicographic.{pointwise, slice_cmp}
 use Rattle.std.specs.Ordering.{nat_cmp}
 use Rattle.std.specs.declared.cmp.Ordering.{Ordering}
 use Rattle.std.specs.declared.cmp.Ordering.TheVariants as ordering
 use Rattle.tendril_block.specs.declared.refusal.Refusal.{Refusal}
-use Rattle.tendril_block.specs.declared.refusal.Refusal.TheVariants.{NoSuchSlot, WrongFormat}
-use Rattle.tendril_run.specs.Cells.{Cell, gone, text}
-use Rattle.tendril_block.specs.Outcomes.{NoneMust, First, NoneMay}
-use Rattle.tendril_run.specs.Rules.{Replied}
+use Rattle.tendril_block.specs.declared.refusal.Refusal.TheVariants.{WrongFormat}
+use Rattle.tendril_run.specs.Cells.{Cell}
+use Rattle.tendril_run.specs.OneCell.{TextMust, OfText}
+use Rattle.tendril_block.specs.Outcomes.{NoneMust, First}
 use Rattle.tendril_lines.specs.declared.command.Comparison.{Comparison}
 use Rattle.tendril_lines.specs.declared.command.Comparison.TheVariants.{Less, Equal, Greater, Differ}
 use Rattle.tendril_lines.specs.declared.command.Kind.{Kind}
@@ -30,16 +30,10 @@ comparison_in kind b y = if pointwise nat_eq b y then Equal else Differ
 
 -- the first refusal of a comparison of two cells
 abbrev pub CompareMust : Cell → Cell → Option Refusal → Type 0
-CompareMust gone other must = must ≡ Some NoSuchSlot
-CompareMust (text kind b) gone must = must ≡ Some NoSuchSlot
-CompareMust (text kind b) (text format y) must = First (kind ≡ format) WrongFormat NoneMust must
+CompareMust cell other must =
+    TextMust (λ kind b. TextMust (λ format y. First (kind ≡ format) WrongFormat NoneMust) other) cell must
 
 -- the reply that tells how two cells compare
 abbrev pub TellsComparison : Cell → Cell → Reply → Type 0
-TellsComparison (text kind b) (text format y) reply = reply ≡ Compared (comparison_in kind b y)
-TellsComparison cell other reply = ⊥
-
--- what is answered to a question how two cells compare
-abbrev pub CellsCompared : Cell → Cell → Reply → Type 0
-CellsCompared cell other reply =
-    Replied (CompareMust cell other) NoneMay (λ reply new. TellsComparison cell other reply) cell reply cell
+TellsComparison cell other reply =
+    OfText (λ kind b. OfText (λ format y reply. reply ≡ Compared (comparison_in kind b y)) other) cell reply

@@ -1,14 +1,28 @@
 -- Edits of a cell's text, which keep its format.
-use Rattle.std.specs.Prelude.{ℕ, ◌<◌, ◌+◌, ◌-◌, ◌++◌, List, [], length, take, drop, replicate, slice_set, Option}
+use Rattle.std.specs.Prelude.{
+  ℕ,
+  ◌<◌,
+  ◌+◌,
+  ◌-◌,
+  ◌++◌,
+  List,
+  [],
+  length,
+  take,
+  drop,
+  replicate,
+  slice_set,
+  Option,
+  Result,
+}
 use Rattle.tendril_block.specs.declared.refusal.Refusal.{Refusal}
 use Rattle.tendril_block.specs.declared.refusal.Refusal.TheVariants.{OutOfBounds}
 use Rattle.tendril_block.specs.Outcomes.{NoneMust, First, LengthMust, PopMust, MemoryMay}
-use Rattle.tendril_run.specs.Rules.{Changed}
+use Rattle.tendril_run.specs.Rules.{Changes}
 use Rattle.tendril_run.specs.declared.change.ByteEdit.{ByteEdit}
 use Rattle.tendril_run.specs.declared.change.ByteEdit.TheVariants.{PushZeros, WriteByte}
 use Rattle.tendril_run.specs.declared.change.Edit.{Edit}
 use Rattle.tendril_run.specs.declared.change.Edit.TheVariants.{PopFront, PopBack, Clear, Reserve}
-use Rattle.tendril_lines.specs.declared.command.Reply.{Reply}
 
 -- b after its edit
 abbrev pub edited : List ℕ → Edit → List ℕ
@@ -32,8 +46,8 @@ EditMay b Clear r = ⊥
 EditMay b (Reserve more) r = MemoryMay (length b + more) r
 
 -- an edit of b
-abbrev pub TextEdited : (List ℕ → Type 0) → Edit → List ℕ → Reply → List ℕ → Type 0
-TextEdited valid edit b reply new = Changed (EditMust valid b edit) (EditMay b edit) (edited b edit) b reply new
+abbrev pub TextEdited : {R : Type 0} → (List ℕ → Type 0) → Edit → List ℕ → Result R Refusal → List ℕ → Type 0
+TextEdited valid edit b result new = Changes (EditMust valid b edit) (EditMay b edit) (edited b edit) b result new
 
 -- the bytes b after an edit of bytes
 abbrev pub byte_edited : List ℕ → ByteEdit → List ℕ
@@ -51,5 +65,5 @@ ByteEditMay b (PushZeros count) r = MemoryMay (length b + count) r
 ByteEditMay b (WriteByte index byte) r = MemoryMay (length b) r
 
 -- an edit of the bytes b
-abbrev pub BytesEdited : ByteEdit → List ℕ → Reply → List ℕ → Type 0
-BytesEdited edit b reply new = Changed (ByteEditMust b edit) (ByteEditMay b edit) (byte_edited b edit) b reply new
+abbrev pub BytesEdited : {R : Type 0} → ByteEdit → List ℕ → Result R Refusal → List ℕ → Type 0
+BytesEdited edit b result new = Changes (ByteEditMust b edit) (ByteEditMay b edit) (byte_edited b edit) b result new

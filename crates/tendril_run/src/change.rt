@@ -6,7 +6,6 @@ use tendril_lines::Kind;
 #[derive(Clone, Copy)]
 pub(crate) enum Change {
     PushChar(char),
-    PopChar,
     Edit(Edit),
     EditBytes(ByteEdit),
     Convert(Conversion),

@@ -2,10 +2,12 @@
 ghost use Rattle.std.specs.Prelude.{◌≡◌, ◌⊎◌, ℕ, [], length, MatchOption, None, Some};
 ghost use Rattle.tendril_run.specs.CellOf.{cell_of};
 ghost use Rattle.tendril_run.specs.Cells.{IsCell, text as text_cell, valid_in};
-ghost use Rattle.tendril_run.specs.Comparisons.{CellsCompared};
+ghost use Rattle.tendril_run.specs.Comparisons.{CompareMust, TellsComparison};
 ghost use Rattle.tendril_fmt.specs.Wtf8.{wtf8};
-ghost use Rattle.tendril_run.specs.OneCell.{CellPushed, CellChanged, CellJoined, CellTold, CellUnitsTold, CellMust, CharsMust, char_of, RunMay, IsRunOf, CellSliceMust, CellCloneMay, part};
-ghost use Rattle.tendril_block.specs.Outcomes.{LengthMust, BytesMust, MemoryMay, CountMay, Gives, Outcome};
+ghost use Rattle.tendril_run.specs.OneCell.{CellPushed, CellChanged, CellCharPopped, CellJoined, CellMust, CharsMust, char_of, RunMay, IsRunOf, CellSliceMust, CellCloneMay, TellsCell, TellsUnits, UnitsMust, part};
+ghost use Rattle.tendril_block.specs.Outcomes.{LengthMust, BytesMust, NoneMay, MemoryMay, CountMay, Gives, Outcome};
+ghost use Rattle.tendril_block.specs.declared.refusal.Refusal.TheVariants.{Memory};
+ghost use Rattle.tendril_lines.specs.declared.command.Reply.TheVariants as reply;
 
 mod convert;
 
@@ -13,7 +15,7 @@ use crate::change::{ByteEdit, Change, Edit};
 use crate::classifier::Classifier;
 use crate::text;
 use std::alloc::Global;
-use tendril_lines::{ByteList, Kind, Reply, UnitList};
+use tendril_lines::{ByteList, Comparison, Kind, UnitList};
 use tendril_text::block::Refusal;
 use tendril_text::fmt::{ASCII, Bytes, Latin1, UTF8, WTF8};
 use tendril_text::{Atomicity, Tendril};
@@ -58,15 +60,15 @@ macro_rules! on_text {
     };
 }
 
-// A reply of the text, where its format has characters.
+// The same as `on_text`, where the format has characters.
 macro_rules! on_characters {
     ($slot:expr, $text:ident => $body:expr) => {
         match $slot {
             Slot::Ascii($text) => $body,
             Slot::Utf8($text) => $body,
             Slot::Latin1($text) => $body,
-            Slot::Bytes(_) | Slot::Wtf8(_) => Reply::Refused(Refusal::WrongFormat),
-            Slot::Gone => gone(),
+            Slot::Bytes(_) | Slot::Wtf8(_) => Err(Refusal::WrongFormat),
+            Slot::Gone => Err(Refusal::NoSuchSlot),
         }
     };
 }
@@ -138,21 +140,20 @@ impl<A: Atomicity> Slot<A> {
     }
 
     /// Puts bytes at the end of the text.
-    pub(crate) fn push_bytes(&mut self, bytes: &ByteList) -> Reply
+    pub(crate) fn push_bytes(&mut self, bytes: &ByteList) -> Result<(), Refusal>
         ensures pushed { CellPushed (cell_of self.old) bytes.now result (cell_of self.new) }
         ensures kept { IsCell (cell_of self.old) → IsCell (cell_of self.new) }
     {
-        on_text!(self, _kind, text => text::push(text, bytes), gone())
+        on_text!(self, _kind, text => text::push(text, bytes), Err(Refusal::NoSuchSlot))
     }
 
     /// Changes the slot.
-    pub(crate) fn change(&mut self, change: Change) -> Reply
+    pub(crate) fn change(&mut self, change: Change) -> Result<(), Refusal>
         ensures changed { CellChanged (cell_of self.old) change result (cell_of self.new) }
         ensures kept { IsCell (cell_of self.old) → IsCell (cell_of self.new) }
     {
         match change {
             Change::PushChar(character) => self.push_char(character),
-            Change::PopChar => self.pop_char(),
             Change::Edit(edit) => self.edit(edit),
             Change::EditBytes(edit) => self.edit_bytes(edit),
             Change::Convert(conversion) => self.convert(conversion),
@@ -162,19 +163,19 @@ impl<A: Atomicity> Slot<A> {
     }
 
     // Puts a character at the end of the text.
-    fn push_char(&mut self, character: char) -> Reply
+    fn push_char(&mut self, character: char) -> Result<(), Refusal>
         ensures changed { CellChanged (cell_of self.old) (Change.PushChar character) result (cell_of self.new) }
         ensures kept { IsCell (cell_of self.old) → IsCell (cell_of self.new) }
     {
         on_characters!(self, text => text::push_char(text, character))
     }
 
-    // Takes the first character out of the text.
-    fn pop_char(&mut self) -> Reply
-        ensures changed { CellChanged (cell_of self.old) Change.PopChar result (cell_of self.new) }
+    /// Takes the first character out of the text.
+    pub(crate) fn pop_char(&mut self) -> Result<Option<char>, Refusal>
+        ensures popped { CellCharPopped (cell_of self.old) result (cell_of self.new) }
         ensures kept { IsCell (cell_of self.old) → IsCell (cell_of self.new) }
     {
-        on_characters!(self, text => text::pop_char(text))
+        on_characters!(self, text => Ok(text::pop_char(text)))
     }
 
     /// Takes the longest run of characters of one class out of the front of the text, with the class.
@@ -207,7 +208,7 @@ impl<A: Atomicity> Slot<A> {
     }
 
     /// Puts the text of another slot at the end of the text.
-    pub(crate) fn join(&mut self, other: &Slot<A>) -> Reply
+    pub(crate) fn join(&mut self, other: &Slot<A>) -> Result<(), Refusal>
         ensures joined { (to from : ℕ) →
             CellJoined to from (cell_of self.old) (cell_of other.now) result (cell_of self.new) }
         ensures kept { IsCell (cell_of self.old) → IsCell (cell_of other.now) → IsCell (cell_of self.new) }
@@ -218,46 +219,46 @@ impl<A: Atomicity> Slot<A> {
             (Slot::Utf8(text), Slot::Utf8(more)) => text::join(text, more),
             (Slot::Wtf8(text), Slot::Wtf8(more)) => text::join(text, more),
             (Slot::Latin1(text), Slot::Latin1(more)) => text::join(text, more),
-            (Slot::Gone, _) | (_, Slot::Gone) => gone(),
-            _ => Reply::Refused(Refusal::WrongFormat),
+            (Slot::Gone, _) | (_, Slot::Gone) => Err(Refusal::NoSuchSlot),
+            _ => Err(Refusal::WrongFormat),
         }
     }
 
     /// Puts the text at its own end.
-    pub(crate) fn join_self(&mut self) -> Reply
+    pub(crate) fn join_self(&mut self) -> Result<(), Refusal>
         ensures joined { (slot : ℕ) →
             CellJoined slot slot (cell_of self.old) (cell_of self.old) result (cell_of self.new) }
         ensures kept { IsCell (cell_of self.old) → IsCell (cell_of self.new) }
     {
-        on_text!(self, _kind, text => text::join_self(text), gone())
+        on_text!(self, _kind, text => text::join_self(text), Err(Refusal::NoSuchSlot))
     }
 
     // Changes the text's bytes.
-    fn edit(&mut self, edit: Edit) -> Reply
+    fn edit(&mut self, edit: Edit) -> Result<(), Refusal>
         ensures changed { CellChanged (cell_of self.old) (Change.Edit edit) result (cell_of self.new) }
         ensures kept { IsCell (cell_of self.old) → IsCell (cell_of self.new) }
     {
-        on_text!(self, _kind, text => text::edit(text, edit), gone())
+        on_text!(self, _kind, text => text::edit(text, edit), Err(Refusal::NoSuchSlot))
     }
 
     // Changes the bytes of a text of bytes.
-    fn edit_bytes(&mut self, edit: ByteEdit) -> Reply
+    fn edit_bytes(&mut self, edit: ByteEdit) -> Result<(), Refusal>
         ensures changed { CellChanged (cell_of self.old) (Change.EditBytes edit) result (cell_of self.new) }
         ensures kept { IsCell (cell_of self.old) → IsCell (cell_of self.new) }
     {
         match self {
             Slot::Bytes(text) => text::edit_bytes(text, edit),
-            Slot::Gone => gone(),
-            _ => Reply::Refused(Refusal::WrongFormat),
+            Slot::Gone => Err(Refusal::NoSuchSlot),
+            _ => Err(Refusal::WrongFormat),
         }
     }
 
     // Makes a clone of the text sendable, takes it back, and puts it in the text's place.
-    fn through_send(&mut self) -> Reply
+    fn through_send(&mut self) -> Result<(), Refusal>
         ensures changed { CellChanged (cell_of self.old) Change.ThroughSend result (cell_of self.new) }
         ensures kept { IsCell (cell_of self.old) → IsCell (cell_of self.new) }
     {
-        on_text!(self, _kind, text => text::through_send(text), gone())
+        on_text!(self, _kind, text => text::through_send(text), Err(Refusal::NoSuchSlot))
     }
 
     /// A part of the text.
@@ -277,54 +278,50 @@ impl<A: Atomicity> Slot<A> {
     }
 
     /// How the text compares with that of another slot.
-    pub(crate) fn compare(&self, other: &Slot<A>) -> Reply
-        ensures { CellsCompared (cell_of self.now) (cell_of other.now) result }
+    pub(crate) fn compare(&self, other: &Slot<A>) -> Result<Comparison, Refusal>
+        ensures { Gives (CompareMust (cell_of self.now) (cell_of other.now)) NoneMay
+            (λ c. TellsComparison (cell_of self.now) (cell_of other.now) (reply.Compared c)) result }
     {
         match (self, other) {
-            (Slot::Bytes(text), Slot::Bytes(other)) => text::ordered(Ord::cmp(text, other)),
-            (Slot::Utf8(text), Slot::Utf8(other)) => text::ordered(Ord::cmp(text, other)),
-            (Slot::Ascii(text), Slot::Ascii(other)) => text::equal(text, other),
-            (Slot::Wtf8(text), Slot::Wtf8(other)) => text::equal(text, other),
-            (Slot::Latin1(text), Slot::Latin1(other)) => text::equal(text, other),
-            (Slot::Gone, _) | (_, Slot::Gone) => gone(),
-            _ => Reply::Refused(Refusal::WrongFormat),
+            (Slot::Bytes(text), Slot::Bytes(other)) => Ok(text::ordered(Ord::cmp(text, other))),
+            (Slot::Utf8(text), Slot::Utf8(other)) => Ok(text::ordered(Ord::cmp(text, other))),
+            (Slot::Ascii(text), Slot::Ascii(other)) => Ok(text::equal(text, other)),
+            (Slot::Wtf8(text), Slot::Wtf8(other)) => Ok(text::equal(text, other)),
+            (Slot::Latin1(text), Slot::Latin1(other)) => Ok(text::equal(text, other)),
+            (Slot::Gone, _) | (_, Slot::Gone) => Err(Refusal::NoSuchSlot),
+            _ => Err(Refusal::WrongFormat),
         }
     }
 
-    /// The text's bytes, copied.
-    pub(crate) fn text(&self, alloc: Global) -> Reply
-        ensures { CellTold (cell_of self.now) result }
+    /// The text's format, and its bytes, copied.
+    pub(crate) fn text(&self, alloc: Global) -> Result<(Kind, ByteList), Refusal>
+        ensures { Gives (CellMust (cell_of self.now)) (λ r. r ≡ Memory)
+            (λ told. TellsCell (cell_of self.now) (reply.Text told.0 told.1)) result }
     {
-        on_text!(self, kind, text => text::told(alloc, kind, text.as_byte_slice()), gone())
+        on_text!(self, kind, text => Ok((kind, text::bytes(alloc, text)?)), Err(Refusal::NoSuchSlot))
     }
 
     /// The units of the text, where it is in WTF-8.
-    pub(crate) fn units(&self) -> Reply
-        ensures { CellUnitsTold (cell_of self.now) result }
+    pub(crate) fn units(&self) -> Result<UnitList, Refusal>
+        ensures { Gives (UnitsMust (cell_of self.now)) (λ r. r ≡ Memory)
+            (λ us. TellsUnits (cell_of self.now) (reply.Units us)) result }
     {
         match self {
-            Slot::Wtf8(text) => text::told_units(text),
-            Slot::Gone => gone(),
-            _ => Reply::Refused(Refusal::WrongFormat),
+            Slot::Wtf8(text) => text::units(text),
+            Slot::Gone => Err(Refusal::NoSuchSlot),
+            _ => Err(Refusal::WrongFormat),
         }
     }
 
     // The slot is gone.
-    fn drop_text(&mut self) -> Reply
+    fn drop_text(&mut self) -> Result<(), Refusal>
         ensures changed { CellChanged (cell_of self.old) Change.Drop result (cell_of self.new) }
         ensures kept { IsCell (cell_of self.old) → IsCell (cell_of self.new) }
     {
         if let Slot::Gone = self {
-            return gone();
+            return Err(Refusal::NoSuchSlot);
         }
         *self = Slot::Gone;
-        Reply::Done
+        Ok(())
     }
-}
-
-/// The reply where a slot isn't there any more.
-pub(crate) fn gone() -> Reply
-    ensures { result ≡ Reply.Refused Refusal.NoSuchSlot }
-{
-    Reply::Refused(Refusal::NoSuchSlot)
 }

@@ -1,10 +1,11 @@
 //! Texts in numbered slots.
-ghost use Rattle.std.specs.Prelude.{◌≡◌, ◌≤◌, ◌<◌, ◌+◌, ◌⊎◌, ◌++◌, ◌∷◌, ◌≢◌, [], length, IfErr, OnOk, OnErr, IsOk, Some, None, MatchOption, MatchResult, All};
+ghost use Rattle.std.specs.Prelude.{◌≡◌, ◌≤◌, ◌<◌, ◌+◌, ◌++◌, ◌∷◌, ◌≢◌, [], length, Ok, Err, IfErr, OnOk, OnErr, IsOk, MatchOption, MatchResult, All};
 ghost use Rattle.tendril_run.specs.CellOf.{cell_of};
 ghost use Rattle.tendril_run.specs.Cells.{IsCell, gone, cell_at};
 ghost use Rattle.tendril_run.specs.OneCell.{CellMust, CellSliceMust, CellCloneMay, part};
+ghost use Rattle.tendril_run.specs.Rules.{IsNoRefusal};
 ghost use Rattle.tendril_block.specs.Outcomes.{CountMay, Gives};
-ghost use Rattle.tendril_run.specs.Steps.{Step, TableChanged};
+ghost use Rattle.tendril_run.specs.Steps.{CommandOutcome, Step, TableChanged, TableJoined};
 
 mod chain;
 
@@ -13,7 +14,7 @@ use crate::change::Change::{self, Convert, EditBytes};
 use crate::change::Conversion::{Reinterpret, ToSubset, ToSuperset};
 use crate::change::Edit::{Clear, PopBack, PopFront, Reserve};
 use crate::classifier::Classifier;
-use crate::slot::{Slot, gone};
+use crate::slot::Slot;
 pub use chain::run;
 pub(crate) use chain::run_behind;
 use std::alloc::Global;
@@ -114,13 +115,28 @@ impl<A: Atomicity> Table<A> {
         ensures step { Step (C.class classifier.now) self.old.cells command.now result self.new.cells }
         ensures room { self.old.room ≤ self.new.room + 1 }
     {
+        match self.carry_out(command, classifier) {
+            Ok(reply) => reply,
+            Err(refusal) => Reply::Refused(refusal),
+        }
+    }
+
+    // The same, where a refusal isn't a reply yet.
+    fn carry_out<C: Classifier>(
+        &mut self,
+        command: &Command,
+        classifier: &C,
+    ) -> Result<Reply, Refusal>
+        requires { 1 ≤ self.old.room }
+        ensures outcome { CommandOutcome (C.class classifier.now) self.old.cells command.now result self.new.cells }
+        ensures plain { IsNoRefusal result }
+        ensures room { self.old.room ≤ self.new.room + 1 }
+    {
         match command {
-            Command::New(kind) => self.new_text(*kind),
-            Command::FromBytes(kind, bytes) => self.add_made(Slot::from_bytes(
-                self.allocator(),
-                *kind,
-                bytes,
-            )),
+            Command::New(kind) => self.add_made(Ok(Slot::empty(self.alloc, *kind))),
+            Command::FromBytes(kind, bytes) => {
+                self.add_made(Slot::from_bytes(self.alloc, *kind, bytes))
+            },
             Command::PushBytes(slot, bytes) => self.push_bytes(*slot, bytes),
             Command::PushTendril(to, from) => self.join(*to, *from),
             Command::PushChar(slot, character) => self.change(*slot, Change::PushChar(*character)),
@@ -128,7 +144,7 @@ impl<A: Atomicity> Table<A> {
             Command::Slice(slot, offset, count) => self.add_made(self.part(*slot, *offset, *count)),
             Command::PopFront(slot, count) => self.change(*slot, Change::Edit(PopFront(*count))),
             Command::PopBack(slot, count) => self.change(*slot, Change::Edit(PopBack(*count))),
-            Command::PopChar(slot) => self.change(*slot, Change::PopChar),
+            Command::PopChar(slot) => self.pop_char(*slot),
             Command::PopRun(slot) => self.pop_run(*slot, classifier),
             Command::Clone(slot) => self.add_made(self.copy(*slot)),
             Command::Clear(slot) => self.change(*slot, Change::Edit(Clear)),
@@ -144,94 +160,94 @@ impl<A: Atomicity> Table<A> {
             Command::Text(slot) => self.text(*slot),
             Command::ThroughSend(slot) => self.change(*slot, Change::ThroughSend),
             Command::Drop(slot) => self.change(*slot, Change::Drop),
-            Command::FromUnits(units) => self.add_made(Slot::from_units(self.allocator(), units)),
+            Command::FromUnits(units) => self.add_made(Slot::from_units(self.alloc, units)),
             Command::Units(slot) => self.units(*slot),
         }
     }
 
-    fn allocator(&self) -> Global {
-        self.alloc
+    // Puts a slot at the end, where there is room and it could be made.
+    fn add_made(&mut self, made: Result<Slot<A>, Refusal>) -> Result<Reply, Refusal>
+        requires { 1 ≤ self.old.room }
+        ensures added { MatchResult made
+            (λ slot. (result ≡ Ok (Reply.Made (length self.old.cells))) × (self.new.cells ≡ self.old.cells ++ cell_of slot ∷ []))
+            (λ refusal. (result ≡ Err refusal) × (self.new.cells ≡ self.old.cells)) }
+        ensures plain { IsNoRefusal result }
+        ensures room { self.old.room ≤ self.new.room + 1 }
+    {
+        Ok(Reply::Made(self.add(made?)))
     }
 
-    // Puts a slot at the end, where there is room.
-    fn add(&mut self, slot: Slot<A>) -> Reply
+    // Puts a slot at the end, where there is room, and answers its number.
+    fn add(&mut self, slot: Slot<A>) -> usize
         requires { 1 ≤ self.old.room }
-        ensures reply { result ≡ Reply.Made (length self.old.cells) }
+        ensures number { result ≡ length self.old.cells }
         ensures cells { self.new.cells ≡ self.old.cells ++ cell_of slot ∷ [] }
         ensures room { self.old.room ≤ self.new.room + 1 }
     {
         let number = self.slots.len();
         let pushed = self.push(slot);
         prove!(pushed.is_ok());
-        Reply::Made(number)
+        number
     }
 
-    // Puts a slot at the end, where there is room and it could be made.
-    fn add_made(&mut self, made: Result<Slot<A>, Refusal>) -> Reply
-        requires { 1 ≤ self.old.room }
-        ensures added { MatchResult made
-            (λ slot. (result ≡ Reply.Made (length self.old.cells)) × (self.new.cells ≡ self.old.cells ++ cell_of slot ∷ []))
-            (λ refusal. (result ≡ Reply.Refused refusal) × (self.new.cells ≡ self.old.cells)) }
-        ensures room { self.old.room ≤ self.new.room + 1 }
-    {
-        match made {
-            Ok(slot) => self.add(slot),
-            Err(refusal) => Reply::Refused(refusal),
-        }
-    }
-
-    fn new_text(&mut self, kind: Kind) -> Reply
-        requires { 1 ≤ self.old.room }
-        ensures step { (class : _) → Step class self.old.cells (Command.New kind) result self.new.cells }
-        ensures room { self.old.room ≤ self.new.room + 1 }
-    {
-        self.add(Slot::empty(self.allocator(), kind))
-    }
-
-    fn push_bytes(&mut self, slot: usize, bytes: &ByteList) -> Reply
-        ensures step { (class : _) → Step class self.old.cells (Command.PushBytes slot bytes.now) result self.new.cells }
+    fn push_bytes(&mut self, slot: usize, bytes: &ByteList) -> Result<Reply, Refusal>
+        ensures outcome { (class : _) →
+            CommandOutcome class self.old.cells (Command.PushBytes slot bytes.now) result self.new.cells }
+        ensures plain { IsNoRefusal result }
         ensures room { self.old.room ≤ self.new.room }
     {
         if slot >= self.slots.len() {
-            return gone();
+            return Err(Refusal::NoSuchSlot);
         }
-        self.slots[slot].push_bytes(bytes)
+        self.slots[slot].push_bytes(bytes)?;
+        Ok(Reply::Done)
     }
 
-    fn pop_run<C: Classifier>(&mut self, slot: usize, classifier: &C) -> Reply
+    fn pop_char(&mut self, slot: usize) -> Result<Reply, Refusal>
+        ensures outcome { (class : _) → CommandOutcome class self.old.cells (Command.PopChar slot) result self.new.cells }
+        ensures plain { IsNoRefusal result }
+        ensures room { self.old.room ≤ self.new.room }
+    {
+        if slot >= self.slots.len() {
+            return Err(Refusal::NoSuchSlot);
+        }
+        Ok(Reply::Char(self.slots[slot].pop_char()?))
+    }
+
+    fn pop_run<C: Classifier>(&mut self, slot: usize, classifier: &C) -> Result<Reply, Refusal>
         requires { 1 ≤ self.old.room }
-        ensures step { Step (C.class classifier.now) self.old.cells (Command.PopRun slot) result self.new.cells }
+        ensures outcome { CommandOutcome (C.class classifier.now) self.old.cells (Command.PopRun slot) result self.new.cells }
+        ensures plain { IsNoRefusal result }
         ensures room { self.old.room ≤ self.new.room + 1 }
     {
         if slot >= self.slots.len() {
-            return gone();
+            return Err(Refusal::NoSuchSlot);
         }
-        match self.slots[slot].pop_run(classifier) {
-            Ok(None) => Reply::Run(None),
-            Ok(Some((run, class))) => self.add_run(run, class),
-            Err(refusal) => Reply::Refused(refusal),
+        match self.slots[slot].pop_run(classifier)? {
+            None => Ok(Reply::Run(None)),
+            Some((run, class)) => Ok(Reply::Run(Some((self.add(run), class)))),
         }
     }
 
-    // Puts a run at the end, where there is room.
-    fn add_run(&mut self, run: Slot<A>, class: u32) -> Reply
-        requires { 1 ≤ self.old.room }
-        ensures reply { result ≡ Reply.Run (Some (length self.old.cells, class)) }
-        ensures cells { self.new.cells ≡ self.old.cells ++ cell_of run ∷ [] }
-        ensures room { self.old.room ≤ self.new.room + 1 }
-    {
-        let number = self.slots.len();
-        self.add(run);
-        Reply::Run(Some((number, class)))
-    }
-
-    fn join(&mut self, to: usize, from: usize) -> Reply
-        ensures step { (class : _) → Step class self.old.cells (Command.PushTendril to from) result self.new.cells }
+    fn join(&mut self, to: usize, from: usize) -> Result<Reply, Refusal>
+        ensures outcome { (class : _) →
+            CommandOutcome class self.old.cells (Command.PushTendril to from) result self.new.cells }
+        ensures plain { IsNoRefusal result }
         ensures room { self.old.room ≤ self.new.room }
     {
         if to >= self.slots.len() || from >= self.slots.len() {
-            return gone();
+            return Err(Refusal::NoSuchSlot);
         }
+        self.join_slots(to, from)?;
+        Ok(Reply::Done)
+    }
+
+    fn join_slots(&mut self, to: usize, from: usize) -> Result<(), Refusal>
+        requires to { to < length self.old.cells }
+        requires from { from < length self.old.cells }
+        ensures joined { TableJoined self.old.cells to from result self.new.cells }
+        ensures room { self.old.room ≤ self.new.room }
+    {
         if to == from {
             self.slots[to].join_self()
         } else {
@@ -240,74 +256,73 @@ impl<A: Atomicity> Table<A> {
     }
 
     // The slot is taken out of the table while another is read.
-    fn join_other(&mut self, to: usize, from: usize) -> Reply
+    fn join_other(&mut self, to: usize, from: usize) -> Result<(), Refusal>
         requires to { to < length self.old.cells }
         requires from { from < length self.old.cells }
         requires other { to ≢ from }
-        ensures step { (class : _) → Step class self.old.cells (Command.PushTendril to from) result self.new.cells }
+        ensures joined { TableJoined self.old.cells to from result self.new.cells }
         ensures room { self.old.room ≤ self.new.room }
     {
         let mut text = mem::replace(&mut self.slots[to], Slot::Gone);
-        let reply = text.join(&self.slots[from]);
+        let joined = text.join(&self.slots[from]);
         self.slots[to] = text;
-        reply
+        joined
     }
 
     // One slot changes, where it is there.
-    fn change(&mut self, slot: usize, change: Change) -> Reply
+    fn change(&mut self, slot: usize, change: Change) -> Result<Reply, Refusal>
         ensures changed { TableChanged self.old.cells slot change result self.new.cells }
+        ensures plain { IsNoRefusal result }
         ensures room { self.old.room ≤ self.new.room }
     {
         if slot >= self.slots.len() {
-            return gone();
+            return Err(Refusal::NoSuchSlot);
         }
-        self.slots[slot].change(change)
+        self.slots[slot].change(change)?;
+        Ok(Reply::Done)
+    }
+
+    // The slot of a number, which has to be there.
+    fn there(&self, slot: usize) -> Result<&Slot<A>, Refusal>
+        ensures { MatchResult result (λ s. cell_of s.now ≡ cell_at self.now.cells slot)
+            (λ r. (r ≡ Refusal.NoSuchSlot) × (cell_at self.now.cells slot ≡ gone)) }
+    {
+        self.slot(slot).ok_or(Refusal::NoSuchSlot)
     }
 
     fn part(&self, slot: usize, offset: u32, count: u32) -> Result<Slot<A>, Refusal>
         ensures { Gives (CellSliceMust (cell_at self.now.cells slot) offset count) (CountMay count)
             (λ s. cell_of s ≡ part (cell_at self.now.cells slot) offset count) result }
     {
-        match self.slot(slot) {
-            Some(slot) => slot.slice(offset, count),
-            None => Err(Refusal::NoSuchSlot),
-        }
+        self.there(slot)?.slice(offset, count)
     }
 
     fn copy(&self, slot: usize) -> Result<Slot<A>, Refusal>
         ensures { Gives (CellMust (cell_at self.now.cells slot)) (CellCloneMay (cell_at self.now.cells slot))
             (λ s. cell_of s ≡ cell_at self.now.cells slot) result }
     {
-        match self.slot(slot) {
-            Some(slot) => slot.clone(),
-            None => Err(Refusal::NoSuchSlot),
-        }
+        self.there(slot)?.clone()
     }
 
-    fn compare(&self, first: usize, second: usize) -> Reply
-        ensures { (class : _) → Step class self.now.cells (Command.Compare first second) result self.now.cells }
+    fn compare(&self, first: usize, second: usize) -> Result<Reply, Refusal>
+        ensures outcome { (class : _) → CommandOutcome class self.now.cells (Command.Compare first second) result self.now.cells }
+        ensures plain { IsNoRefusal result }
     {
-        match (self.slot(first), self.slot(second)) {
-            (Some(text), Some(other)) => text.compare(other),
-            _ => gone(),
-        }
+        Ok(Reply::Compared(self.there(first)?.compare(self.there(second)?)?))
     }
 
-    fn text(&self, slot: usize) -> Reply
-        ensures { (class : _) → Step class self.now.cells (Command.Text slot) result self.now.cells }
+    fn text(&self, slot: usize) -> Result<Reply, Refusal>
+        ensures outcome { (class : _) → CommandOutcome class self.now.cells (Command.Text slot) result self.now.cells }
+        ensures plain { IsNoRefusal result }
     {
-        match self.slot(slot) {
-            Some(slot) => slot.text(self.alloc),
-            None => gone(),
-        }
+        let (kind, bytes) = self.there(slot)?.text(self.alloc)?;
+        Ok(Reply::Text(kind, bytes))
     }
 
-    fn units(&self, slot: usize) -> Reply
-        ensures { (class : _) → Step class self.now.cells (Command.Units slot) result self.now.cells }
+    fn units(&self, slot: usize) -> Result<Reply, Refusal>
+        ensures outcome { (class : _) → CommandOutcome class self.now.cells (Command.Units slot) result self.now.cells }
+        ensures plain { IsNoRefusal result }
     {
-        match self.slot(slot) {
-            Some(slot) => slot.units(),
-            None => gone(),
-        }
+        Ok(Reply::Units(self.there(slot)?.units()?))
     }
 }

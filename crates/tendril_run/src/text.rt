@@ -1,26 +1,27 @@
 //! What commands do to a text, in any format.
-ghost use Rattle.std.specs.Prelude.{◌≡◌, ◌<◌, ◌≤◌, ◌⊎◌, ◌↔◌, length, take, drop, IsTrue, IfOk, IfErr, OnOk, [], nat_eq, if◌then◌else◌};
-ghost use Rattle.tendril_text.specs.Errors.{refusal_of};
+ghost use Rattle.std.specs.Prelude.{◌≡◌, ◌<◌, ◌≤◌, ◌⊎◌, ◌↔◌, length, take, drop, IsTrue, IfOk, IfErr, [], nat_eq, if◌then◌else◌};
 ghost use Rattle.tendril_run.specs.CellOf.{cell_of};
 ghost use Rattle.tendril_run.specs.Cells.{text as text_cell, valid_in, IsText};
 ghost use Rattle.tendril_run.specs.Characters.{first_of, without_first, TakesFirstRun};
 ghost use Rattle.std.specs.Cmp.Lexicographic.{pointwise};
 ghost use Rattle.tendril_run.specs.Comparisons.{in_order};
 ghost use Rattle.tendril_run.specs.Edits.{TextEdited, BytesEdited};
-ghost use Rattle.tendril_run.specs.OneCell.{CellTold, CellUnitsTold, SendMay};
-ghost use Rattle.tendril_run.specs.Rules.{TextPushed, Answered, Changed};
+ghost use Rattle.tendril_run.specs.OneCell.{SendMay};
+ghost use Rattle.tendril_run.specs.Rules.{TextPushed, Changes};
 ghost use Rattle.tendril_text.specs.Making.{MakesValidText};
-ghost use Rattle.tendril_block.specs.Outcomes.{NoneMust, LengthMust, CharMust, BytesMust, SliceMust, NoneMay, MemoryMay, CountMay, Gives};
+ghost use Rattle.tendril_block.specs.Outcomes.{NoneMust, LengthMust, CharMust, BytesMust, SliceMust, MemoryMay, CountMay, Gives};
+ghost use Rattle.tendril_block.specs.declared.refusal.Refusal.TheVariants.{Memory};
+ghost use Rattle.tendril_fmt.specs.Wtf8.{units};
 
 use crate::change::{ByteEdit, Edit};
 use crate::classifier::Classifier;
 use crate::slot::Slot;
 use std::alloc::Global;
 use std::cmp::Ordering;
-use tendril_lines::{ByteList, Comparison, Kind, Reply, UnitList};
+use tendril_lines::{ByteList, Comparison, Kind, UnitList};
 use tendril_text::block::{MAX_LEN, Refusal};
 use tendril_text::fmt::{CharFormat, Format, WTF8};
-use tendril_text::{Atomicity, ByteTendril, SubtendrilError, Tendril};
+use tendril_text::{Atomicity, ByteTendril, Tendril};
 
 /// A text of these bytes.
 pub(crate) fn from_bytes<F: Format, A: Atomicity>(
@@ -33,33 +34,36 @@ pub(crate) fn from_bytes<F: Format, A: Atomicity>(
 }
 
 /// Puts bytes at the end of the text.
-pub(crate) fn push<F: Format, A: Atomicity>(text: &mut Tendril<F, A>, bytes: &ByteList) -> Reply
+pub(crate) fn push<F: Format, A: Atomicity>(
+    text: &mut Tendril<F, A>,
+    bytes: &ByteList,
+) -> Result<(), Refusal>
     ensures done { let joined = F.join text.old.bytes bytes.now in
         TextPushed (BytesMust F.valid bytes.now (length joined)) joined text.old.bytes result text.new.bytes }
     ensures kept { IsText F.valid text.old.bytes → IsText F.valid text.new.bytes }
 {
-    reply_of(text.try_push_bytes(bytes.as_slice()))
+    text.try_push_bytes(bytes.as_slice())
 }
 
 /// Puts a character at the end of the text.
 pub(crate) fn push_char<F: CharFormat, A: Atomicity>(
     text: &mut Tendril<F, A>,
     character: char,
-) -> Reply
+) -> Result<(), Refusal>
     ensures done { let joined = F.join text.old.bytes (F.encoding character) in
         TextPushed (CharMust F.encodes character (length joined)) joined text.old.bytes result text.new.bytes }
     ensures kept { IsText F.valid text.old.bytes → IsText F.valid text.new.bytes }
 {
-    reply_of(text.try_push_char(character))
+    text.try_push_char(character)
 }
 
 /// Takes the first character out of the text.
-pub(crate) fn pop_char<F: CharFormat, A: Atomicity>(text: &mut Tendril<F, A>) -> Reply
-    ensures done { Answered NoneMust NoneMay (Reply.Char (first_of (F.chars text.old.bytes)))
-        (without_first F.encoding (F.chars text.old.bytes) text.old.bytes) text.old.bytes result text.new.bytes }
+pub(crate) fn pop_char<F: CharFormat, A: Atomicity>(text: &mut Tendril<F, A>) -> Option<char>
+    ensures first { result ≡ first_of (F.chars text.old.bytes) }
+    ensures rest { text.new.bytes ≡ without_first F.encoding (F.chars text.old.bytes) text.old.bytes }
     ensures kept { IsText F.valid text.old.bytes → IsText F.valid text.new.bytes }
 {
-    Reply::Char(text.pop_front_char())
+    text.pop_front_char()
 }
 
 /// Takes the longest run of characters of one class out of the front of the text, with the class.
@@ -75,28 +79,29 @@ pub(crate) fn pop_run<F: CharFormat, A: Atomicity, C: Classifier>(
 }
 
 /// Puts another text at the end of the text.
-pub(crate) fn join<F: Format, A: Atomicity>(text: &mut Tendril<F, A>, more: &Tendril<F, A>) -> Reply
+pub(crate) fn join<F: Format, A: Atomicity>(
+    text: &mut Tendril<F, A>,
+    more: &Tendril<F, A>,
+) -> Result<(), Refusal>
     ensures done { let joined = F.join text.old.bytes more.now.bytes in
         TextPushed (LengthMust (length joined)) joined text.old.bytes result text.new.bytes }
     ensures kept { IsText F.valid text.old.bytes → F.valid more.now.bytes → IsText F.valid text.new.bytes }
 {
-    reply_of(text.push_tendril(more))
+    text.push_tendril(more)
 }
 
 /// Puts the text at its own end. It is shared for that, where the result isn't too long.
-pub(crate) fn join_self<F: Format, A: Atomicity>(text: &mut Tendril<F, A>) -> Reply
+pub(crate) fn join_self<F: Format, A: Atomicity>(text: &mut Tendril<F, A>) -> Result<(), Refusal>
     ensures done { let joined = F.join text.old.bytes text.old.bytes in
-        Changed (LengthMust (length joined)) (λ r. MemoryMay (length joined) r ⊎ CountMay (length text.old.bytes) r)
+        Changes (LengthMust (length joined)) (λ r. MemoryMay (length joined) r ⊎ CountMay (length text.old.bytes) r)
         joined text.old.bytes result text.new.bytes }
     ensures kept { IsText F.valid text.old.bytes → IsText F.valid text.new.bytes }
 {
     if is_twice_too_long(text) {
-        return Reply::Refused(Refusal::TooLong);
+        return Err(Refusal::TooLong);
     }
-    match text.clone() {
-        Ok(copy) => join(text, &copy),
-        Err(refusal) => Reply::Refused(refusal),
-    }
+    let copy = text.clone()?;
+    join(text, &copy)
 }
 
 // Whether the text, joined to itself, is too long for a text.
@@ -111,85 +116,69 @@ fn is_twice_too_long<F: Format, A: Atomicity>(text: &Tendril<F, A>) -> bool
 }
 
 /// Changes the bytes of the text.
-pub(crate) fn edit<F: Format, A: Atomicity>(text: &mut Tendril<F, A>, edit: Edit) -> Reply
+pub(crate) fn edit<F: Format, A: Atomicity>(
+    text: &mut Tendril<F, A>,
+    edit: Edit,
+) -> Result<(), Refusal>
     ensures done { TextEdited F.valid edit text.old.bytes result text.new.bytes }
     ensures kept { IsText F.valid text.old.bytes → IsText F.valid text.new.bytes }
 {
     match edit {
-        Edit::PopFront(count) => popped(text.try_pop_front(count)),
-        Edit::PopBack(count) => popped(text.try_pop_back(count)),
-        Edit::Clear => {
-            text.clear();
-            Reply::Done
-        }
-        Edit::Reserve(more) => reply_of(text.reserve(more)),
+        Edit::PopFront(count) => text.try_pop_front(count)?,
+        Edit::PopBack(count) => text.try_pop_back(count)?,
+        Edit::Clear => text.clear(),
+        Edit::Reserve(more) => text.reserve(more)?,
     }
+    Ok(())
 }
 
 /// Changes the bytes of a text of bytes.
-pub(crate) fn edit_bytes<A: Atomicity>(text: &mut ByteTendril<A>, edit: ByteEdit) -> Reply
+pub(crate) fn edit_bytes<A: Atomicity>(
+    text: &mut ByteTendril<A>,
+    edit: ByteEdit,
+) -> Result<(), Refusal>
     ensures done { BytesEdited edit text.old.bytes result text.new.bytes }
     ensures short { length text.old.bytes ≤ MAX_LEN → length text.new.bytes ≤ MAX_LEN }
 {
     match edit {
-        ByteEdit::PushZeros(count) => reply_of(text.push_uninitialized(count)),
+        ByteEdit::PushZeros(count) => text.push_uninitialized(count),
         ByteEdit::WriteByte(index, byte) => write_byte(text, index, byte),
     }
 }
 
-fn write_byte<A: Atomicity>(text: &mut ByteTendril<A>, index: u32, byte: u8) -> Reply
+fn write_byte<A: Atomicity>(text: &mut ByteTendril<A>, index: u32, byte: u8) -> Result<(), Refusal>
     ensures done { BytesEdited (ByteEdit.WriteByte index byte) text.old.bytes result text.new.bytes }
     ensures short { length text.old.bytes ≤ MAX_LEN → length text.new.bytes ≤ MAX_LEN }
 {
     if index >= text.len32() {
-        return Reply::Refused(Refusal::OutOfBounds);
+        return Err(Refusal::OutOfBounds);
     }
-    reply_of(text.bytes_mut(|bytes| bytes[index as usize] = byte))
+    text.bytes_mut(|bytes| bytes[index as usize] = byte)
 }
 
-// The reply to a call that was done or refused.
-fn reply_of(done: Result<(), Refusal>) -> Reply
-    ensures ok { OnOk done (result ≡ Reply.Done) }
-    ensures err { IfErr done (λ r. result ≡ Reply.Refused r) }
+/// How two texts compare whose format has an order.
+pub(crate) fn ordered(order: Ordering) -> Comparison
+    ensures { result ≡ in_order order }
 {
-    match done {
-        Ok(()) => Reply::Done,
-        Err(refusal) => Reply::Refused(refusal),
-    }
-}
-
-// The reply to a pop.
-fn popped(done: Result<(), SubtendrilError>) -> Reply
-    ensures ok { OnOk done (result ≡ Reply.Done) }
-    ensures err { IfErr done (λ e. result ≡ Reply.Refused (refusal_of e)) }
-{
-    match done {
-        Ok(()) => Reply::Done,
-        Err(error) => Reply::Refused(error.into()),
-    }
-}
-
-/// The reply that tells an order.
-pub(crate) fn ordered(order: Ordering) -> Reply
-    ensures { result ≡ Reply.Compared (in_order order) }
-{
-    Reply::Compared(match order {
+    match order {
         Ordering::Less => Comparison::Less,
         Ordering::Equal => Comparison::Equal,
         Ordering::Greater => Comparison::Greater,
-    })
+    }
 }
 
-/// The reply that tells whether two texts are equal.
-pub(crate) fn equal<F: Format, A: Atomicity>(text: &Tendril<F, A>, other: &Tendril<F, A>) -> Reply
-    ensures { result ≡ Reply.Compared
-        (if pointwise nat_eq text.now.bytes other.now.bytes then Comparison.Equal else Comparison.Differ) }
+/// How two texts compare whose format has none.
+pub(crate) fn equal<F: Format, A: Atomicity>(
+    text: &Tendril<F, A>,
+    other: &Tendril<F, A>,
+) -> Comparison
+    ensures { result ≡ (if pointwise nat_eq text.now.bytes other.now.bytes then Comparison.Equal else Comparison.Differ) }
 {
-    Reply::Compared(if text == other {
+    if text == other {
         Comparison::Equal
     } else {
         Comparison::Differ
-    })
+    }
 }
 
 /// The text in another format, or back where it isn't valid there.
@@ -210,18 +199,13 @@ pub(crate) fn reinterpreted<F: Format, A: Atomicity>(
 }
 
 /// Makes a clone of the text sendable, takes it back, and puts it in the text's place.
-pub(crate) fn through_send<F: Format, A: Atomicity>(text: &mut Tendril<F, A>) -> Reply
-    ensures done { Changed NoneMust (SendMay (length text.old.bytes))
+pub(crate) fn through_send<F: Format, A: Atomicity>(text: &mut Tendril<F, A>) -> Result<(), Refusal>
+    ensures done { Changes NoneMust (SendMay (length text.old.bytes))
         text.old.bytes text.old.bytes result text.new.bytes }
     ensures kept { IsText F.valid text.old.bytes → IsText F.valid text.new.bytes }
 {
-    match sent_and_back(text) {
-        Ok(back) => {
-            *text = back;
-            Reply::Done
-        }
-        Err(refusal) => Reply::Refused(refusal),
-    }
+    *text = sent_and_back(text)?;
+    Ok(())
 }
 
 fn sent_and_back<F: Format, A: Atomicity>(text: &Tendril<F, A>) -> Result<Tendril<F, A>, Refusal>
@@ -244,22 +228,19 @@ pub(crate) fn slice<F: Format, A: Atomicity>(
     Ok(text.try_subtendril(offset, count)?)
 }
 
-/// The reply that tells a text's bytes, copied.
-pub(crate) fn told(alloc: Global, kind: Kind, bytes: &[u8]) -> Reply
-    ensures { CellTold (text_cell kind bytes.now) result }
+/// The text's bytes, copied.
+pub(crate) fn bytes<F: Format, A: Atomicity>(
+    alloc: Global,
+    text: &Tendril<F, A>,
+) -> Result<ByteList, Refusal>
+    ensures { Gives NoneMust (λ r. r ≡ Memory) (λ list. list ≡ text.now.bytes) result }
 {
-    match Vec::from_slice(alloc, bytes) {
-        Ok(bytes) => Reply::Text(kind, ByteList::new(bytes)),
-        Err(_) => Reply::Refused(Refusal::Memory),
-    }
+    Ok(ByteList::new(Vec::from_slice(alloc, text.as_byte_slice())?))
 }
 
-/// The reply that tells a text's units.
-pub(crate) fn told_units<A: Atomicity>(text: &Tendril<WTF8, A>) -> Reply
-    ensures { CellUnitsTold (text_cell Kind.Wtf8 text.now.bytes) result }
+/// The text's units.
+pub(crate) fn units<A: Atomicity>(text: &Tendril<WTF8, A>) -> Result<UnitList, Refusal>
+    ensures { Gives NoneMust (λ r. r ≡ Memory) (λ list. list ≡ units text.now.bytes) result }
 {
-    match text.to_units() {
-        Ok(units) => Reply::Units(UnitList::new(units)),
-        Err(_) => Reply::Refused(Refusal::Memory),
-    }
+    Ok(UnitList::new(text.to_units()?))
 }

@@ -7,13 +7,13 @@ use crate::change::{Change, Conversion};
 use crate::slot::Slot;
 use crate::text;
 use std::mem;
-use tendril_lines::{Kind, Reply};
+use tendril_lines::Kind;
 use tendril_text::Atomicity;
 use tendril_text::block::Refusal;
 
 impl<A: Atomicity> Slot<A> {
     // Changes the text's format.
-    pub(super) fn convert(&mut self, conversion: Conversion) -> Reply
+    pub(super) fn convert(&mut self, conversion: Conversion) -> Result<(), Refusal>
         ensures changed { CellChanged (cell_of self.old) (Change.Convert conversion) result (cell_of self.new) }
         ensures kept { IsCell (cell_of self.old) → IsCell (cell_of self.new) }
     {
@@ -21,11 +21,11 @@ impl<A: Atomicity> Slot<A> {
         match old.converted(conversion) {
             Ok(new) => {
                 *self = new;
-                Reply::Done
+                Ok(())
             }
             Err((refusal, back)) => {
                 *self = back;
-                Reply::Refused(refusal)
+                Err(refusal)
             }
         }
     }

@@ -4,7 +4,7 @@ use Rattle.rope_run.proofs.RopeChanged.{one_rope, table_answered, past_gone, kep
 use Rattle.rope_run.specs.RopeCells.{rope_at}
 use Rattle.rope_run.specs.RopeOf.{rope_cell_of}
 use Rattle.rope_run.specs.RopeRows.{AppendMust, AppendMay, rope_appended}
-use Rattle.tendril_run.specs.Rules.{Changed}
+use Rattle.rope_run.specs.RopeRules.{Changed}
 use Rattle.rope_run.proofs.table.RopeTable.append.Goals as goal
 
 pub returns-then-to-len-clause-step : goal.returns-then-to-len-clause-step

@@ -5,7 +5,7 @@ use Rattle.rope_run.specs.RopeOf.{rope_cell_of}
 use Rattle.rope_run.specs.RopeRows.{RopePushMust, RopePushMay, rope_pushed}
 use Rattle.tendril_run.specs.CellOf.{cell_of}
 use Rattle.tendril_run.specs.Cells.{cell_at}
-use Rattle.tendril_run.specs.Rules.{Changed}
+use Rattle.rope_run.specs.RopeRules.{Changed}
 use Rattle.rope_run.proofs.table.RopeTable.push.Goals as goal
 
 pub returns-then-rope-len-clause-step : goal.returns-then-rope-len-clause-step
