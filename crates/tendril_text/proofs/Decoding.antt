@@ -16,7 +16,7 @@ use Rattle.tendril_lossy.proofs.Streams.{IsLossy-lossy, only_lossy}
 use Rattle.tendril_lossy.proofs.Told.{characters-append, characters-map}
 use Rattle.tendril_lossy.specs.Completions.{BreaksAt, CompletesTo}
 use Rattle.tendril_lossy.specs.AfterText.{EndsWithin, items_after}
-use Rattle.tendril_lossy.specs.Lossy.{Item, Told, Keep, Bad, Cut, Char, Mark, IsLossy, IsOpen, lossy, closed_of, characters, due_open, cut_bytes, kept}
+use Rattle.tendril_lossy.specs.Lossy.{Item, Keep, Bad, Cut, Char, IsLossy, IsOpen, lossy, closed_of, characters, due_open, cut_bytes, kept}
 use Rattle.tendril_lossy.specs.declared.search.Ending.{Ending}
 use Rattle.tendril_lossy.specs.declared.search.Ending.TheVariants.{Whole, Broken, Open}
 use Rattle.tendril_text.specs.Decoding.{BothShare, LongPieceMay, DecodesPiece, IsHandedOn, IsRest, HandsOn, HandsOnUpTo, Hands, Leaves, PopsText, broken_len, bytes_of, listed}
@@ -35,6 +35,11 @@ part-through a b c (inr q) within p = (
 pub rest-through : (a b c : Text) → IsRest a b → (8 < length c.bytes → length c.bytes ≤ length b.bytes) → IsRest b c → IsRest a c
 rest-through a b c q within (inl same) = subst (IsRest a) (sym same) q
 rest-through a b c q within (inr p) = inr (part-through a b c q within p)
+
+-- a text is popped
+pub rest-popped : (a b c : Text) (text : Option Text) (ending : Ending) → IsRest a b → PopsText b text ending c → IsRest a c
+rest-popped a b c text ending q h =
+    rest-through a b c q (λ _. omega (arith, ap length h.rest, length-drop (length (bytes_of text) + broken_len ending) b.bytes)) h.part
 
 pub handed-through : (a b : Text) → IsRest a b → length b.bytes ≤ length a.bytes → (t : Text) → IsHandedOn b t → IsHandedOn a t
 handed-through a b q less t h =
@@ -211,13 +216,12 @@ module _ {P : Type 0} (step : P → Text → Unit {0} → P → Type 0) where
       let cs = chars (bytes_of text) in
       let n = length (bytes_of text) + broken_len ending in
       let less : length b.bytes ≤ length piece.bytes = omega (arith, ap length so.end, length-drop so.at piece.bytes) in
-      let lesser : length c.bytes ≤ length b.bytes = omega (arith, ap length h.rest, length-drop n b.bytes) in
       let items : lossy b.bytes ≡ (map Keep cs ++ tail) ++ lossy c.bytes = h.items ∙ ap (λ l. map Keep cs ++ l) after ∙ sym (append_assoc (map Keep cs) tail (lossy c.bytes)) in
       let all = All-append (IsHandedOn b) (listed text) texts (listed-handed b text h.handed) each in
       record {
         at = so.at + n;
         end = h.rest ∙ ap (drop n) so.end ∙ drop-drop n so.at piece.bytes;
-        part = rest-through piece b c so.part (λ _. lesser) h.part;
+        part = rest-popped piece b c text ending so.part h;
         before = so.before ++ (map Keep cs ++ tail);
         items = so.items ∙ ap (λ l. so.before ++ l) items ∙ sym (append_assoc so.before (map Keep cs ++ tail) (lossy c.bytes));
         keeps = so.keeps ∙ ap cut_bytes (h.items ∙ ap (λ l. map Keep cs ++ l) after) ∙ cut-keeps cs (tail ++ lossy c.bytes) ∙ keeps;

@@ -16,13 +16,18 @@ use Rattle.std.specs.Prelude.{
   Result,
   Ok,
   Err,
+  MatchOption,
 }
 use Rattle.tendril_block.specs.declared.refusal.Refusal.{Refusal}
 use Rattle.tendril_block.specs.declared.refusal.Refusal.TheVariants.{Count}
-use Rattle.tendril_storage.specs.Texts.{Text, Parts}
+use Rattle.tendril_storage.specs.Texts.{Text, Keeps, Parts}
 use Rattle.tendril_text.specs.declared.search.SetResult.{SetResult}
 use Rattle.tendril_text.specs.Characters.{AsksLongRun, AsksRun}
 use Rattle.tendril_text.specs.Search.{HasLongPartBefore, TakesPart}
+
+-- what is left of a text once a character is asked of it: the text, where none came, or a pop of it
+abbrev pub IsLeftBy : Option ℕ → Text → Text → Type 0
+IsLeftBy found text rest = MatchOption found (rest ≡ text) (λ _. Keeps text rest)
 
 -- how many parts may come: none once one was refused, else one for each byte, and a refusal
 abbrev pub parts_left : Bool → List ℕ → ℕ

@@ -3,7 +3,7 @@
 //! Broken bytes are replaced by U+FFFD, one for each maximal subpart (Unicode, chapter 3, 'U+FFFD Substitution of Maximal
 //! Subparts'), as std's `from_utf8_lossy` and the WHATWG Encoding Standard do it.
 ghost use Rattle.std.specs.Prelude.{◌≡◌, ◌<◌, ◌≤◌, [], length, IfSome, IfNone, OnSome, IfOk, IfErr, OnOk, OnErr, MatchOption, MatchResult};
-ghost use Rattle.tendril_text.specs.Decoding.{DecodesPiece, Hands, HandsCompleted, HandsOnUpTo, LongPieceMay, PopsText, listed};
+ghost use Rattle.tendril_text.specs.Decoding.{DecodesPiece, Hands, HandsCompleted, HandsOnUpTo, IsRest, LongPieceMay, PopsText, listed};
 ghost use Rattle.tendril_block.specs.Outcomes.{NoneMust, Outcome};
 ghost use Rattle.tendril_lossy.specs.Completions.{BreaksAt, CompletesTo, StillOpen};
 ghost use Rattle.tendril_lossy.specs.Lossy.{IsOpen};
@@ -253,6 +253,8 @@ impl<A: Atomicity> Tendril<Bytes, A> {
         ensures ok { IfOk result (λ kept.
             DecodesPiece (λ p t u q. P.step p (⟦<Tendril<UTF8, A> as Handed<T>>⟧.handed t) u q)
             push_utf8.old self.old kept push_utf8.new) }
+        ensures left { IfOk result (λ kept. MatchOption kept (self.new.bytes ≡ []) (λ k. self.new.bytes ≡ k)) }
+        ensures part { OnOk result (IsRest self.old self.new) }
         ensures refusal { IfErr result (LongPieceMay self.new.bytes) }
         ensures err { OnErr result (
             HandsOnUpTo (λ p t u q. P.step p (⟦<Tendril<UTF8, A> as Handed<T>>⟧.handed t) u q)

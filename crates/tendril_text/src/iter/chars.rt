@@ -1,6 +1,7 @@
 //! The characters of a text, one by one.
 ghost use Rattle.std.specs.Prelude.{◌≡◌};
 ghost use Rattle.std.specs.Iterator.{YieldsFirst, item_count};
+ghost use Rattle.tendril_text.specs.Iterators.{IsLeftBy};
 
 use crate::tendril::Tendril;
 use std::iter::FusedIterator;
@@ -17,7 +18,8 @@ pub struct IntoChars<F: CharFormat, A: Atomicity> {
 impl<F: CharFormat, A: Atomicity> Iterator for IntoChars<F, A> {
     type Item = char;
 
-    ghost next_gives = { YieldsFirst (λ chars. F.chars chars.rest.bytes) };
+    ghost next_gives = { λ chars found next.
+        YieldsFirst (λ chars. F.chars chars.rest.bytes) chars found next × IsLeftBy found chars.rest next.rest };
 
     ghost remaining = { item_count (λ chars. F.chars chars.rest.bytes) };
 

@@ -19,13 +19,17 @@ fn long<A: Atomicity>(alloc: Global, number: usize, steps: &[Step]) -> Result<()
     }
 }
 
+// Prints more than eight bytes, in two pieces, and fails then or not.
 #[derive(Drop)]
-struct Breaks;
+struct Pieces {
+    fails: bool,
+}
 
-impl Display for Breaks {
+impl Display for Pieces {
     fn fmt<W: fmt::Write>(&self, f: &mut Formatter<W>) -> fmt::Result {
-        f.write_str("more than eight bytes")?;
-        Err(fmt::Error)
+        f.write_str("more than ")?;
+        f.write_str("eight bytes")?;
+        if self.fails { Err(fmt::Error) } else { Ok(()) }
     }
 }
 
@@ -39,14 +43,15 @@ fn all_or_refused<A: Atomicity>(text: Result<StrTendril<A>, Refusal>) -> Result<
 
 fn formatted<A: Atomicity>(alloc: Global) -> Result<(), Fail> {
     refuse_request(alloc, 1)?;
-    all_or_refused(StrTendril::<A>::format(alloc, &Breaks))
+    all_or_refused(StrTendril::<A>::format(alloc, &Pieces { fails: true }))
 }
 
-fn printed<A: Atomicity>(alloc: Global) -> Result<(), Fail> {
+// What the value's `Display` answers comes back, whether a push was refused or not.
+fn printed<A: Atomicity>(alloc: Global, fails: bool) -> Result<(), Fail> {
     refuse_request(alloc, 1)?;
-    let (text, answered) = StrTendril::<A>::print(alloc, &Breaks);
+    let (text, answered) = StrTendril::<A>::print(alloc, &Pieces { fails });
     all_or_refused(text)?;
-    same(answered.is_err(), true)
+    same(answered.is_err(), fails)
 }
 
 #[test]
@@ -143,10 +148,22 @@ fn into_a_text_that_is_refused_over_atomic(rt: HostRuntime) -> Result<(), Fail> 
 
 #[test]
 fn into_a_text_that_is_refused_and_told(rt: HostRuntime) -> Result<(), Fail> {
-    printed::<NonAtomic>(rt.alloc())
+    printed::<NonAtomic>(rt.alloc(), false)
 }
 
 #[test]
 fn into_a_text_that_is_refused_and_told_over_atomic(rt: HostRuntime) -> Result<(), Fail> {
-    printed::<Atomic>(rt.alloc())
+    printed::<Atomic>(rt.alloc(), false)
+}
+
+#[test]
+fn into_a_text_that_is_refused_by_a_value_that_fails(rt: HostRuntime) -> Result<(), Fail> {
+    printed::<NonAtomic>(rt.alloc(), true)
+}
+
+#[test]
+fn into_a_text_that_is_refused_by_a_value_that_fails_over_atomic(
+    rt: HostRuntime,
+) -> Result<(), Fail> {
+    printed::<Atomic>(rt.alloc(), true)
 }
