@@ -93,6 +93,7 @@ fn meaning_of(code: u32) -> Meaning
 }
 
 /// What the bytes mean, if they are those of one code point and no more.
+#[inline(always)]
 pub(crate) fn decode(bytes: &[u8]) -> Option<Meaning>
     ensures { MatchOption result (EncodeNone bytes.now) (Encode bytes.now) }
 {
