@@ -1,4 +1,4 @@
-//! Tests of what no contract says, and a format of a user's own.
+//! Two formats of a user's own, and code that is generic in the format.
 #![tactic(auto)]
 
 pub mod callers;

@@ -35,10 +35,8 @@ pub fn decode<R: CountedRead, W: Write>(
     let mut made = 0;
     while made < MOST_READS {
         made += 1;
-        match decode_read(alloc, &mut decoder, reader, out) {
-            Ok(true) => return decode_end(decoder, out),
-            Ok(false) => {}
-            Err(refusal) => return Err(refusal),
+        if decode_read(alloc, &mut decoder, reader, out)? {
+            return decode_end(decoder, out);
         }
     }
     Err(Refusal::TooManyReads)
@@ -64,17 +62,12 @@ fn decode_read<R: CountedRead, W: Write>(
         → IfErr result (λ r. (more : List OneRead) × MakesReads R.history R.remaining reader.old more reader.new
         × DecodeStops most_reads (these ++ more) (R.remaining reader.new) before (W.contents out.new) r) }
 {
-    match read_once(alloc, decoder, reader) {
-        Ok(true) => Ok(true),
-        Ok(false) => {
-            if let Err(refusal) = write_text(&decoder.inner_sink.text, out) {
-                return Err(refusal);
-            }
-            decoder.inner_sink.text.clear();
-            Ok(false)
-        }
-        Err(refusal) => Err(refusal),
+    if read_once(alloc, decoder, reader)? {
+        return Ok(true);
     }
+    write_text(&decoder.inner_sink.text, out)?;
+    decoder.inner_sink.text.clear();
+    Ok(false)
 }
 
 // Ends the stream, and writes what is due of its end.
@@ -87,10 +80,8 @@ fn decode_end<W: Write>(decoder: Utf8LossyDecoder<Joined>, out: &mut W) -> Resul
         → IfErr result (λ r. (r ≡ Refusal.SinkRefused)
         × WritesFrontOfText (characters (due (given these))) before (W.contents out.new)) }
 {
-    match decoder.finish() {
-        Ok(text) => write_text(&text, out),
-        Err(refusal) => Err(refusal),
-    }
+    let text = decoder.finish()?;
+    write_text(&text, out)
 }
 
 // Writes a text, and flushes.

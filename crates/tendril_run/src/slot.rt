@@ -123,19 +123,17 @@ impl<A: Atomicity> Slot<A> {
         Ok(Slot::Wtf8(Tendril::<WTF8, A>::from_units(alloc, units.as_slice())?))
     }
 
-    /// The format of the text, `None` where it is gone.
-    pub(crate) fn kind(&self) -> Option<Kind>
-        ensures valid { IsCell (cell_of self.now) }
+    /// A text tells where it is read that it is valid. Costs nothing.
+    pub(crate) fn read(&self)
+        ensures { IsCell (cell_of self.now) }
     {
         on_text!(
             self,
-            kind,
+            _kind,
             text => {
-                // The text keeps that it is valid, and tells it where it is read.
                 let _bytes = text.as_byte_slice();
-                Some(kind)
             },
-            None
+            ()
         )
     }
 

@@ -66,8 +66,8 @@ impl<A: Atomicity> Table<A> {
         ensures room { self.old.room ≤ self.new.room + 1 }
         ensures succeeds { 1 ≤ self.old.room → IsOk result }
     {
-        // A slot may come from anywhere: that its text is valid is told where it is read.
-        let _kind = slot.kind();
+        // A slot may come from anywhere.
+        slot.read();
         match self.slots.push(slot) {
             Ok(()) => Ok(()),
             Err(failed) => Err((Refusal::Memory, failed.value)),

@@ -20,6 +20,9 @@ const INVALID: &str = "invalid byte sequence";
 const INCOMPLETE: &str = "incomplete byte sequence at end of stream";
 
 /// Decodes bytes that come in pieces to texts for a sink, with an error and U+FFFD for each broken sequence.
+///
+/// A call is refused with SinkRefused where the sink refuses what it is sent, whatever the sink's reason, and with Count
+/// where a piece can't be shared. After one refusal all that follow are refused with Failed.
 #[derive(Drop)]
 pub struct Utf8LossyDecoder<S: TendrilSink<StrTendril<A>>, A: Atomicity = NonAtomic> {
     /// Where the texts go.
@@ -120,13 +123,8 @@ impl<S: TendrilSink<StrTendril<A>>, A: Atomicity> TendrilSink<ByteTendril<A>>
         if self.failed {
             return Err(Refusal::Failed);
         }
-        if let Err(refusal) = flush(&mut sink, self.alloc, &self.kept) {
-            return Err(refusal);
-        }
-        match sink.finish() {
-            Ok(out) => Ok(out),
-            Err(_) => Err(Refusal::SinkRefused),
-        }
+        flush(&mut sink, self.alloc, &self.kept)?;
+        sink.finish().map_err(|_| Refusal::SinkRefused)
     }
 }
 
@@ -138,10 +136,7 @@ fn send<S: TendrilSink<StrTendril<A>>, A: Atomicity>(
     ensures ok { OnOk result (S.takes sink.old (Piece text) sink.new) }
     ensures err { IfErr result (λ r. RefusesCall S.refuses sink.old (Piece text) r sink.new) }
 {
-    if let Err(_refusal) = sink.process(text) {
-        return Err(Refusal::SinkRefused);
-    }
-    Ok(())
+    sink.process(text).map_err(|_| Refusal::SinkRefused)
 }
 
 // A text of few bytes.
@@ -166,13 +161,10 @@ fn replace<S: TendrilSink<StrTendril<A>>, A: Atomicity>(
     ensures err { (piece : _) → IfErr result (λ r.
         Stops S.takes S.refuses piece sink.old (replaced words.now) r sink.new) }
 {
-    if let Err(_refusal) = sink.error(CowStr::Borrowed(words)) {
+    if let Err(_) = sink.error(CowStr::Borrowed(words)) {
         return Err(Refusal::SinkRefused);
     }
-    if let Err(refusal) = send(sink, short(alloc, "\u{FFFD}")) {
-        return Err(refusal);
-    }
-    Ok(())
+    send(sink, short(alloc, "\u{FFFD}"))
 }
 
 // Sends a text, if there is one.
@@ -201,26 +193,17 @@ fn feed_rest<S: TendrilSink<StrTendril<A>>, A: Atomicity>(
 {
     let mut last = FEW_BEFORE;
     loop {
-        let (text, ending) = match piece.pop_text_after(last) {
-            Ok(found) => found,
-            Err(refusal) => return Err(refusal),
-        };
+        let (text, ending) = piece.pop_text_after(last)?;
         last = match &text {
             Some(text) => text.len32(),
             None => 0,
         };
-        if let Err(refusal) = send_some(sink, text) {
-            return Err(refusal);
-        }
+        send_some(sink, text)?;
         match ending {
             Ending::Whole | Ending::Open => {
                 return Ok(IncompleteUtf8::new_without_validating(piece.as_byte_slice()));
             }
-            Ending::Broken(_) => {
-                if let Err(refusal) = replace(sink, alloc, INVALID) {
-                    return Err(refusal);
-                }
-            }
+            Ending::Broken(_) => replace(sink, alloc, INVALID)?,
         }
     }
 }
@@ -243,16 +226,8 @@ fn resume<S: TendrilSink<StrTendril<A>>, A: Atomicity>(
         return Ok(false);
     };
     match completed {
-        Ok(text) => {
-            if let Err(refusal) = send(sink, short(alloc, text.as_str())) {
-                return Err(refusal);
-            }
-        }
-        Err(_) => {
-            if let Err(refusal) = replace(sink, alloc, INVALID) {
-                return Err(refusal);
-            }
-        }
+        Ok(text) => send(sink, short(alloc, text.as_str()))?,
+        Err(_) => replace(sink, alloc, INVALID)?,
     }
     Ok(true)
 }
@@ -269,18 +244,10 @@ fn feed<S: TendrilSink<StrTendril<A>>, A: Atomicity>(
     ensures err { IfErr result (λ r.
         Stops S.takes S.refuses piece sink.old (due_open (held.old ++ piece.bytes)) r sink.new) }
 {
-    match resume(sink, alloc, held, &mut piece) {
-        Ok(true) => {}
-        Ok(false) => return Ok(()),
-        Err(refusal) => return Err(refusal),
+    if resume(sink, alloc, held, &mut piece)? {
+        *held = feed_rest(sink, alloc, piece)?;
     }
-    match feed_rest(sink, alloc, piece) {
-        Ok(next) => {
-            *held = next;
-            Ok(())
-        }
-        Err(refusal) => Err(refusal),
-    }
+    Ok(())
 }
 
 // Tells of kept bytes in which the stream ended.
@@ -295,8 +262,5 @@ fn flush<S: TendrilSink<StrTendril<A>>, A: Atomicity>(
     if held.kept().is_empty() {
         return Ok(());
     }
-    if let Err(refusal) = replace(sink, alloc, INCOMPLETE) {
-        return Err(refusal);
-    }
-    Ok(())
+    replace(sink, alloc, INCOMPLETE)
 }

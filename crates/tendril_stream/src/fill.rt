@@ -24,6 +24,9 @@ pub trait ReadExt: CountedRead {
     /// Puts all that is read behind the text, and answers how many bytes that is. At most so many reads are made,
     /// interrupted ones among them. Whatever it answers, the text keeps what was read.
     ///
+    /// A failed read is Io, the end not reached within so many reads TooManyReads, no memory for room Memory. Of a text of
+    /// 4294967295 bytes, as it was or as reading made it, no read is made: TooLong.
+    ///
     /// The first read is offered 32 bytes, and whenever those are filled twice as many follow, up to 65536.
     fn read_to_tendril<A: Atomicity>(
         &mut self,

@@ -32,7 +32,8 @@ pub struct Stopped<S> {
 /// Reads to the end, and gives the sink each part that is read, of at most 4096 bytes. At most so many reads are made,
 /// interrupted ones among them.
 ///
-/// The sink isn't finished where reading stops before the end, and comes back.
+/// The sink isn't finished where reading stops before the end, and comes back. A failed read is Io, the end not reached
+/// within so many reads TooManyReads, no memory for a part Memory; what the sink refuses is answered as it says it.
 pub fn read_from<A: Atomicity, S: TendrilSink<ByteTendril<A>>, R: CountedRead>(
     alloc: Global,
     mut sink: S,
@@ -84,9 +85,7 @@ pub fn read_once<A: Atomicity, S: TendrilSink<ByteTendril<A>>, R: CountedRead>(
 {
     match read_part(alloc, reader) {
         Ok(Part::Bytes(piece)) => {
-            if let Err(refusal) = sink.process(piece) {
-                return Err(refusal);
-            }
+            sink.process(piece)?;
             Ok(false)
         }
         Ok(Part::Interrupted) => Ok(false),

@@ -90,9 +90,7 @@ pub trait TendrilSink<T: Streamed>: Drop {
             AcceptsUpTo I.into_iter_gives I.IntoIter.next_gives T.text takes refuses self.old texts r self.new) }
     {
         for text in texts {
-            if let Err(refusal) = self.process(text) {
-                return Err(refusal);
-            }
+            self.process(text)?;
         }
         Ok(())
     }
@@ -107,9 +105,7 @@ pub trait TendrilSink<T: Streamed>: Drop {
         ensures err { IfErr result (λ r.
             SendsSome I.into_iter_gives I.IntoIter.next_gives T.text takes refuses ends self texts r) }
     {
-        if let Err(refusal) = self.send_all(texts) {
-            return Err(refusal);
-        }
+        self.send_all(texts)?;
         self.finish()
     }
 }

@@ -16,7 +16,7 @@ use tendril::stream::{CountedRead, Stopped, Utf8LossyDecoder, read_decoded};
 ///
 /// The sources of the tokens, joined, are the whole text: the UTF-8 of the characters that are due of the bytes. Where
 /// reading stops before the end, or the sink refuses a token, they are a front of that, and the sink is in the decoder
-/// that comes back (`inner_sink`, and its `sink`).
+/// that comes back (`inner_sink`, and its `sink`); a token that is refused at the input's end takes both with it.
 pub fn tokenize<K: TokenSink, R: CountedRead>(
     alloc: Global,
     sink: K,

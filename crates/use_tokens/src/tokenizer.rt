@@ -243,9 +243,7 @@ impl<K: TokenSink> TendrilSink<StrTendril> for Tokenizer<K> {
     fn process(&mut self, text: StrTendril) -> Result<(), Refusal> {
         let mut rest = text;
         'parts: while !rest.is_empty() {
-            if let Err(refusal) = self.take_part(&mut rest) {
-                return Err(refusal);
-            }
+            self.take_part(&mut rest)?;
         }
         Ok(())
     }
@@ -265,9 +263,7 @@ impl<K: TokenSink> TendrilSink<StrTendril> for Tokenizer<K> {
             return Ok(sink);
         }
         let kind = Kind::Cut;
-        if let Err(refusal) = sink.process_token(Token { kind, source }) {
-            return Err(refusal);
-        }
+        sink.process_token(Token { kind, source })?;
         Ok(sink)
     }
 }

@@ -1,6 +1,6 @@
 use Rattle.std.proofs.Common.{◌∷◌, ◌∙◌, ◌++◌, [], ap, arith, length-append, refl, subst, sym}
 use Rattle.std.proofs.lemmas.List.Elements.{All-nil, All-push}
-use Rattle.std.proofs.lemmas.Result.{IfErr-weaker, on_ok_weaker}
+use Rattle.std.proofs.lemmas.Result.{IfErr-weaker, err_from_is_err_and, on_ok_weaker}
 use Rattle.tendril_cli.proofs.DecodingLemmas.{decoded, end_stops, ready_first}
 use Rattle.tendril_cli.specs.Decodings.{IsReady}
 use Rattle.tendril_stream.proofs.Fed.{MakesReads-none, MakesReads-on}
@@ -22,7 +22,7 @@ loop-made-preserved g c =
     let i = c.loop-made.invariant in
     let test = c.loop-made-test.true in
     let count = i.2 in
-    let h = c.in-Ok-false.ensures.read (g.W.Write.contents c.args.out.now) i.0 i.5 c.in-Ok-false.field-0-test in (
+    let h = c.in_ok-decode_read.ensures.read (g.W.Write.contents c.args.out.now) i.0 i.5 c.if-branch.false in (
       i.0 ++ h.0 ∷ [],
       All-push MayReadOn i.0 h.0 i.1 h.1,
       omega (arith, length-append i.0 (h.0 ∷ []), count),
@@ -39,23 +39,24 @@ returns-clause-stops g c =
     let count = i.2 in
     (i.0, i.4, (i.5.writes, i.1, omega (arith, none_left, within, count)))
 
-pub returns-in-Err-clause-stops : goal.returns-in-Err-clause-stops
-returns-in-Err-clause-stops g c =
+pub returns-in_err-decode_read-clause-stops : goal.returns-in_err-decode_read-clause-stops
+returns-in_err-decode_read-clause-stops g c =
     let i = c.loop-made.invariant in
     let test = c.loop-made-test.true in
     let count = i.2 in
-    let e = c.in-Err.ensures.stops (g.W.Write.contents c.args.out.now) i.0 i.1 (omega (arith, test, count)) i.5 in (
+    let e = c.in_err-decode_read.ensures.stops (g.W.Write.contents c.args.out.now) i.0 i.1 (omega (arith, test, count)) i.5 in
+    let q = err_from_is_err_and c.from_residual.result c.from_residual.ensures.1 in rw (q.1, q.2) ((
       i.0 ++ e.0,
       MakesReads-on g.R.CountedRead.history g.R.CountedRead.remaining c.args.reader.now c.loop-made.reader c.decode_read.new.reader i.0 e.0 i.4 e.1,
       e.2,
-    )
+    ))
 
-pub returns-in-Ok-true-clause-ok : goal.returns-in-Ok-true-clause-ok
-returns-in-Ok-true-clause-ok g c =
+pub returns-then-branch-clause-ok : goal.returns-then-branch-clause-ok
+returns-then-branch-clause-ok g c =
     let i = c.loop-made.invariant in
     let test = c.loop-made-test.true in
     let count = i.2 in
-    let e = c.in-Ok-true.ensures.ended c.in-Ok-true.field-0-test in
+    let e = c.in_ok-decode_read.ensures.ended c.if-branch.true in
     let ready : IsReady i.0 (g.W.Write.contents c.args.out.now) (g.W.Write.contents c.decode_read.new.out) c.decode_read.new.decoder.kept c.decode_read.new.decoder.failed c.decode_read.new.decoder.inner_sink.text.bytes
     = subst (λ o. IsReady i.0 (g.W.Write.contents c.args.out.now) (g.W.Write.contents o) c.decode_read.new.decoder.kept c.decode_read.new.decoder.failed c.decode_read.new.decoder.inner_sink.text.bytes) (sym e.3)
     (subst (λ d. IsReady i.0 (g.W.Write.contents c.args.out.now) (g.W.Write.contents c.loop-made.out) d.kept d.failed d.inner_sink.text.bytes) (sym e.2) i.5) in
@@ -66,12 +67,12 @@ returns-in-Ok-true-clause-ok g c =
       decoded _ i.0 _ _ i.1 (omega (arith, test, count)) h,
     )) (c.decode_end.ensures.ok (g.W.Write.contents c.args.out.now) i.0 ready)
 
-pub returns-in-Ok-true-clause-stops : goal.returns-in-Ok-true-clause-stops
-returns-in-Ok-true-clause-stops g c =
+pub returns-then-branch-clause-stops : goal.returns-then-branch-clause-stops
+returns-then-branch-clause-stops g c =
     let i = c.loop-made.invariant in
     let test = c.loop-made-test.true in
     let count = i.2 in
-    let e = c.in-Ok-true.ensures.ended c.in-Ok-true.field-0-test in
+    let e = c.in_ok-decode_read.ensures.ended c.if-branch.true in
     let ready : IsReady i.0 (g.W.Write.contents c.args.out.now) (g.W.Write.contents c.decode_read.new.out) c.decode_read.new.decoder.kept c.decode_read.new.decoder.failed c.decode_read.new.decoder.inner_sink.text.bytes
     = subst (λ o. IsReady i.0 (g.W.Write.contents c.args.out.now) (g.W.Write.contents o) c.decode_read.new.decoder.kept c.decode_read.new.decoder.failed c.decode_read.new.decoder.inner_sink.text.bytes) (sym e.3)
     (subst (λ d. IsReady i.0 (g.W.Write.contents c.args.out.now) (g.W.Write.contents c.loop-made.out) d.kept d.failed d.inner_sink.text.bytes) (sym e.2) i.5) in

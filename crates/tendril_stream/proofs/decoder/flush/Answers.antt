@@ -1,5 +1,6 @@
 use Rattle.std.proofs.Common.{◌≡◌, ◌∙◌, ◌<◌, [], length, sym, subst, ap, arith, codes, append-nil}
 use Rattle.std.proofs.lemmas.Bool.Decides.{nat_tests}
+use Rattle.std.proofs.lemmas.Result.{IfErr-weaker, on_ok_weaker}
 use Rattle.tendril_lossy.specs.Lossy.{due, replaced}
 use Rattle.tendril_stream.specs.Decoders.{no_piece}
 use Rattle.tendril_stream.proofs.Ends.{due_held, due_none}
@@ -11,14 +12,15 @@ returns-then-is_empty-clause-ok g c =
     let none : length c.kept.result.now ≡ 0 = grind (arith, nat_tests) in
     Feeds-same g.S.TendrilSink.takes no_piece c.args.sink.now c.args.sink.now [] (due c.args.held.now) (sym (due_none c.args.held.now (sym (ap length c.kept.ensures.bytes) ∙ none))) (Feeds-none g.S.TendrilSink.takes no_piece c.args.sink.now)
 
-pub returns-in-Err-clause-err : goal.returns-in-Err-clause-err
-returns-in-Err-clause-err g c =
+pub returns-clause-err : goal.returns-clause-err
+returns-clause-err g c =
     let some : 0 < length c.kept.result.now = grind (arith, nat_tests) in
     let held = due_held c.args.held.now c.kept.ensures.waits (subst (λ l. 0 < length l) c.kept.ensures.bytes some) in
-    Stops-more g.S.TendrilSink.takes g.S.TendrilSink.refuses no_piece c.args.sink.now c.replace.new.sink (replaced (codes "incomplete byte sequence at end of stream")) [] (due c.args.held.now) c.in-Err.refusal (c.in-Err.ensures.err no_piece) (append-nil _ ∙ sym held)
+    IfErr-weaker c.replace.result _ _ (λ refusal stops.
+    Stops-more g.S.TendrilSink.takes g.S.TendrilSink.refuses no_piece c.args.sink.now c.replace.new.sink (replaced (codes "incomplete byte sequence at end of stream")) [] (due c.args.held.now) refusal stops (append-nil _ ∙ sym held)) (c.replace.ensures.err no_piece)
 
 pub returns-clause-ok : goal.returns-clause-ok
 returns-clause-ok g c =
     let some : 0 < length c.kept.result.now = grind (arith, nat_tests) in
     let held = due_held c.args.held.now c.kept.ensures.waits (subst (λ l. 0 < length l) c.kept.ensures.bytes some) in
-    Feeds-same g.S.TendrilSink.takes no_piece c.args.sink.now c.replace.new.sink (replaced (codes "incomplete byte sequence at end of stream")) (due c.args.held.now) (sym held) (c.in_default.ensures.ok no_piece)
+    on_ok_weaker c.replace.result (Feeds-same g.S.TendrilSink.takes no_piece c.args.sink.now c.replace.new.sink (replaced (codes "incomplete byte sequence at end of stream")) (due c.args.held.now) (sym held)) (c.replace.ensures.ok no_piece)

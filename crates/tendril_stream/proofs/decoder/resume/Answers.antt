@@ -1,5 +1,6 @@
 use Rattle.std.proofs.Common.{◌≡◌, ◌<◌, ◌-◌, ◌∙◌, [], ◌++◌, inl, arith, sym, subst, ap, refl, length, map}
 use Rattle.std.proofs.lemmas.Bool.Decides.{nat_tests}
+use Rattle.std.proofs.lemmas.Result.{err_from_is_err_and}
 use Rattle.std.proofs.lemmas.List.{nil_from_length}
 use Rattle.std.specs.Str.{chars}
 use Rattle.std.specs.Prelude.{codes, MatchResult}
@@ -22,16 +23,16 @@ returns-in_default-clause-ok g c =
     let s = still_open c.args.kept.now c.args.piece.now.bytes c.complete_from.new.self c.in_default.ensures.none in
     (refl, s.0, sym s.1)
 
-pub returns-in-Err-replace-clause-err : goal.returns-in-Err-replace-clause-err
-returns-in-Err-replace-clause-err g c =
+pub returns-in_err-replace-in-Err-clause-err : goal.returns-in_err-replace-in-Err-clause-err
+returns-in_err-replace-in-Err-clause-err g c =
     let k = c.args.kept.now in
     let p = c.args.piece.now.bytes in
     let h = subst (λ f. MatchResult f (λ t. CompletesTo k p t c.complete_from.new.piece.bytes) (λ b. BreaksAt k p b c.complete_from.new.piece.bytes)) c.in-Err.is c.in-Some.ensures.completed in
     let a = after_broken k p c.in-Err.field-0 c.complete_from.new.piece.bytes h in
-    Stops-more g.S.TendrilSink.takes g.S.TendrilSink.refuses c.args.piece.now c.args.sink.now c.replace.new.sink (replaced (codes "invalid byte sequence")) (due_open c.complete_from.new.piece.bytes) (due_open (k ++ p)) c.in-Err-replace.refusal (c.in-Err-replace.ensures.err c.args.piece.now) (sym a.0)
+    let q = err_from_is_err_and c.from_residual-in_err-replace-in-Err.result c.from_residual-in_err-replace-in-Err.ensures.1 in rw (q.1, q.2) (Stops-more g.S.TendrilSink.takes g.S.TendrilSink.refuses c.args.piece.now c.args.sink.now c.replace.new.sink (replaced (codes "invalid byte sequence")) (due_open c.complete_from.new.piece.bytes) (due_open (k ++ p)) _ (c.in_err-replace-in-Err.ensures.err c.args.piece.now) (sym a.0))
 
-pub returns-in-Err-send-clause-err : goal.returns-in-Err-send-clause-err
-returns-in-Err-send-clause-err g c =
+pub returns-in_err-send-in-Ok-clause-err : goal.returns-in_err-send-in-Ok-clause-err
+returns-in_err-send-in-Ok-clause-err g c =
     let k = c.args.kept.now in
     let p = c.args.piece.now.bytes in
     let rest = c.complete_from.new.piece.bytes in
@@ -43,10 +44,10 @@ returns-in-Err-send-clause-err g c =
     let whole : CompletesTo k p t.bytes rest = subst (λ l. CompletesTo k p l rest) (sym is) h in
     let a = after_text k p t.bytes rest whole in
     let fit = short_handed c.args.piece.now t k p rest some whole (c.short.ensures.copied ∙ sym (ap length c.short.ensures.bytes)) in
-    Stops-call g.S.TendrilSink.takes g.S.TendrilSink.refuses c.args.piece.now c.args.sink.now (Piece t) (due_open rest) (due_open (k ++ p)) c.in-Err-send.refusal c.send.new.sink fit (sym a.0) c.in-Err-send.ensures.err
+    let q = err_from_is_err_and c.from_residual.result c.from_residual.ensures.1 in rw (q.1, q.2) (Stops-call g.S.TendrilSink.takes g.S.TendrilSink.refuses c.args.piece.now c.args.sink.now (Piece t) (due_open rest) (due_open (k ++ p)) _ c.send.new.sink fit (sym a.0) c.in_err-send-in-Ok.ensures.err)
 
-pub returns-in_default-send-clause-ok : goal.returns-in_default-send-clause-ok
-returns-in_default-send-clause-ok g c =
+pub returns-in_ok-send-in-Ok-clause-ok : goal.returns-in_ok-send-in-Ok-clause-ok
+returns-in_ok-send-in-Ok-clause-ok g c =
     let k = c.args.kept.now in
     let p = c.args.piece.now.bytes in
     let rest = c.complete_from.new.piece.bytes in
@@ -58,13 +59,13 @@ returns-in_default-send-clause-ok g c =
     let whole : CompletesTo k p t.bytes rest = subst (λ l. CompletesTo k p l rest) (sym is) h in
     let a = after_text k p t.bytes rest whole in
     let fit = short_handed c.args.piece.now t k p rest some whole (c.short.ensures.copied ∙ sym (ap length c.short.ensures.bytes)) in
-    (map Char (chars t.bytes), Feeds-one g.S.TendrilSink.takes c.args.piece.now c.args.sink.now (Piece t) c.send.new.sink fit c.in_default-send.ensures.ok, a.0, a.1, c.in-Some.ensures.emptied, rest_kept c.args.piece.now c.complete_from.new.piece c.in-Some.ensures.copied, (length t.bytes - length k, whole.left))
+    (map Char (chars t.bytes), Feeds-one g.S.TendrilSink.takes c.args.piece.now c.args.sink.now (Piece t) c.send.new.sink fit c.in_ok-send-in-Ok.ensures.ok, a.0, a.1, c.in-Some.ensures.emptied, rest_kept c.args.piece.now c.complete_from.new.piece c.in-Some.ensures.copied, (length t.bytes - length k, whole.left))
 
-pub returns-in_default-replace-clause-ok : goal.returns-in_default-replace-clause-ok
-returns-in_default-replace-clause-ok g c =
+pub returns-in_ok-replace-in-Err-clause-ok : goal.returns-in_ok-replace-in-Err-clause-ok
+returns-in_ok-replace-in-Err-clause-ok g c =
     let k = c.args.kept.now in
     let p = c.args.piece.now.bytes in
     let rest = c.complete_from.new.piece.bytes in
     let h = subst (λ f. MatchResult f (λ t. CompletesTo k p t rest) (λ b. BreaksAt k p b rest)) c.in-Err.is c.in-Some.ensures.completed in
     let a = after_broken k p c.in-Err.field-0 rest h in
-    (replaced (codes "invalid byte sequence"), c.in_default-replace.ensures.ok c.args.piece.now, a.0, a.1, c.in-Some.ensures.emptied, rest_kept c.args.piece.now c.complete_from.new.piece c.in-Some.ensures.copied, (length c.in-Err.field-0 - length k, h.left))
+    (replaced (codes "invalid byte sequence"), c.in_ok-replace-in-Err.ensures.ok c.args.piece.now, a.0, a.1, c.in-Some.ensures.emptied, rest_kept c.args.piece.now c.complete_from.new.piece c.in-Some.ensures.copied, (length c.in-Err.field-0 - length k, h.left))
