@@ -11,8 +11,8 @@ use std::rt::Env;
 use tendril_script::{refuse, words_of};
 use tendril_text::block::Refusal;
 
-/// Runs the program with the arguments behind its name, and answers its status. Where one isn't UTF-8, the words are
-/// one empty word, which asks for nothing.
+/// Runs the program with the arguments behind its name, and answers its status. An argument that isn't UTF-8 is the
+/// empty word, which asks for nothing.
 #[tactic(auto, using(tendril_script::proofs::EndingLemmas::refused_first))]
 pub fn program_with_arguments<S: Env + AllocGlobal, R: Read, W: Write, E: Write>(
     system: &S,
@@ -31,8 +31,7 @@ pub fn program_with_arguments<S: Env + AllocGlobal, R: Read, W: Write, E: Write>
 {
     let alloc = system.alloc();
     let arguments = match words_of(system) {
-        Ok(Some(arguments)) => arguments,
-        Ok(None) => return program(alloc, &[""], input, out, err),
+        Ok(arguments) => arguments,
         Err(refusal) => return refuse(NAME, refusal, err),
     };
     let Ok(words) = arguments

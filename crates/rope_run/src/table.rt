@@ -74,11 +74,13 @@ impl<A: Atomicity> RopeTable<A> {
         self.ropes.get(number)?.as_ref()
     }
 
-    /// Makes room for so many more slots, and so many more ropes.
+    /// Makes room for so many more slots, and so many more ropes. Room that was there stays.
     pub fn reserve(&mut self, more: usize) -> Result<(), Refusal>
         ensures slots { OnOk result (more ≤ self.new.slot_room) }
         ensures ropes { OnOk result (more ≤ self.new.rope_room) }
         ensures cells { self.new.cells ≡ self.old.cells }
+        ensures slot_room { self.old.slot_room ≤ self.new.slot_room }
+        ensures rope_room { self.old.rope_room ≤ self.new.rope_room }
         ensures refusal { IfErr result (λ r. r ≡ Refusal.Memory) }
     {
         self.table.reserve_slots(more)?;

@@ -7,14 +7,14 @@ ghost use Rattle.tendril_cli.specs.Sessions.{Ran};
 ghost use Rattle.tendril_lossy.specs.Lossy.{characters, due};
 ghost use Rattle.tendril_script.specs.Writing.{AppendsFront};
 
-use crate::program::{NAME, asks_to_decode, misuse, program};
+use crate::program::{NAME, asks_to_decode, program};
 use std::io::{Read, Write};
 use std::rt::Env;
 use tendril_script::{asks_to_run, refuse, words_of};
 use tendril_text::block::Refusal;
 
-/// Runs the program with the arguments behind its name, and answers its status. Arguments of which one isn't UTF-8 ask
-/// for nothing.
+/// Runs the program with the arguments behind its name, and answers its status. An argument that isn't UTF-8 is the
+/// empty word, which asks for nothing.
 #[tactic(auto, using(tendril_script::proofs::EndingLemmas::refused_first))]
 pub fn program_with_arguments<S: Env + AllocGlobal, R: Read, W: Write, E: Write>(
     system: &S,
@@ -35,8 +35,7 @@ pub fn program_with_arguments<S: Env + AllocGlobal, R: Read, W: Write, E: Write>
 {
     let alloc = system.alloc();
     let arguments = match words_of(system) {
-        Ok(Some(arguments)) => arguments,
-        Ok(None) => return misuse(err),
+        Ok(arguments) => arguments,
         Err(refusal) => return refuse(NAME, refusal, err),
     };
     let Ok(words) = arguments

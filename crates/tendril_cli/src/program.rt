@@ -78,8 +78,8 @@ pub fn program<R: Read, W: Write, E: Write>(
     misuse(err)
 }
 
-/// Prints the usage, and answers the status of words that ask for nothing. What can't be printed is left out.
-pub(crate) fn misuse<E: Write>(err: &mut E) -> u8
+// Prints the usage, and answers the status of words that ask for nothing. What can't be printed is left out.
+fn misuse<E: Write>(err: &mut E) -> u8
     ensures status { result ≡ 2 }
     ensures told { AppendsFront (E.contents err.old) (E.contents err.new) usage }
 {

@@ -1,5 +1,5 @@
 //! A thread for each table.
-ghost use Rattle.std.specs.Prelude.{◌≡◌, ◌≤◌, ◌+◌, [], IfOk, IfErr, IfSome, OnSome, MatchOption, vec_len, vec_capacity};
+ghost use Rattle.std.specs.Prelude.{◌≡◌, ◌≤◌, ◌+◌, [], IfOk, IfErr, IfSome, MatchOption, vec_len, vec_capacity};
 ghost use Rattle.std.specs.List.{AllZip};
 ghost use Rattle.tendril_run.specs.Jobs.{Worked, JobEnds, IsBegun};
 
@@ -114,7 +114,7 @@ fn work<C: Classifier + Drop, G: Gate + Drop>(job: Job<C, G>) -> Ending
     (table, replies)
 }
 
-// How each worker ended.
+// How each worker ended: NotStarted only where none was started.
 fn join_all<R: Threads, C: Classifier, G>(
     rt: &R,
     workers: Vec<Worker<C, G>>,
@@ -123,7 +123,7 @@ fn join_all<R: Threads, C: Classifier, G>(
     requires empty { outcomes.items ≡ [] }
     requires room { vec_len outcomes + vec_len workers ≤ vec_capacity outcomes }
     ensures { AllZip (λ w o. MatchOption w (o ≡ Outcome.NotStarted)
-        (λ h. let job = h.promise.0.value in JobEnds (C.class job.class) job.table.cells job.commands.items o))
+        (λ h. let job = h.promise.0.value in JobEnds (C.class job.class) job.table.cells job.commands.items o × IsBegun o))
         workers.items result.items }
 {
     for worker in workers {
@@ -134,9 +134,8 @@ fn join_all<R: Threads, C: Classifier, G>(
 }
 
 fn join<R: Threads, C: Classifier, G>(rt: &R, worker: Worker<C, G>) -> Outcome
-    ensures ends { MatchOption worker (result ≡ Outcome.NotStarted)
-        (λ h. let job = h.promise.0.value in JobEnds (C.class job.class) job.table.cells job.commands.items result) }
-    ensures started { OnSome worker (IsBegun result) }
+    ensures { MatchOption worker (result ≡ Outcome.NotStarted)
+        (λ h. let job = h.promise.0.value in JobEnds (C.class job.class) job.table.cells job.commands.items result × IsBegun result) }
 {
     match worker {
         Some(handle) => match handle.join(rt) {

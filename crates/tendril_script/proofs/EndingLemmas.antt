@@ -1,4 +1,4 @@
-use Rattle.std.proofs.Common.{◌≡◌, ℕ, List, [], ◌++◌, Option, None, Some, IfSome, Result, Ok, Err, OnOk, OnErr, IfErr, inl, refl, sym, ◌∙◌, ap, subst, append_assoc, length, take}
+use Rattle.std.proofs.Common.{◌≡◌, ℕ, List, [], ◌++◌, Option, None, Some, IfSome, Result, Ok, Err, OnOk, OnErr, IfErr, inl, inr, refl, sym, ◌∙◌, ap, subst, append_assoc, get_or, length, take}
 use Rattle.std.proofs.KnownBytes.{Appends-nil, Appends-trans}
 use Rattle.std.proofs.lemmas.List.{append-nil}
 use Rattle.std.proofs.lemmas.Result.{IfErr-weaker, on_ok_weaker}
@@ -7,8 +7,8 @@ use Rattle.std.specs.Io.KnownBytes.{Appends}
 use Rattle.tendril_block.specs.declared.refusal.Refusal.{Refusal}
 use Rattle.tendril_block.specs.declared.refusal.Refusal.TheVariants.{Io, Memory}
 use Rattle.tendril_script.specs.Endings.{EndsProgram, RunEnded, RunStops, WritesFrontOfLines}
-use Rattle.tendril_script.specs.HeldBack.{PrintsFrom, PrintsLines, PrintsSome}
-use Rattle.tendril_script.specs.Sessions.{WritesLines, lines as lines_of}
+use Rattle.tendril_script.specs.HeldBack.{PrintsLines, PrintsSome}
+use Rattle.tendril_script.specs.Sessions.{LineStops, WritesLines, lines as lines_of}
 use Rattle.tendril_script.specs.Writing.{AppendsFront, complaint}
 
 -- all of it is a front
@@ -45,71 +45,86 @@ module _ {S : Type 0} (answers : S → List ℕ → List ℕ → S → Type 0) (
   }
 
   -- or a front of it
-  front_printed : (lines : List (List ℕ)) (held : List ℕ) → PrintsFrom answers old lines before mid [] held → AppendsFront mid after held → WritesFrontOfLines answers old lines before after
-  front_printed lines held h k = record {
-    bytes = h.1.bytes;
-    new = h.0;
-    session = h.1.session;
-    front = subst (AppendsFront before after) (sym h.1.passes.splits) (front_behind before mid after h.1.passes.taken held h.1.passes.appends k);
+  front_printed : (lines : List (List ℕ)) (new : S) (held : List ℕ) → PrintsLines answers old lines new before mid [] held → AppendsFront mid after held → WritesFrontOfLines answers old lines new before after
+  front_printed lines new held h k = record {
+    bytes = h.bytes;
+    session = h.session;
+    front = subst (AppendsFront before after) (sym h.passes.splits) (front_behind before mid after h.passes.taken held h.passes.appends k);
   }
 
   -- a write that fails behind some lines
-  some_front : (refusal : Refusal) (lines : List (List ℕ)) (held : List ℕ) → PrintsSome answers old lines before mid [] held refusal → AppendsFront mid after held → RunStops answers old lines before after Io
-  some_front Memory lines held h k = (h.0, front_printed (take h.0 lines) held h.1 k)
-  some_front Io lines held h k = (h.1.0, front_printed (take h.1.0 lines) h.1.1.0 h.1.1.1 (front_of_first mid after [] h.1.1.0 (subst (AppendsFront mid after) h.0 k)))
-  some_front other lines held h k = absurd h
+  some_front : (refusal : Refusal) (lines : List (List ℕ)) (new : S) (held : List ℕ) → PrintsSome answers old lines new before mid [] held refusal → AppendsFront mid after held → RunStops answers old lines new before after Io
+  some_front Memory lines new held h k = (h.0, (h.1.0, (front_printed (take h.0 lines) h.1.0 held h.1.1.0 k, h.1.1.1)))
+  some_front Io lines new held h k =
+      (h.1.0, (new, (front_printed (take h.1.0 lines) new h.1.1.0 h.1.1.1 (front_of_first mid after [] h.1.1.0 (subst (AppendsFront mid after) h.0 k)), inl refl)))
+  some_front other lines new held h k = absurd h
 
   -- or behind all of them
-  ran_front : {T : Type 0} (ran : Result T Refusal) (lines : List (List ℕ)) (new : S) (held : List ℕ) → OnOk ran (PrintsLines answers old lines new before mid [] held) → IfErr ran (PrintsSome answers old lines before mid [] held) → AppendsFront mid after held → RunStops answers old lines before after Io
+  ran_front : {T : Type 0} (ran : Result T Refusal) (lines : List (List ℕ)) (new : S) (held : List ℕ) → OnOk ran (PrintsLines answers old lines new before mid [] held) → IfErr ran (PrintsSome answers old lines new before mid [] held) → AppendsFront mid after held → RunStops answers old lines new before after Io
   ran_front (Ok x) lines new held h e k =
-      (length lines, front_printed (take (length lines) lines) held (subst (λ l. PrintsFrom answers old l before mid [] held) (sym (take-length lines)) (new, h)) k)
-  ran_front (Err r) lines new held h e k = some_front r lines held e k
+      (length lines, (new, (front_printed (take (length lines) lines) new held (subst (λ l. PrintsLines answers old l new before mid [] held) (sym (take-length lines)) h) k, inl refl)))
+  ran_front (Err r) lines new held h e k = some_front r lines new held e k
 
   -- a refusal behind some lines, all of which are written
-  some_written : (refusal : Refusal) (lines : List (List ℕ)) (held : List ℕ) → PrintsSome answers old lines before mid [] held refusal → Appends mid after held → RunStops answers old lines before after refusal
-  some_written Memory lines held h k = (h.0, (h.1.0, all_printed (take h.0 lines) h.1.0 held h.1.1 k))
-  some_written Io lines held h k = some_front Io lines held h (whole_front mid after held k)
-  some_written other lines held h k = absurd h
+  some_written : (refusal : Refusal) (lines : List (List ℕ)) (new : S) (held : List ℕ) → PrintsSome answers old lines new before mid [] held refusal → Appends mid after held → RunStops answers old lines new before after refusal
+  some_written Memory lines new held h k = (h.0, (h.1.0, (all_printed (take h.0 lines) h.1.0 held h.1.1.0 k, h.1.1.1)))
+  some_written Io lines new held h k = some_front Io lines new held h (whole_front mid after held k)
+  some_written other lines new held h k = absurd h
 
   -- a run; `printed` and `none` are the lines and what was held back at first
   module _ {T : Type 0} (ran : Result T Refusal) (printed lines : List (List ℕ)) (new : S) (none held : List ℕ) (same : printed ≡ lines) (empty : none ≡ []) where
     lines_printed : OnOk ran (PrintsLines answers old printed new before mid none held) → OnOk ran (PrintsLines answers old lines new before mid [] held)
     lines_printed h = subst (λ l. OnOk ran (PrintsLines answers old l new before mid [] held)) same (subst (λ n. OnOk ran (PrintsLines answers old printed new before mid n held)) empty h)
 
-    some_printed : IfErr ran (PrintsSome answers old printed before mid none held) → IfErr ran (PrintsSome answers old lines before mid [] held)
-    some_printed k = subst (λ l. IfErr ran (PrintsSome answers old l before mid [] held)) same (subst (λ n. IfErr ran (PrintsSome answers old printed before mid n held)) empty k)
+    some_printed : IfErr ran (PrintsSome answers old printed new before mid none held) → IfErr ran (PrintsSome answers old lines new before mid [] held)
+    some_printed k = subst (λ l. IfErr ran (PrintsSome answers old l new before mid [] held)) same (subst (λ n. IfErr ran (PrintsSome answers old printed new before mid n held)) empty k)
 
     -- the write behind it fails
-    pub ends_io : (refusal : Refusal) → refusal ≡ Io → OnOk ran (PrintsLines answers old printed new before mid none held) → IfErr ran (PrintsSome answers old printed before mid none held) → AppendsFront mid after held → RunStops answers old lines before after refusal
-    ends_io refusal e h k f = subst (RunStops answers old lines before after) (sym e) (ran_front ran lines new held (lines_printed h) (some_printed k) f)
+    pub ends_io : (refusal : Refusal) → refusal ≡ Io → OnOk ran (PrintsLines answers old printed new before mid none held) → IfErr ran (PrintsSome answers old printed new before mid none held) → AppendsFront mid after held → RunStops answers old lines new before after refusal
+    ends_io refusal e h k f = subst (RunStops answers old lines new before after) (sym e) (ran_front ran lines new held (lines_printed h) (some_printed k) f)
 
     -- it succeeds: all is written
     pub ends_ok : OnOk ran (PrintsLines answers old printed new before mid none held) → Appends mid after held → OnOk ran (WritesLines answers old lines new before after)
     ends_ok h k = on_ok_weaker ran (λ p. all_printed lines new held p k) (lines_printed h)
 
     -- or what was printed before the run's own refusal
-    pub ends_err : IfErr ran (PrintsSome answers old printed before mid none held) → Appends mid after held → IfErr ran (RunStops answers old lines before after)
-    ends_err h k = IfErr-weaker ran (PrintsSome answers old lines before mid [] held) (RunStops answers old lines before after) (λ r p. some_written r lines held p k) (some_printed h)
+    pub ends_err : IfErr ran (PrintsSome answers old printed new before mid none held) → Appends mid after held → IfErr ran (RunStops answers old lines new before after)
+    ends_err h k = IfErr-weaker ran (PrintsSome answers old lines new before mid [] held) (RunStops answers old lines new before after) (λ r p. some_written r lines new held p k) (some_printed h)
 
--- a refused run, where the script is what the reader had
-pub stops_of : {S T : Type 0} (answers : S → List ℕ → List ℕ → S → Type 0) (old : S) (ran : Result T Refusal) (script : List ℕ) (before after : Option (List ℕ)) (remaining : Option (List ℕ))
-    → IfSome remaining (λ bytes. script ≡ bytes) → IfErr ran (RunStops answers old (lines_of script) before after) → IfErr ran (λ r. IfSome remaining (λ bytes. RunStops answers old (lines_of bytes) before after r))
-stops_of answers old ran script before after None e h = IfErr-weaker ran (RunStops answers old (lines_of script) before after) (λ _. Unit {0}) (λ r p. tt) h
-stops_of answers old ran script before after (Some bytes) e h =
-    IfErr-weaker ran (RunStops answers old (lines_of script) before after) (RunStops answers old (lines_of bytes) before after) (λ r p. subst (λ b. RunStops answers old (lines_of b) before after r) e p) h
+module _ {S : Type 0} (answers : S → List ℕ → List ℕ → S → Type 0) where
+  -- a refusal before the first line
+  stops_at_once : (state : S) (lines : List (List ℕ)) (before : Option (List ℕ)) (refusal : Refusal) → EndsProgram refusal → RunStops answers state lines state before before refusal
+  stops_at_once state lines before refusal (inl e) =
+      subst (RunStops answers state lines state before before) (sym e) (0, (state, (record { bytes = []; session = (refl, refl); appends = Appends-nil before }, inl refl)))
+  stops_at_once state lines before refusal (inr e) =
+      subst (RunStops answers state lines state before before) (sym e) (0, (state, (record { bytes = []; session = (refl, refl); front = whole_front before before [] (Appends-nil before) }, inl refl)))
 
--- a refused run ends the program of this name, once that is told
-pub run_ended : {S : Type 0} (answers : S → List ℕ → List ℕ → S → Type 0) (program : List ℕ) (first old : S) (remaining before after told told' : Option (List ℕ)) (refusal : Refusal)
-    → old ≡ first → EndsProgram refusal → IfSome remaining (λ script. RunStops answers old (lines_of script) before after refusal) → AppendsFront told told' (complaint program refusal) → RunEnded answers program first remaining before after told told'
-run_ended answers program first old remaining before after told told' refusal e ends stops tells =
-    record { refusal = refusal; ends = ends; stops = subst (λ s. IfSome remaining (λ script. RunStops answers s (lines_of script) before after refusal)) e stops; tells = tells }
+  -- whatever the script would have been
+  pub nothing_ran : (state : S) (remaining before : Option (List ℕ)) (refusal : Refusal) → EndsProgram refusal → IfSome remaining (λ script. RunStops answers state (lines_of script) state before before refusal)
+  nothing_ran state None before refusal e = tt
+  nothing_ran state (Some script) before refusal e = stops_at_once state (lines_of script) before refusal e
 
-stops_first : {S : Type 0} (answers : S → List ℕ → List ℕ → S → Type 0) (first : S) (remaining before : Option (List ℕ)) → IfSome remaining (λ script. RunStops answers first (lines_of script) before before Memory)
-stops_first answers first None before = tt
-stops_first answers first (Some script) before = (0, (first, record { bytes = []; session = (refl, refl); appends = Appends-nil before }))
+  -- a refused run, where the script is what the reader had
+  pub stops_of : {T : Type 0} (old new : S) (ran : Result T Refusal) (script : List ℕ) (before after : Option (List ℕ)) (remaining : Option (List ℕ))
+      → IfSome remaining (λ bytes. script ≡ bytes) → IfErr ran (RunStops answers old (lines_of script) new before after) → IfErr ran (λ r. IfSome remaining (λ bytes. RunStops answers old (lines_of bytes) new before after r))
+  stops_of old new ran script before after None e h = IfErr-weaker ran (RunStops answers old (lines_of script) new before after) (λ _. Unit {0}) (λ r p. tt) h
+  stops_of old new ran script before after (Some bytes) e h =
+      IfErr-weaker ran (RunStops answers old (lines_of script) new before after) (RunStops answers old (lines_of bytes) new before after) (λ r p. subst (λ b. RunStops answers old (lines_of b) new before after r) e p) h
 
--- so does one that is refused for memory before it has begun
-pub refused_first : {S : Type 0} (answers : S → List ℕ → List ℕ → S → Type 0) (program : List ℕ) (first : S) (remaining before told told' : Option (List ℕ)) (refusal : Refusal)
-    → refusal ≡ Memory → AppendsFront told told' (complaint program refusal) → RunEnded answers program first remaining before before told told'
-refused_first answers program first remaining before told told' refusal e tells =
-    record { refusal = Memory; ends = inl refl; stops = stops_first answers first remaining before; tells = subst (λ r. AppendsFront told told' (complaint program r)) e tells }
+  -- it stops in some state
+  stops_somewhere : (first old new : S) (remaining before after : Option (List ℕ)) (refusal : Refusal)
+      → old ≡ first → IfSome remaining (λ script. RunStops answers old (lines_of script) new before after refusal) → IfSome remaining (λ script. (state : S) × RunStops answers first (lines_of script) state before after refusal)
+  stops_somewhere first old new None before after refusal e h = tt
+  stops_somewhere first old new (Some script) before after refusal e h = (new, subst (λ s. RunStops answers s (lines_of script) new before after refusal) e h)
+
+  -- a refused run ends the program of this name, once that is told
+  pub run_ended : (program : List ℕ) (first old new : S) (remaining before after told told' : Option (List ℕ)) (refusal : Refusal)
+      → old ≡ first → EndsProgram refusal → IfSome remaining (λ script. RunStops answers old (lines_of script) new before after refusal) → AppendsFront told told' (complaint program refusal) → RunEnded answers program first remaining before after told told'
+  run_ended program first old new remaining before after told told' refusal e ends stops tells =
+      record { refusal = refusal; ends = ends; stops = stops_somewhere first old new remaining before after refusal e stops; tells = tells }
+
+  -- so does one that is refused for memory before it has begun
+  pub refused_first : (program : List ℕ) (first : S) (remaining before told told' : Option (List ℕ)) (refusal : Refusal)
+      → refusal ≡ Memory → AppendsFront told told' (complaint program refusal) → RunEnded answers program first remaining before before told told'
+  refused_first program first remaining before told told' refusal e tells =
+      run_ended program first first first remaining before before told told' refusal refl (inl e) (nothing_ran first remaining before refusal (inl e)) tells

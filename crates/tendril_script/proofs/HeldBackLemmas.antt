@@ -1,11 +1,11 @@
 use Rattle.std.proofs.Common.{◌≡◌, ℕ, ◌<◌, ◌+◌, List, [], ◌∷◌, ◌++◌, Option, Some, refl, sym, ◌∙◌, ap, subst, append_assoc, length, take, map, get_or}
 use Rattle.std.proofs.KnownBytes.{Appends-nil, Appends-trans}
-use Rattle.std.proofs.lemmas.List.{append-nil, map_more, take-map}
+use Rattle.std.proofs.lemmas.List.{append-nil, get_or-map, map_more, take-map}
 use Rattle.std.specs.Io.KnownBytes.{Appends}
 use Rattle.tendril_block.specs.declared.refusal.Refusal.{Refusal}
 use Rattle.tendril_block.specs.declared.refusal.Refusal.TheVariants.{Memory, Io}
 use Rattle.tendril_script.specs.HeldBack.{Passes, PrintsLines, PrintsSome}
-use Rattle.tendril_script.specs.Sessions.{WritesLine}
+use Rattle.tendril_script.specs.Sessions.{LineStops, WritesLine}
 use Rattle.tendril_script.specs.Writing.{AppendsFront}
 use Rattle.tendril_script.proofs.SessionLemmas.{session_more}
 
@@ -61,14 +61,15 @@ module _ {S : Type 0} (answers : S → List ℕ → List ℕ → S → Type 0) (
         (passed_on (so_far ++ line ∷ []) new between after next left (line_printed so_far line mid new between mine next h w) p)
 
     -- memory is refused in it
-    pub line_refused : (left : List ℕ) (refusal : Refusal) → refusal ≡ Memory → left ≡ mine → PrintsSome answers old (map f xs) before between held left refusal
-    line_refused left refusal e same =
+    pub line_refused : (d : X) (new : S) (left : List ℕ) (refusal : Refusal) → refusal ≡ Memory → left ≡ mine → i < length xs → LineStops answers mid (f (get_or xs i d)) new → PrintsSome answers old (map f xs) new before between held left refusal
+    line_refused d new left refusal e same within stops =
         let some = subst (λ lines. Prints lines mid between mine) (sym (take-map f i xs)) h in
-        subst (PrintsSome answers old (map f xs) before between held left) (sym e) (i, (mid, subst (Prints (take i (map f xs)) mid between) (sym same) some))
+        let at = subst (λ line. LineStops answers mid line new) (sym (get_or-map f xs i d [] within)) stops in
+        subst (PrintsSome answers old (map f xs) new before between held left) (sym e) (i, (mid, (subst (Prints (take i (map f xs)) mid between) (sym same) some, at)))
 
     -- a write fails behind it
-    pub write_refused : (d : X) (new : S) (after : Option (List ℕ)) (next left : List ℕ) (refusal : Refusal) → refusal ≡ Io → left ≡ [] → i < length xs → WritesLine answers mid (f (get_or xs i d)) new (Some mine) (Some next) → AppendsFront between after next → PrintsSome answers old (map f xs) before after held left refusal
+    pub write_refused : (d : X) (new : S) (after : Option (List ℕ)) (next left : List ℕ) (refusal : Refusal) → refusal ≡ Io → left ≡ [] → i < length xs → WritesLine answers mid (f (get_or xs i d)) new (Some mine) (Some next) → AppendsFront between after next → PrintsSome answers old (map f xs) new before after held left refusal
     write_refused d new after next left refusal e none within w k =
         let more = next_line d new after next k.rest within w (front_written between after next k) in
         let some = subst (λ lines. Prints lines new after k.rest) (sym (take-map f (i + 1) xs)) more in
-        subst (PrintsSome answers old (map f xs) before after held left) (sym e) (none, (i + 1, (k.rest, (new, some))))
+        subst (PrintsSome answers old (map f xs) new before after held left) (sym e) (none, (i + 1, (k.rest, some)))

@@ -1,6 +1,7 @@
-use Rattle.std.proofs.Common.{◌≡◌, ℕ, List, [], ◌∷◌, ◌++◌, Option, None, Some, refl, sym, ◌∙◌, ap, subst, append_assoc, arith, length, ◌<◌}
+use Rattle.std.proofs.Common.{◌≡◌, ℕ, List, [], ◌∷◌, ◌++◌, Option, None, Some, Result, Ok, Err, OnErr, inl, inr, refl, sym, ◌∙◌, ap, subst, append_assoc, arith, length, ◌<◌}
 use Rattle.std.proofs.lemmas.List.{append-nil}
-use Rattle.tendril_script.specs.Sessions.{LinePrints, Session, WritesLine, WritesLines, lines, RanFrom, RanTo}
+use Rattle.tendril_script.specs.Commands.{CommandAnswers}
+use Rattle.tendril_script.specs.Sessions.{LinePrints, LineStops, Session, WritesLine, WritesLines, lines, RanFrom, RanTo}
 
 module _ {S : Type 0} (answers : S → List ℕ → List ℕ → S → Type 0) where
   -- a session goes on by one line
@@ -22,3 +23,10 @@ module _ {S : Type 0} (answers : S → List ℕ → List ℕ → S → Type 0) w
   pub ran_from : (first old new : S) (remaining before after : Option (List ℕ)) → old ≡ first → RanTo answers old new remaining before after → RanFrom answers first remaining before after
   ran_from first old new None before after e h = tt
   ran_from first old new (Some script) before after e h = (new, subst (λ s. WritesLines answers s (lines script) new before after) e h)
+
+-- where memory is refused for what a reply prints, its command was carried out
+pub reply_lost : {S C R T E : Type 0} (IsOf : C → List ℕ → Type 0) (Gives : S → C → R → S → Type 0) (text_of : R → List ℕ) (old new : S) (line : List ℕ) (command : C) (reply : R) (text : Result T E)
+    → IsOf command line → Gives old command reply new → OnErr text (LineStops (CommandAnswers IsOf Gives text_of) old line new)
+reply_lost IsOf Gives text_of old new line command reply (Ok text) is gives = tt
+reply_lost IsOf Gives text_of old new line command reply (Err e) is gives =
+    inr (text_of reply, inl record { command = command; reply = reply; is_line = is; replies = gives; prints = refl })

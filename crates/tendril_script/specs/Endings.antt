@@ -1,8 +1,8 @@
 -- What the writers have taken when a run over a script ends, whether it was refused or not.
-use Rattle.std.specs.Prelude.{ℕ, ◌≡◌, ◌⊎◌, List, take, Option, IfSome}
+use Rattle.std.specs.Prelude.{ℕ, ◌≡◌, ◌⊎◌, List, [], take, get_or, Option, IfSome}
 use Rattle.tendril_block.specs.declared.refusal.Refusal.{Refusal}
 use Rattle.tendril_block.specs.declared.refusal.Refusal.TheVariants.{Memory, Io}
-use Rattle.tendril_script.specs.Sessions.{Session, WritesFrom, lines}
+use Rattle.tendril_script.specs.Sessions.{LineStops, Session, WritesLines, lines}
 use Rattle.tendril_script.specs.Writing.{AppendsFront, complaint}
 
 -- the refusals that end a program which runs a script
@@ -11,22 +11,26 @@ EndsProgram refusal = (refusal ≡ Memory) ⊎ (refusal ≡ Io)
 
 module _ {S : Type 0} (answers : S → List ℕ → List ℕ → S → Type 0) where
   -- a front of what is written for lines
-  pub record WritesFrontOfLines (old : S) (lines : List (List ℕ)) (before after : Option (List ℕ)) : Type 0 where
+  pub record WritesFrontOfLines (old : S) (lines : List (List ℕ)) (new : S)
+      (before after : Option (List ℕ)) : Type 0 where
     pub bytes : List ℕ
-    pub new : S
     pub session : Session answers old lines bytes new
     pub front : AppendsFront before after bytes
 
-  -- what a refusal leaves of a run over lines. Want of memory: all that the lines before it print, each whole. A failed
-  -- write: a front of what the lines before it print
-  abbrev pub RunStops : S → List (List ℕ) → Option (List ℕ) → Option (List ℕ) → Refusal → Type 0
-  RunStops old lines before after Memory = (count : ℕ) × WritesFrom answers old (take count lines) before after
-  RunStops old lines before after Io = (count : ℕ) × WritesFrontOfLines old (take count lines) before after
-  RunStops old lines before after other = ⊥
+  -- What a refusal leaves of a run over lines. Want of memory: all that the lines before it print, each whole; the line
+  -- behind them, for which it was wanted, leads to the state that is left. A failed write: a front of what they print.
+  abbrev pub RunStops : S → List (List ℕ) → S → Option (List ℕ) → Option (List ℕ) → Refusal → Type 0
+  RunStops old lines new before after Memory =
+      (count : ℕ) × ((mid : S) × (WritesLines answers old (take count lines) mid before after
+      × LineStops answers mid (get_or lines count []) new))
+  RunStops old lines new before after Io =
+      (count : ℕ) × ((mid : S) × (WritesFrontOfLines old (take count lines) mid before after
+      × LineStops answers mid (get_or lines count []) new))
+  RunStops old lines new before after other = ⊥
 
   -- a refusal ended the program of this name: its line went to standard error, and what was printed before stands
   pub record RunEnded (program : List ℕ) (old : S) (remaining before after told told' : Option (List ℕ)) : Type 0 where
     pub refusal : Refusal
     pub ends : EndsProgram refusal
-    pub stops : IfSome remaining (λ script. RunStops old (lines script) before after refusal)
+    pub stops : IfSome remaining (λ script. (new : S) × RunStops old (lines script) new before after refusal)
     pub tells : AppendsFront told told' (complaint program refusal)

@@ -1,5 +1,5 @@
 -- A session: the lines of a script, one after another, and what is written for them.
-use Rattle.std.specs.Prelude.{ℕ, ◌≡◌, ◌==◌, List, [], ◌∷◌, ◌++◌, Option, IfSome}
+use Rattle.std.specs.Prelude.{ℕ, ◌≡◌, ◌⊎◌, ◌==◌, List, [], ◌∷◌, ◌++◌, Option, IfSome}
 use Rattle.std.specs.List.{slice_split}
 use Rattle.std.specs.Io.KnownBytes.{Appends}
 
@@ -15,6 +15,10 @@ module _ {S : Type 0} (answers : S → List ℕ → List ℕ → S → Type 0) w
   LinePrints old [] bytes new = (bytes ≡ []) × (new ≡ old)
   LinePrints old (byte ∷ line) bytes new =
       (text : List ℕ) × (answers old (byte ∷ line) text new × (bytes ≡ text ++ 10 ∷ []))
+
+  -- what a line leaves for which memory is refused: it has changed nothing, or was carried out, and its text is lost
+  abbrev pub LineStops : S → List ℕ → S → Type 0
+  LineStops old line new = (new ≡ old) ⊎ ((text : List ℕ) × answers old line text new)
 
   -- what is written for lines, one after another
   abbrev pub Session : S → List (List ℕ) → List ℕ → S → Type 0

@@ -1,25 +1,48 @@
 //! The words that a program is started with.
-ghost use Rattle.std.specs.Prelude.{◌≡◌, ◌↔◌, IfErr, IsTrue, map};
+ghost use Rattle.std.specs.Prelude.{◌≡◌, ◌↔◌, [], IfErr, IsTrue, IsUtf8, map};
 ghost use Rattle.tendril_script.specs.Words.{AskToRun};
 
-use std::env;
-use std::io::ErrorKind;
+use std::alloc::AllocError;
+use std::env::FillError;
 use std::rt::Env;
+use std::str;
 use tendril_block::Refusal;
 
-/// A program's words, the arguments behind its name, or None where an argument or the name isn't UTF-8.
-pub fn words_of<S: Env + AllocGlobal>(system: &S) -> Result<Option<Vec<String>>, Refusal>
+// No word that a program knows has more bytes.
+const LONGEST: usize = 16;
+
+/// A program's words, the arguments behind its name. A word that isn't UTF-8, or has more than 16 bytes, is handed over
+/// as the empty word, which asks for nothing. The name isn't read, so it may be any bytes.
+pub fn words_of<S: Env + AllocGlobal>(system: &S) -> Result<Vec<String>, Refusal>
     ensures { IfErr result (λ r. r ≡ Refusal.Memory) }
 {
-    let arguments = match env::args(system) {
-        Ok(arguments) => arguments,
-        Err(error) if error.kind() == ErrorKind::OutOfMemory => return Err(Refusal::Memory),
-        Err(_) => return Ok(None),
+    let mut words = Vec::new(system.alloc());
+    for place in 1..usize::MAX {
+        let Some(word) = word_at(system, place)? else {
+            break;
+        };
+        words.push(word).map_err(AllocError::from)?;
+    }
+    Ok(words)
+}
+
+// The word at a place, or None behind the last one.
+fn word_at<S: Env + AllocGlobal>(system: &S, place: usize) -> Result<Option<String>, AllocError> {
+    let mut bytes = [0; LONGEST];
+    let word = match system.arg(place, &mut bytes) {
+        Ok(count) => text_of(&bytes[..count]),
+        Err(FillError::TooLong) => "",
+        Err(FillError::NotPresent) => return Ok(None),
     };
-    let Ok(arguments) = arguments.skip(1).collect::<Vec<String>>(system.alloc()) else {
-        return Err(Refusal::Memory);
-    };
-    Ok(Some(arguments))
+    Ok(Some(String::from_str(system.alloc(), word)?))
+}
+
+// Bytes as text, which is empty where they aren't UTF-8.
+fn text_of(bytes: &[u8]) -> &str
+    ensures utf8 { IsUtf8 bytes.now → result.now ≡ bytes.now }
+    ensures other { (IsUtf8 bytes.now → ⊥) → result.now ≡ [] }
+{
+    str::from_utf8(bytes).unwrap_or("")
 }
 
 /// Whether the words ask for a run: none, or `run`.

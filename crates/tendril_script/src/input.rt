@@ -23,7 +23,7 @@ pub fn run_input<L: Lines, R: Read, W: Write>(
         (R.remaining input.old) (W.contents out.old) (W.contents out.new)) }
     ensures refusal { IfErr result EndsProgram }
     ensures stops { IfErr result (λ r. IfSome (R.remaining input.old) (λ script. RunStops L.answers
-        (L.state runner.old) (lines script) (W.contents out.old) (W.contents out.new) r)) }
+        (L.state runner.old) (lines script) (L.state runner.new) (W.contents out.old) (W.contents out.new) r)) }
     ensures reads_first { Keeps (W.contents out.old) (W.contents out.new) ⊎ IsAtEnd (R.remaining input.new) }
 {
     let script = read_script(alloc, input)?;

@@ -3,7 +3,7 @@ ghost use Rattle.std.specs.Prelude.{◌≡◌, Some, IfOk, IfErr, OnOk, OnErr, [
 ghost use Rattle.std.specs.Io.KnownBytes.{Appends};
 ghost use Rattle.tendril_script.specs.Endings.{RunStops};
 ghost use Rattle.tendril_script.specs.HeldBack.{Passes, PrintsLines, PrintsSome};
-ghost use Rattle.tendril_script.specs.Sessions.{WritesLine, WritesLines, lines};
+ghost use Rattle.tendril_script.specs.Sessions.{LineStops, WritesLine, WritesLines, lines};
 ghost use Rattle.tendril_script.specs.Writing.{AppendsFront};
 
 use crate::lines::Lines;
@@ -30,7 +30,7 @@ pub fn run_script<L: Lines, W: Write>(
     ensures ok { OnOk result (WritesLines L.answers
         (L.state runner.old) (lines script.now) (L.state runner.new) (W.contents out.old) (W.contents out.new)) }
     ensures refusal { IfErr result (RunStops L.answers
-        (L.state runner.old) (lines script.now) (W.contents out.old) (W.contents out.new)) }
+        (L.state runner.old) (lines script.now) (L.state runner.new) (W.contents out.old) (W.contents out.new)) }
 {
     let Ok(lines) = split_lines(alloc, script) else {
         return Err(Refusal::Memory);
@@ -61,7 +61,7 @@ fn run_lines<L: Lines, W: Write>(
         (L.state runner.old) (map (λ line. line.now) lines.now) (L.state runner.new)
         (W.contents out.old) (W.contents out.new) held.old.items held.new.items) }
     ensures refusal { IfErr result (PrintsSome L.answers
-        (L.state runner.old) (map (λ line. line.now) lines.now)
+        (L.state runner.old) (map (λ line. line.now) lines.now) (L.state runner.new)
         (W.contents out.old) (W.contents out.new) held.old.items held.new.items) }
 {
     for line in lines {
@@ -106,6 +106,7 @@ fn run_line<L: Lines>(
     ensures ok { OnOk result (WritesLine L.answers
         (L.state runner.old) line.now (L.state runner.new) (Some held.old.items) (Some held.new.items)) }
     ensures err { OnErr result (held.new.items ≡ held.old.items) }
+    ensures stopped { OnErr result (LineStops L.answers (L.state runner.old) line.now (L.state runner.new)) }
     ensures refusal { IfErr result (λ r. r ≡ Refusal.Memory) }
 {
     if line.is_empty() {

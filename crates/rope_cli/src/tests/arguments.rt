@@ -44,11 +44,13 @@ fn run_with(alloc: Global, arguments: &[u8]) -> Seen {
 const ANSWERED: Due<'static> = (0, b"rope 0\nlength 0\n", b"");
 
 // The words are the arguments behind the name. An argument that isn't UTF-8 is an unknown word.
-const ARGUMENTS: [(&[u8], Due<'static>); 14] = [
+const ARGUMENTS: [(&[u8], Due<'static>); 16] = [
     (b"rope", ANSWERED),
     (b"rope run", ANSWERED),
     (b"run", ANSWERED),
     (b"\xc5\x91 run", ANSWERED),
+    (b"\xff", ANSWERED),
+    (b"\xff run", ANSWERED),
     (b"rope runs", USAGE),
     (b"rope ", USAGE),
     (b"rope run ", USAGE),

@@ -23,7 +23,8 @@ returns-in_err-run_line-clause-refusal g c =
     rw (p.1, p.2)
     (line_refused g.L.Lines.answers (state c.args.runner.now) (contents c.args.out.now) c.args.held.now.items
     (λ line. line.now) c.args.lines.now c.loop-line.line-index (state c.loop-line.runner) (contents c.loop-line.out) c.loop-line.held.items c.loop-line.invariant
-    c.run_line.new.held.items _ c.in_err-run_line.ensures.refusal c.in_err-run_line.ensures.err)
+    _ (state c.run_line.new.runner) c.run_line.new.held.items _ c.in_err-run_line.ensures.refusal c.in_err-run_line.ensures.err
+    c.loop-line-test.true c.in_err-run_line.ensures.stopped)
 
 pub returns-in_err-write_chunk-clause-refusal : goal.returns-in_err-write_chunk-clause-refusal
 returns-in_err-write_chunk-clause-refusal g c =
