@@ -3,7 +3,7 @@ ghost use Rattle.std.specs.Prelude.{◌≡◌};
 ghost use Rattle.rope_cli.specs.RopeSessions.{RopeReplies, no_cells};
 
 use crate::white_space::WhiteSpace;
-use rope_run::{RopeCommand, RopeReply, RopeTable, parse_rope_line, print_rope_reply};
+use rope::{RopeCommand, RopeReply, RopeTable, parse_rope_line, print_rope_reply};
 use std::alloc::Global;
 use tendril_run::{Reply, Table};
 use tendril_script::Lines;

@@ -1,23 +1,14 @@
-//! Each file tests one subject, by rows. What is expected comes from Unicode's table of well-formed UTF-8, or from rows
+//! What no line of a session can say of streams. What is expected comes from Unicode's table of well-formed UTF-8, or was
 //! written by hand, and never from what the calls answered.
+//!
+//! A test notes what fails and reports it at its end: each early return would be one more path for its proof.
 
-mod chained;
+mod broken;
 mod cuttings;
-mod due;
-mod events;
-mod faults;
 mod files;
-mod full;
-mod joined;
-mod kept;
-mod long;
-mod noted;
-mod pieces;
+mod line;
+mod notes;
+mod once;
 mod readers;
-mod refusing;
-mod room;
-mod script;
-mod short;
+mod sinks;
 mod slow;
-mod texts;
-mod worked;

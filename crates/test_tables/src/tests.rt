@@ -1,11 +1,10 @@
-//! What no contract says: that commands on tables, and texts in threads, succeed where there is memory. What must come is
-//! written by hand, and never what the calls answered.
+//! What no contract says: that calls of tables, and texts in threads, succeed where there is memory.
 
 mod blocks;
-mod growing;
-mod lines;
-mod many;
+mod rope_random;
+mod rope_readers;
+mod rope_sinks;
+mod rope_threads;
 mod sent;
-mod sessions;
 mod tables;
 mod workers;

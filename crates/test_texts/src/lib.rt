@@ -1,4 +1,4 @@
-//! Tests of what no contract says of texts, over both kinds of block: tables of rows, each with what must come.
+//! Tests of formats, texts and blocks that no line of a session can say, over both kinds of block.
 #![tactic(auto)]
 
 #[cfg(test)]

@@ -1,20 +1,17 @@
-//! Each file tests one subject. What is expected comes from Unicode's table of well-formed UTF-8, from std, or from
-//! rows written by hand, and never from what the calls answered.
+//! Each file tests one subject. What is expected comes from Unicode's tables, from std, or from rows written by hand, and
+//! never from what the calls returned.
 
 mod blocks;
-mod characters;
-mod compared;
-mod full;
-mod growing;
+mod classified;
+mod encoded_units;
+mod encodings;
 mod items;
-mod kinds;
-mod printed;
+mod joined;
+mod local;
+mod memory;
+mod own_formats;
 mod runs;
-mod searches;
-mod slices;
-mod steps;
-mod strings;
-mod taken_apart;
+mod table;
 mod texts;
-mod units;
-mod writing;
+mod valid;
+mod writers;

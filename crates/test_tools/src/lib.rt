@@ -1,9 +1,9 @@
-//! What tests share: comparisons that say what came and what was due, and Unicode's table of well-formed UTF-8. Nothing
-//! here ends the process, so a test's proof has no way out but its answer.
+//! What tests share: notes of what came and what was expected, and Unicode's table of well-formed UTF-8. Nothing here ends
+//! the process, and a test that notes what it sees has no way out but its end.
 #![tactic(auto)]
 
-mod compare;
+mod notes;
 mod utf8_table;
 
-pub use compare::{At, holds_at, same, same_at, same_in, same_rows};
+pub use notes::Notes;
 pub use utf8_table::{Front, front_of};

@@ -16,16 +16,16 @@ const WELL_FORMED: [Sequence<'static>; 9] = [
     &[(0xF4, 0xF4), (0x80, 0x8F), (0x80, 0xBF), (0x80, 0xBF)],
 ];
 
-/// What stands at the front of bytes.
+/// What bytes begin with.
 #[derive(Clone, Copy, Debug, PartialEq, Eq)]
 pub enum Front {
     /// Nothing: there are no bytes.
     Empty,
-    /// A character of so many bytes.
+    /// A character of this many bytes.
     Character(usize),
-    /// A maximal subpart of so many bytes, or a byte that begins no character.
+    /// A maximal subpart of this many bytes, or a byte that begins no character.
     Broken(usize),
-    /// The front of a character, and nothing behind it.
+    /// The beginning of a character, and nothing after it.
     Open,
 }
 
@@ -38,7 +38,7 @@ fn matched(sequence: Sequence, bytes: &[u8]) -> usize {
         .count()
 }
 
-/// What stands at the front of these bytes, by the table alone.
+/// What these bytes begin with, by the table alone.
 pub fn front_of(bytes: &[u8]) -> Front {
     if bytes.is_empty() {
         return Front::Empty;

@@ -1,6 +1,6 @@
 //! The words that the program gets of the arguments that it is started with.
 
-use super::{Due, Seen, USAGE, check};
+use super::{Ran, USAGE, check};
 use crate::arguments::program_with_arguments;
 use std::alloc::Global;
 use std::env::FillError;
@@ -32,19 +32,10 @@ impl Env for Arguments<'_> {
     }
 }
 
-fn run_with(alloc: Global, arguments: &[u8]) -> Seen {
-    let system = (Arguments(arguments), alloc);
-    let mut input = b"rope\nrlen 0\n".as_slice();
-    let mut out = Vec::new(alloc);
-    let mut err = Vec::new(alloc);
-    let status = program_with_arguments(&system, &mut input, &mut out, &mut err);
-    Seen { status, out, err }
-}
+const ANSWERED: Ran<'static> = (0, b"rope 0\nlength 0\n", b"");
 
-const ANSWERED: Due<'static> = (0, b"rope 0\nlength 0\n", b"");
-
-// The words are the arguments behind the name. An argument that isn't UTF-8 is an unknown word.
-const ARGUMENTS: [(&[u8], Due<'static>); 16] = [
+// The words are the arguments after the name, which may be any bytes. An argument that isn't UTF-8 is an unknown word.
+const ARGUMENTS: [(&[u8], Ran); 16] = [
     (b"rope", ANSWERED),
     (b"rope run", ANSWERED),
     (b"run", ANSWERED),
@@ -63,10 +54,19 @@ const ARGUMENTS: [(&[u8], Due<'static>); 16] = [
     (b"rope \xed\xa0\xbd", USAGE),
 ];
 
+fn run(alloc: Global, row: usize, arguments: &[u8], expected: Ran) -> Result<(), Fail> {
+    let system = (Arguments(arguments), alloc);
+    let mut input = b"rope\nrlen 0\n".as_slice();
+    let mut out = Vec::new(alloc);
+    let mut err = Vec::new(alloc);
+    let status = program_with_arguments(&system, &mut input, &mut out, &mut err);
+    check(row, (status, out.as_slice(), err.as_slice()), expected)
+}
+
 #[test]
-fn the_words_are_the_arguments_behind_the_name(rt: HostRuntime) -> Result<(), Fail> {
-    for (row, (arguments, due)) in ARGUMENTS.iter().enumerate() {
-        check(row, &run_with(rt.alloc(), arguments), *due)?;
+fn the_words_are_the_arguments_after_the_name(rt: HostRuntime) -> Result<(), Fail> {
+    for (row, (arguments, expected)) in ARGUMENTS.iter().enumerate() {
+        run(rt.alloc(), row, arguments, *expected)?;
     }
     Ok(())
 }

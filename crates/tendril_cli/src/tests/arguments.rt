@@ -1,6 +1,6 @@
 //! The words that the program gets of the arguments that it is started with.
 
-use super::{Due, Seen, USAGE, check};
+use super::{Expected, Notes, Seen, check};
 use crate::arguments::program_with_arguments;
 use std::alloc::Global;
 use std::env::FillError;
@@ -41,22 +41,32 @@ fn run_with(alloc: Global, arguments: &[u8]) -> Seen {
     Seen { status, out, err }
 }
 
-const ANSWERED: Due<'static> = (0, b"slot 0\nbytes -\n", b"");
+const ANSWERED: Expected<'static> = (0, b"slot 0\nbytes -\n", b"");
 
-// The words are the arguments behind the name. An argument that isn't UTF-8 is an unknown word.
-const ARGUMENTS: [(&[u8], Due<'static>); 16] = [
+const DECODED: Expected<'static> = (0, b"new bytes\ntext 0\n", b"");
+
+const USAGE: Expected<'static> = (2, b"", b"usage: tendril run | tendril decode\n");
+
+// The words are the arguments after the name, which may be any bytes. An argument that isn't UTF-8 is an unknown word.
+const ARGUMENTS: [(&[u8], Expected<'static>); 22] = [
     (b"tendril", ANSWERED),
     (b"tendril run", ANSWERED),
     (b"run", ANSWERED),
     (b"\xc5\x91 run", ANSWERED),
     (b"\xff", ANSWERED),
     (b"\xff run", ANSWERED),
+    (b"\xff decode", DECODED),
+    (b"tendril 0123456789abcdef", USAGE),
+    (b"tendril 0123456789abcdefg", USAGE),
     (b"tendril runs", USAGE),
+    (b"tendril decodes", USAGE),
     (b"tendril ", USAGE),
     (b"tendril run ", USAGE),
     (b"tendril  run", USAGE),
+    (b"tendril decode ", USAGE),
     (b"tendril run run", USAGE),
-    (b"tendril decode decode", USAGE),
+    (b"tendril decode run", USAGE),
+    (b"tendril -h x y", USAGE),
     (b"run tendril", USAGE),
     (b"tendril \xff", USAGE),
     (b"tendril run \xff", USAGE),
@@ -64,9 +74,10 @@ const ARGUMENTS: [(&[u8], Due<'static>); 16] = [
 ];
 
 #[test]
-fn the_words_are_the_arguments_behind_the_name(rt: HostRuntime) -> Result<(), Fail> {
-    for (row, (arguments, due)) in ARGUMENTS.iter().enumerate() {
-        check(row, &run_with(rt.alloc(), arguments), *due)?;
+fn the_words_are_the_arguments_after_the_name(rt: HostRuntime) -> Result<(), Fail> {
+    let mut notes = Notes::new();
+    for (row, (arguments, expected)) in ARGUMENTS.iter().enumerate() {
+        check(&mut notes, row, &run_with(rt.alloc(), arguments), *expected);
     }
-    Ok(())
+    notes.end()
 }

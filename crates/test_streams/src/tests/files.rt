@@ -1,91 +1,55 @@
 //! Files that are read into a decoder.
 
-use crate::tests::due::{Due, INVALID, REPLACED};
-use crate::tests::noted::Noted;
+use crate::tests::line::Line;
+use crate::tests::notes::Notes;
 use std::fs::{self, Files};
 use std::test::Fail;
 use tendril::block::Refusal;
-use tendril_stream::{Stopped, Utf8LossyDecoder, from_file};
-use test_tools::same;
+use tendril_stream::{Utf8LossyDecoder, from_file};
 
-type Decoder = Utf8LossyDecoder<Noted>;
-
-// Reads a file to its end, through a decoder.
-fn decode_file(
-    rt: &(impl Files + AllocGlobal),
-    path: &str,
-    most: u64,
-) -> Result<Result<Noted, Stopped<Decoder>>, Fail> {
-    let decoder: Decoder = Utf8LossyDecoder::new(rt.alloc(), Noted::new(rt.alloc())?);
-    Ok(from_file(rt, rt.alloc(), decoder, path, most))
-}
-
-// Writes a file, reads it through a decoder by so many reads at most, and removes it.
-fn check_file(
-    rt: &(impl Files + AllocGlobal),
-    path: &str,
-    bytes: &[u8],
-    most: u64,
-    due: &[Due],
-) -> Result<(), Fail> {
-    fs::write(rt, path, bytes)?;
-    let read = decode_file(rt, path, most)?;
-    fs::remove_file(rt, path)?;
-    match read {
-        Ok(noted) => noted.check(0, rt.alloc(), due),
-        Err(stopped) => Err(Fail::from(stopped.refusal)),
+// Writes a file, reads it through a decoder, and removes it.
+fn decode_file(rt: &(impl Files + AllocGlobal), path: &str, bytes: &[u8]) -> Line {
+    let written = fs::write(rt, path, bytes);
+    let decoder: Utf8LossyDecoder<Line> = Utf8LossyDecoder::new(rt.alloc(), Line::new());
+    let line = from_file(rt, rt.alloc(), decoder, path, 100).unwrap_or(Line::new());
+    let removed = fs::remove_file(rt, path);
+    if written.is_err() || removed.is_err() {
+        return Line::new();
     }
+    line
 }
 
 #[test]
-fn a_file(rt: HostRuntime) -> Result<(), Fail> {
-    check_file(
-        &rt,
-        "test_streams_a_file.txt",
-        b"foo\xFFbar\xEA\x99\xAE",
-        9,
-        &[
-            Due::Text("foo"),
-            INVALID,
-            REPLACED,
-            Due::Text("bar\u{a66e}"),
-        ],
-    )
-}
-
-#[test]
-fn a_long_file(rt: HostRuntime) -> Result<(), Fail> {
-    let mut bytes = Vec::new(rt.alloc());
-    // 4096 isn't a multiple of 3, so pieces end inside a character.
-    for _ in 0..10_000 {
-        bytes.extend_from_slice("\u{a66e}".as_bytes())?;
+fn files(rt: HostRuntime) -> Result<(), Fail> {
+    let mut notes = Notes::new();
+    let line = decode_file(&rt, "test_streams_a_file.txt", b"foo\xFFbar\xEA\x99\xAE");
+    let expected = b"foo\xFFinvalid byte sequence\xFF\xEF\xBF\xBDbar\xEA\x99\xAE".as_slice();
+    notes.holds(0, line.as_slice() == expected, "a file is decoded");
+    // 4096 isn't a multiple of 3, so reads end inside a character.
+    let mut long = [0u8; 30_000];
+    for (place, byte) in long.iter_mut().enumerate() {
+        *byte = [0xEA, 0x99, 0xAE][place % 3];
     }
-    let text = std::str::from_utf8(&bytes)?;
-    check_file(
-        &rt,
-        "test_streams_a_long_file.txt",
-        text.as_bytes(),
-        100,
-        &[Due::Text(text)],
-    )
-}
-
-// A path of which nothing is read.
-fn check_no_file(rt: &(impl Files + AllocGlobal), path: &str) -> Result<(), Fail> {
-    let Err(stopped) = decode_file(rt, path, 9)? else {
-        return Err(Fail::from("nothing is read"));
-    };
-    same(stopped.refusal, Refusal::Io)?;
-    let decoder = stopped.sink.ok_or("the decoder comes back")?;
-    decoder.inner_sink().check(0, rt.alloc(), &[])
+    let line = decode_file(&rt, "test_streams_a_long_file.txt", &long);
+    let is_whole = line.len == 30_000 && line.errors == 0;
+    notes.holds(1, is_whole, "a character in two reads isn't broken");
+    notes.end()
 }
 
 #[test]
-fn a_file_that_is_not_there(rt: HostRuntime) -> Result<(), Fail> {
-    check_no_file(&rt, "test_streams_no_file.txt")
-}
-
-#[test]
-fn a_folder(rt: HostRuntime) -> Result<(), Fail> {
-    check_no_file(&rt, ".")
+fn a_file_that_is_not_there_and_a_folder(rt: HostRuntime) -> Result<(), Fail> {
+    let mut notes = Notes::new();
+    for (row, path) in ["test_streams_no_file.txt", "."].iter().enumerate() {
+        let decoder: Utf8LossyDecoder<Line> = Utf8LossyDecoder::new(rt.alloc(), Line::new());
+        let came_back = match from_file(&rt, rt.alloc(), decoder, *path, 9) {
+            Ok(_) => false,
+            Err(stopped) => stopped.refusal == Refusal::Io && stopped.sink.is_some(),
+        };
+        notes.holds(
+            row,
+            came_back,
+            "nothing is read, and the decoder comes back",
+        );
+    }
+    notes.end()
 }

@@ -1,19 +1,19 @@
-//! One block, held in many threads.
+//! One block that many threads hold.
 
 use std::alloc::Global;
 use std::sync::Arc;
 use std::sync::atomic::{AtomicU64, Ordering};
 use std::test::Fail;
 use std::thread;
-use std::thread::{Promise, yield_now};
+use std::thread::{Promise, PromisedHandle, Threads, yield_now};
 use tendril_block::{Atomic, AtomicUpTo, Atomicity, Refusal};
-use test_tools::same;
+use test_tools::Notes;
 
 const TWENTY: &[u8] = b"01234567890123456789";
 
 type ThreeHolders = AtomicUpTo<3>;
 
-// Nothing is promised of what a thread answers.
+/// Nothing is promised of what a thread returns.
 #[derive(Clone, Copy)]
 struct Anything;
 
@@ -30,25 +30,53 @@ fn share_often(mine: <Atomic as Atomicity>::Block) -> bool {
     (0..1000).all(|_| Atomic::share(&mine).is_ok())
 }
 
+// Starts a thread that has a reference of its own.
+fn start_sharer(
+    rt: &impl Threads,
+    notes: &mut Notes,
+    block: &<Atomic as Atomicity>::Block,
+    threads: &mut Vec<PromisedHandle<bool, Anything>>,
+) {
+    let Ok(mine) = Atomic::share(block) else {
+        notes.holds(0, false, "the block is shared");
+        return;
+    };
+    match thread::spawn_with(rt, Anything, move || share_often(mine)) {
+        Ok(thread) => notes.holds(1, threads.push(thread).is_ok(), "a thread is kept"),
+        Err(_) => notes.holds(1, false, "a thread is started"),
+    }
+}
+
 #[test]
 fn eight_threads_share_and_drop(rt: HostRuntime) -> Result<(), Fail> {
     let mut last = made::<Atomic>(rt.alloc())?;
+    let mut notes = Notes::new();
     let mut threads = Vec::new(rt.alloc());
     for _ in 0..8 {
-        let mine = Atomic::share(&last)?;
-        threads.push(thread::spawn_with(&rt, Anything, move || share_often(mine))?)?;
+        start_sharer(&rt, &mut notes, &last, &mut threads);
     }
+    notes.same(2, threads.len(), 8);
     for thread in threads {
-        same(thread.join(&rt), true)?;
+        notes.holds(3, thread.join(&rt), "each share succeeds");
     }
-    same(Atomic::bytes(&last), TWENTY)?;
-    same(Atomic::alone_mut(&mut last).is_some(), true)?;
-    let sole = Atomic::into_sole(last).ok().ok_or("one holder")?;
-    let block = Atomic::from_sole(sole).ok().ok_or("from_sole")?;
-    same(Atomic::bytes(&block), TWENTY)
+    notes.same(4, Atomic::bytes(&last), TWENTY);
+    notes.holds(
+        5,
+        Atomic::alone_mut(&mut last).is_some(),
+        "one reference is left",
+    );
+    check_sole(&mut notes, last);
+    notes.end()
 }
 
-// Waits until three threads are done, so that each keeps its holder until then.
+fn check_sole(notes: &mut Notes, last: <Atomic as Atomicity>::Block) {
+    match Atomic::into_sole(last).map(Atomic::from_sole) {
+        Ok(Ok(block)) => notes.same(6, Atomic::bytes(&block), TWENTY),
+        _ => notes.holds(6, false, "the block is taken and made anew"),
+    }
+}
+
+// Waits until three threads are done, so that each keeps its reference until then.
 fn wait_for_three(done: &AtomicU64) -> bool {
     for _ in 0..10_000_000 {
         if done.load(Ordering::SeqCst) == 3 {
@@ -59,7 +87,7 @@ fn wait_for_three(done: &AtomicU64) -> bool {
     false
 }
 
-// Tries to share a block that has all its holders, and answers whether each try was refused while all three were held.
+// Tries to share a block that is full. Whether each try was refused while all three references were held.
 fn is_refused_often(mine: &<ThreeHolders as Atomicity>::Block, done: &AtomicU64) -> bool {
     let all_were_refused = (0..1000).all(|_| ThreeHolders::share(mine).err()
         == Some(Refusal::Count));
@@ -67,7 +95,7 @@ fn is_refused_often(mine: &<ThreeHolders as Atomicity>::Block, done: &AtomicU64)
     wait_for_three(done) && all_were_refused
 }
 
-// One of three holders, if its tries to share were refused.
+// The reference, if its tries to share were refused.
 fn kept(
     mine: <ThreeHolders as Atomicity>::Block,
     done: Arc<AtomicU64, Global>,
@@ -80,7 +108,7 @@ fn kept(
 }
 
 #[test]
-fn three_threads_with_three_holders_share_no_more(rt: HostRuntime) -> Result<(), Fail> {
+fn three_threads_with_three_references_share_no_more(rt: HostRuntime) -> Result<(), Fail> {
     let first = made::<ThreeHolders>(rt.alloc())?;
     let second = ThreeHolders::share(&first)?;
     let third = ThreeHolders::share(&first)?;
@@ -92,8 +120,18 @@ fn three_threads_with_three_holders_share_no_more(rt: HostRuntime) -> Result<(),
     }
     let mut last = None;
     for thread in threads {
-        last = Some(thread.join(&rt).ok_or("a share that wasn't refused")?);
+        last = Some(
+            thread
+                .join(&rt)
+                .ok_or("a share that wasn't refused, or no end of waiting")?,
+        );
     }
     let mut last = last.ok_or("a thread")?;
-    same(ThreeHolders::alone_mut(&mut last).is_some(), true)
+    let mut notes = Notes::new();
+    notes.holds(
+        0,
+        ThreeHolders::alone_mut(&mut last).is_some(),
+        "one reference is left",
+    );
+    notes.end()
 }

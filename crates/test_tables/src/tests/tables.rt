@@ -1,59 +1,60 @@
-//! Tables, their slots and single steps.
+//! Calls that sessions don't make: slots that are pushed, and the parts of lines.
 
-use crate::OneClass;
 use std::alloc::Global;
 use std::test::Fail;
 use tendril_block::{Atomic, Atomicity, NonAtomic};
-use tendril_lines::ByteList;
-use tendril_run::{Command, Slot, Table, print_reply};
-use tendril_text::{Tendril, fmt};
-use test_tools::same;
+use tendril_lines::{ByteList, one_number, two_slots};
+use tendril_run::{Slot, Table};
+use tendril_text::{ByteTendril, Tendril, slice_to_tendril};
+use test_tools::Notes;
 
-// The bytes of a slot that has some.
-fn bytes_of<A: Atomicity>(slot: Option<&Slot<A>>) -> Result<&[u8], Fail> {
-    match slot {
-        Some(Slot::Bytes(text)) => Ok(text.as_byte_slice()),
-        _ => Err(Fail::from("no bytes in the slot")),
-    }
-}
+const DIGITS: &[u8] = b"0123456789";
 
-fn check_that_a_slot_is_pushed_and_found<A: Atomicity>(alloc: Global) -> Result<(), Fail> {
+fn push_slots<A: Atomicity>(alloc: Global, notes: &mut Notes) {
     let mut table = Table::<A>::new(alloc);
-    table.reserve_slots(3)?;
-    same(table.room() >= 3, true)?;
-    let text = Tendril::<fmt::Bytes, A>::try_from_byte_slice(alloc, b"0123456789")?;
-    same(table.push(Slot::Bytes(text)).is_ok(), true)?;
-    same(table.push(Slot::Gone).is_ok(), true)?;
-    same(bytes_of(table.slot(0))?, b"0123456789".as_slice())?;
-    same(matches!(table.slot(1), Some(Slot::Gone)), true)?;
-    same(table.slot(2).is_none(), true)
+    notes.done(0, table.reserve_slots(3));
+    notes.holds(1, table.room() >= 3, "there is room for three slots");
+    let text: ByteTendril<A> = notes.or(2, slice_to_tendril(alloc, DIGITS), Tendril::new(alloc));
+    notes.holds(3, table.push(Slot::Bytes(text)).is_ok(), "a text is pushed");
+    notes.holds(
+        4,
+        table.push(Slot::Gone).is_ok(),
+        "a dropped slot is pushed",
+    );
+    match table.slot(0) {
+        Some(Slot::Bytes(text)) => notes.same(5, text.as_byte_slice(), DIGITS),
+        _ => notes.holds(5, false, "slot 0 has the text"),
+    }
+    notes.holds(
+        6,
+        matches!(table.slot(1), Some(Slot::Gone)),
+        "slot 1 is dropped",
+    );
+    notes.holds(7, table.slot(2).is_none(), "there is no slot 2");
 }
 
 #[test]
-fn a_slot_is_pushed_and_found(rt: HostRuntime) -> Result<(), Fail> {
-    check_that_a_slot_is_pushed_and_found::<NonAtomic>(rt.alloc())?;
-    check_that_a_slot_is_pushed_and_found::<Atomic>(rt.alloc())
+fn slots_are_pushed_and_found(rt: HostRuntime) -> Result<(), Fail> {
+    let mut notes = Notes::new();
+    push_slots::<NonAtomic>(rt.alloc(), &mut notes);
+    push_slots::<Atomic>(rt.alloc(), &mut notes);
+    notes.end()
 }
 
 #[test]
 fn a_list_gives_its_bytes_back(rt: HostRuntime) -> Result<(), Fail> {
     let list = ByteList::new(Vec::from_slice(rt.alloc(), b"01")?);
-    same(list.into_vec().as_slice(), b"01".as_slice())
-}
-
-fn check_one_step<A: Atomicity>(alloc: Global) -> Result<(), Fail> {
-    let mut table = Table::<A>::new(alloc);
-    table.reserve_slots(1)?;
-    same(table.room() >= 1, true)?;
-    let reply = table.step(&Command::Text(7), &OneClass);
-    same(
-        print_reply(alloc, &reply)?.as_str(),
-        "refused 13 NoSuchSlot",
-    )
+    let mut notes = Notes::new();
+    notes.same(0, list.into_vec().as_slice(), b"01".as_slice());
+    notes.end()
 }
 
 #[test]
-fn one_step(rt: HostRuntime) -> Result<(), Fail> {
-    check_one_step::<NonAtomic>(rt.alloc())?;
-    check_one_step::<Atomic>(rt.alloc())
+fn words_after_a_verb(_rt: HostRuntime) -> Result<(), Fail> {
+    let mut notes = Notes::new();
+    notes.same(0, one_number(&[b"4294967295".as_slice()]), Some(4294967295));
+    notes.same(1, one_number(&[b"1".as_slice(), b"2"]), None);
+    notes.same(2, two_slots(&[b"1".as_slice(), b"2"]), Some((1, 2)));
+    notes.same(3, two_slots(&[b"1".as_slice(), b"02"]), None);
+    notes.end()
 }

@@ -1,116 +1,191 @@
-//! Tables that threads work on, each as a session, and what is played on its table afterwards.
+//! Tables that threads work on. What memory that is refused to a worker does is shown by the session `worker.txt`.
 
-use crate::{OneClass, check_replies, commands_of, play_on};
 use std::alloc::Global;
+use std::marker::Send;
 use std::sync::Arc;
-use std::sync::atomic::{AtomicBool, AtomicU64, Ordering};
+use std::sync::atomic::{AtomicU64, Ordering};
 use std::test::Fail;
 use std::thread;
 use std::thread::Threads;
+use tendril_lines::{Command, parse_line, print_reply};
 use tendril_run::{Classifier, Gate, Job, Outcome, Slot, Table, run_tables};
-use tendril_text::fmt::Bytes;
-use tendril_text::{Atomic, Tendril, slice_to_tendril};
-use test_tools::same;
+use tendril_text::{Atomic, ByteTendril, Tendril, slice_to_tendril};
+use test_tools::Notes;
 
 const DIGITS: &[u8] = b"0123456789abcdef";
 
-// What a worker does on a table whose slot 0 has the digits, and what is played on the table when it is done.
-type Work<'a> = (&'a str, &'a str);
-
-const ALL_DIGITS: &str = "text 0 => bytes 30313233343536373839616263646566";
+/// What a worker does on a table whose slot 0 has the digits: its lines with their replies, and the bytes of slot 0
+/// afterwards, `None` where it is dropped.
+type Work<'a> = (&'a [(&'a str, &'a str)], Option<&'a [u8]>);
 
 const THREE: [Work<'static>; 3] = [
     (
-        "push 0 58 => ok
-        text 0 => bytes 3031323334353637383961626364656658",
-        "text 0 => bytes 3031323334353637383961626364656658",
+        &[
+            ("push 0 58", "ok"),
+            ("text 0", "bytes 3031323334353637383961626364656658"),
+        ],
+        Some(b"0123456789abcdefX"),
     ),
     (
-        "front 0 4 => ok
-        send 0 => ok
-        text 0 => bytes 343536373839616263646566",
-        "text 0 => bytes 343536373839616263646566",
+        &[
+            ("front 0 4", "ok"),
+            ("send 0", "ok"),
+            ("text 0", "bytes 343536373839616263646566"),
+        ],
+        Some(b"456789abcdef"),
     ),
     (
-        "slice 0 0 17 => refused 5 OutOfBounds
-        drop 0 => ok
-        text 0 => refused 13 NoSuchSlot",
-        "text 0 => refused 13 NoSuchSlot",
+        &[
+            ("slice 0 0 17", "refused 5 OutOfBounds"),
+            ("drop 0", "ok"),
+            ("text 0", "refused 13 NoSuchSlot"),
+        ],
+        None,
     ),
 ];
 
-const REFUSED: [Work<'static>; 1] = [(
-    "text 1 => refused 13 NoSuchSlot
-    back 0 17 => refused 5 OutOfBounds
-    send 1 => refused 13 NoSuchSlot
-    pop 0 => refused 14 WrongFormat",
-    ALL_DIGITS,
-)];
-
-const MEETING: [Work<'static>; 2] = [
-    (
-        "push 0 58 => ok",
-        "text 0 => bytes 3031323334353637383961626364656658",
-    ),
-    (
-        "front 0 4 => ok",
-        "text 0 => bytes 343536373839616263646566",
-    ),
+const TWO: [Work<'static>; 2] = [
+    (&[("push 0 58", "ok")], Some(b"0123456789abcdefX")),
+    (&[("front 0 4", "ok")], Some(b"456789abcdef")),
 ];
+
+const SHARING: Work<'static> = (
+    &[("clone 0", "slot 1"), ("push 0 58", "ok"), ("drop 1", "ok")],
+    Some(b"0123456789abcdefX"),
+);
+
+// Each run is classified by the number of its one character.
+const RUNS: Work<'static> = (
+    &[
+        ("from ascii 01", "slot 1"),
+        ("from ascii 02", "slot 2"),
+        ("from ascii 03", "slot 3"),
+        ("from ascii 04", "slot 4"),
+        ("run 1", "run 5 1"),
+        ("run 2", "run 6 1"),
+        ("run 3", "run 7 1"),
+        ("run 4", "run 8 1"),
+    ],
+    Some(DIGITS),
+);
 
 #[derive(Drop)]
-struct NoGate;
+struct Open;
 
-impl Gate for NoGate {
+impl Gate for Open {
     fn before(&self, _command: usize) {}
 }
 
-// A job on a table whose slot 0 shares the text.
-fn job<C: Drop, G: Drop>(
+/// All characters are of class 1. It keeps the number of the last character that was classified.
+#[derive(Drop)]
+struct KeepsLast(Option<Arc<AtomicU64>>);
+
+impl Classifier for KeepsLast {
+    ghost class = { λ _ _. 1 };
+
+    fn class_of(&self, character: char) -> u32 {
+        if let Some(last) = &self.0 {
+            last.store(u64::from(character as u32), Ordering::SeqCst);
+        }
+        1
+    }
+}
+
+fn add_command(alloc: Global, notes: &mut Notes, commands: &mut Vec<Command>, line: &str) {
+    match parse_line(alloc, line.as_bytes()) {
+        Ok(Some(command)) => notes.holds(0, commands.push(command).is_ok(), "a command is added"),
+        _ => notes.holds(0, false, line),
+    }
+}
+
+// Adds a job on a table whose slot 0 shares the text.
+fn add_job<G: Drop>(
     alloc: Global,
-    text: &Tendril<Bytes, Atomic>,
-    class: C,
-    gate: G,
-    session: &str,
-) -> Result<Job<C, G>, Fail> {
+    notes: &mut Notes,
+    jobs: &mut Vec<Job<KeepsLast, G>>,
+    text: &ByteTendril<Atomic>,
+    (class, gate): (KeepsLast, G),
+    (lines, _): Work,
+) {
     let mut table = Table::new(alloc);
-    table.push(Slot::Bytes(text.clone()?)).ok().ok_or("push")?;
-    Ok(Job {
+    let clone = notes.or(1, text.clone(), Tendril::new(alloc));
+    notes.holds(
+        1,
+        table.push(Slot::Bytes(clone)).is_ok(),
+        "a slot is pushed",
+    );
+    let mut commands = Vec::new(alloc);
+    for (line, _) in lines {
+        add_command(alloc, notes, &mut commands, line);
+    }
+    let job = Job {
         table,
-        commands: commands_of::<Table<Atomic>>(alloc, "a worker", session)?,
+        commands,
         class,
         gate,
-    })
-}
-
-// The worker has done its work.
-fn check(alloc: Global, outcome: Outcome, (session, after): Work) -> Result<(), Fail> {
-    let Outcome::Done(mut table, replies) = outcome else {
-        return Err(Fail::from("not done"));
     };
-    check_replies::<Table<Atomic>>(alloc, "a worker", session, replies.as_slice())?;
-    play_on(&mut table, alloc, "behind a worker", after)
+    notes.holds(1, jobs.push(job).is_ok(), "a job is added");
 }
 
-fn check_all(alloc: Global, outcomes: Vec<Outcome>, works: &[Work]) -> Result<(), Fail> {
-    same(outcomes.len(), works.len())?;
-    for (outcome, work) in outcomes.into_iter().zip(works) {
-        check(alloc, outcome, *work)?;
+// Each job is done, with these replies.
+fn run_all<G: Gate + Send + Drop + 'static>(
+    rt: &(impl AllocGlobal + Threads),
+    notes: &mut Notes,
+    jobs: Vec<Job<KeepsLast, G>>,
+    works: &[Work],
+) {
+    match run_tables(rt, rt.alloc(), jobs) {
+        Ok(outcomes) => {
+            notes.same(2, outcomes.len(), works.len());
+            for (row, (outcome, work)) in outcomes.iter().zip(works).enumerate() {
+                check(rt.alloc(), notes, row, outcome, *work);
+            }
+        }
+        Err(_) => notes.holds(2, false, "the jobs are run"),
     }
-    Ok(())
 }
 
-// Has each work done by a worker of its own, on clones of one text.
+fn check(alloc: Global, notes: &mut Notes, row: usize, outcome: &Outcome, (lines, bytes): Work) {
+    let Outcome::Done(table, replies) = outcome else {
+        notes.holds(row, false, "the job is done");
+        return;
+    };
+    notes.same(row, replies.len(), lines.len());
+    for (reply, (_, expected)) in replies.iter().zip(lines) {
+        match print_reply(alloc, reply) {
+            Ok(printed) => notes.same(row, printed.as_str(), *expected),
+            Err(refusal) => notes.done(row, Err(refusal)),
+        }
+    }
+    let found = match table.slot(0) {
+        Some(Slot::Bytes(text)) => Some(text.as_byte_slice()),
+        _ => None,
+    };
+    notes.same(row, found, bytes);
+}
+
+// Has each work done by a worker of its own, on clones of one text, which stays as it was.
 fn work(rt: &(impl AllocGlobal + Threads), works: &[Work]) -> Result<(), Fail> {
-    let alloc = rt.alloc();
-    let text = slice_to_tendril(alloc, DIGITS)?;
-    let mut jobs = Vec::new(alloc);
-    for (session, _) in works {
-        jobs.push(job(alloc, &text, OneClass, NoGate, session)?)?;
+    let mut notes = Notes::new();
+    let text = notes.or(
+        3,
+        slice_to_tendril(rt.alloc(), DIGITS),
+        Tendril::new(rt.alloc()),
+    );
+    let mut jobs = Vec::new(rt.alloc());
+    for work in works {
+        add_job(
+            rt.alloc(),
+            &mut notes,
+            &mut jobs,
+            &text,
+            (KeepsLast(None), Open),
+            *work,
+        );
     }
-    let outcomes = run_tables(rt, alloc, jobs).ok().ok_or("run_tables")?;
-    check_all(alloc, outcomes, works)?;
-    same(text.as_byte_slice(), DIGITS)
+    run_all(rt, &mut notes, jobs, works);
+    notes.same(4, text.as_byte_slice(), DIGITS);
+    notes.end()
 }
 
 #[test]
@@ -124,48 +199,30 @@ fn no_jobs(rt: HostRuntime) -> Result<(), Fail> {
 }
 
 #[test]
-fn a_job_whose_commands_are_all_refused(rt: HostRuntime) -> Result<(), Fail> {
-    work(&rt, &REFUSED)
-}
-
-// The work of one of many, which pushes its number.
-fn numbered(alloc: Global, number: usize) -> Result<(String, String), Fail> {
-    let session = format!(in alloc; "clone 0 => slot 1\npush 0 {number:02x} => ok\ndrop 1 => ok")?;
-    let after = format!(in alloc; "{ALL_DIGITS}{number:02x}")?;
-    Ok((session, after))
-}
-
-#[test]
 fn sixty_four_jobs_on_one_block(rt: HostRuntime) -> Result<(), Fail> {
-    let alloc = rt.alloc();
-    let mut works = Vec::new(alloc);
-    for number in 0..64 {
-        works.push(numbered(alloc, number)?)?;
-    }
-    let mut lines = Vec::new(alloc);
-    for (session, after) in works.iter() {
-        lines.push((session.as_str(), after.as_str()))?;
-    }
-    work(&rt, lines.as_slice())
+    work(&rt, &[SHARING; 64])
 }
 
-// The flags of two workers, and whether this one saw the other's.
+// What the flag counts: 1 for each worker that has begun, and 16 for each that has seen both.
+const BOTH_BEGAN: u64 = 2;
+
+const MET: u64 = 16;
+
+const BOTH_MET: u64 = 34;
+
+/// Waits before the first command until both workers have begun.
 #[derive(Drop)]
-struct Meeting {
-    mine: Arc<AtomicBool>,
-    theirs: Arc<AtomicBool>,
-    met: Arc<AtomicBool>,
-}
+struct Meeting(Arc<AtomicU64>);
 
 impl Gate for Meeting {
     fn before(&self, command: usize) {
         if command > 0 {
             return;
         }
-        self.mine.store(true, Ordering::SeqCst);
-        for _ in 0..10000000u32 {
-            if self.theirs.load(Ordering::SeqCst) {
-                self.met.store(true, Ordering::SeqCst);
+        self.0.fetch_add(1, Ordering::SeqCst);
+        for _ in 0..10_000_000u32 {
+            if self.0.load(Ordering::SeqCst) % MET == BOTH_BEGAN {
+                self.0.fetch_add(MET, Ordering::SeqCst);
                 return;
             }
             thread::yield_now();
@@ -173,71 +230,35 @@ impl Gate for Meeting {
     }
 }
 
-fn flag(alloc: Global) -> Result<Arc<AtomicBool>, Fail> {
-    Ok(Arc::new(alloc, AtomicBool::new(false))?)
-}
-
-// A worker that waits for the other, and whether it met it.
-fn meeting_job(
-    alloc: Global,
-    text: &Tendril<Bytes, Atomic>,
-    (mine, theirs): (&Arc<AtomicBool>, &Arc<AtomicBool>),
-    session: &str,
-) -> Result<(Job<OneClass, Meeting>, Arc<AtomicBool>), Fail> {
-    let met = flag(alloc)?;
-    let gate = Meeting {
-        mine: mine.clone()?,
-        theirs: theirs.clone()?,
-        met: met.clone()?,
-    };
-    Ok((job(alloc, text, OneClass, gate, session)?, met))
-}
-
+// Two workers: each waits for the other, and the test fails unless both saw that they run at once.
 #[test]
-fn two_workers_meet(rt: HostRuntime) -> Result<(), Fail> {
-    let alloc = rt.alloc();
-    let text = slice_to_tendril(alloc, DIGITS)?;
-    let here = flag(alloc)?;
-    let there = flag(alloc)?;
-    let (first, first_met) = meeting_job(alloc, &text, (&here, &there), MEETING[0].0)?;
-    let (second, second_met) = meeting_job(alloc, &text, (&there, &here), MEETING[1].0)?;
-    let jobs = Vec::from_array(alloc, [first, second])?;
-    let outcomes = run_tables(&rt, alloc, jobs).ok().ok_or("run_tables")?;
-    same(first_met.load(Ordering::SeqCst), true)?;
-    same(second_met.load(Ordering::SeqCst), true)?;
-    check_all(alloc, outcomes, &MEETING)?;
-    same(text.as_byte_slice(), DIGITS)
-}
-
-// Commands that each take a run out of a text of one character, and the texts: their characters have the numbers 1 to 4.
-const TEXTS: &str = "from ascii 01 => slot 1
-    from ascii 02 => slot 2
-    from ascii 03 => slot 3
-    from ascii 04 => slot 4";
-
-const RUNS: Work<'static> = (
-    "run 1 => run 5 1
-    run 2 => run 6 1
-    run 3 => run 7 1
-    run 4 => run 8 1",
-    "text 1 => ascii -
-    text 8 => ascii 04",
-);
-
-// A classifier that keeps the character that it was last asked for. So it tells which command was done last.
-#[derive(Drop)]
-struct KeepsLast(Arc<AtomicU64>);
-
-impl Classifier for KeepsLast {
-    ghost class = { λ _ _. 1 };
-
-    fn class_of(&self, character: char) -> u32 {
-        self.0.store(u64::from(character as u32), Ordering::SeqCst);
-        1
+fn two_workers(rt: HostRuntime) -> Result<(), Fail> {
+    let flag = Arc::new(rt.alloc(), AtomicU64::new(0))?;
+    let gates = [Meeting(flag.clone()?), Meeting(flag.clone()?)];
+    let mut notes = Notes::new();
+    let text = notes.or(
+        3,
+        slice_to_tendril(rt.alloc(), DIGITS),
+        Tendril::new(rt.alloc()),
+    );
+    let mut jobs = Vec::new(rt.alloc());
+    for (gate, work) in gates.into_iter().zip(TWO) {
+        add_job(
+            rt.alloc(),
+            &mut notes,
+            &mut jobs,
+            &text,
+            (KeepsLast(None), gate),
+            work,
+        );
     }
+    run_all(&rt, &mut notes, jobs, &TWO);
+    notes.same(4, text.as_byte_slice(), DIGITS);
+    notes.same(5, flag.load(Ordering::SeqCst), BOTH_MET);
+    notes.end()
 }
 
-// A gate that writes two digits at each call: the command's index, and the last command that is done by then.
+/// Appends two digits before each command: its index, and the last character that was classified by then.
 #[derive(Drop)]
 struct Writes {
     last: Arc<AtomicU64>,
@@ -256,18 +277,28 @@ impl Gate for Writes {
 
 #[test]
 fn a_gate_is_called_before_each_command(rt: HostRuntime) -> Result<(), Fail> {
-    let alloc = rt.alloc();
-    let text = slice_to_tendril(alloc, DIGITS)?;
-    let last = Arc::new(alloc, AtomicU64::new(0))?;
-    let digits = Arc::new(alloc, AtomicU64::new(9))?;
+    let last = Arc::new(rt.alloc(), AtomicU64::new(0))?;
+    let digits = Arc::new(rt.alloc(), AtomicU64::new(9))?;
     let gate = Writes {
         last: last.clone()?,
         digits: digits.clone()?,
     };
-    let mut job = job(alloc, &text, KeepsLast(last), gate, RUNS.0)?;
-    play_on(&mut job.table, alloc, "before a worker", TEXTS)?;
-    let jobs = Vec::from_array(alloc, [job])?;
-    let outcomes = run_tables(&rt, alloc, jobs).ok().ok_or("run_tables")?;
-    check_all(alloc, outcomes, &[RUNS])?;
-    same(digits.load(Ordering::SeqCst), 9_00_11_22_33)
+    let mut notes = Notes::new();
+    let text = notes.or(
+        3,
+        slice_to_tendril(rt.alloc(), DIGITS),
+        Tendril::new(rt.alloc()),
+    );
+    let mut jobs = Vec::new(rt.alloc());
+    add_job(
+        rt.alloc(),
+        &mut notes,
+        &mut jobs,
+        &text,
+        (KeepsLast(Some(last)), gate),
+        RUNS,
+    );
+    run_all(&rt, &mut notes, jobs, &[RUNS]);
+    notes.same(5, digits.load(Ordering::SeqCst), 9_00_10_20_30_40_51_62_73);
+    notes.end()
 }

@@ -1,328 +1,195 @@
-//! Texts: that calls succeed where there is memory, how large a text is, and when it is shared.
+//! Calls of texts that no session has: those with a condition, those of traits, and what callers write.
 
-use crate::tests::kinds::{Check, check_both};
-use crate::tests::steps::{Session, Step, play_all, play_both};
 use std::alloc::Global;
-use std::fs::{self, Files};
+use std::collections::{BTreeMap, HashMap};
+use std::convert::{AsSlice, AsStr};
+use std::default::MadeWith;
 use std::test::Fail;
 use tendril::block::Refusal;
-use tendril::fmt::Bytes;
+use tendril::fmt::{ASCII, Bytes, Format, UTF8};
 use tendril::{
-    Atomic, Atomicity, ByteTendril, NonAtomic, StrTendril, SubtendrilError, Tendril,
-    slice_to_tendril, str_to_tendril,
+    Atomic, Atomicity, ByteSet, ByteTendril, NonAtomic, StrTendril, SubtendrilError, Tendril,
+    slice_to_tendril,
 };
-use test_tools::{holds_at, same};
+use tendril_callers::parts::parts;
+use test_tools::Notes;
 
-const DIGITS: &[u8] = b"0123456789";
-
-const OUTSIDE: SubtendrilError = SubtendrilError::OutOfBounds;
-
-const SESSIONS: &[Session<Step>] = &[
-    (
-        "empty text",
-        &[
-            (0, Step::New),
-            (0, Step::Len(0)),
-            (0, Step::Is(b"")),
-            (0, Step::Shared(false)),
-            (0, Step::PopFront(0)),
-            (0, Step::NoPopFront(1, OUTSIDE)),
-            (0, Step::NoPopBack(1, OUTSIDE)),
-        ],
-    ),
-    (
-        "a push onto a clone or its source leaves the other",
-        &[
-            (0, Step::Of(DIGITS)),
-            (1, Step::CloneOf(0)),
-            (1, Step::Push(b"X")),
-            (0, Step::Is(DIGITS)),
-            (1, Step::Is(b"0123456789X")),
-            (2, Step::CloneOf(0)),
-            (0, Step::Push(b"YZ")),
-            (0, Step::Push(b"!")),
-            (0, Step::Is(b"0123456789YZ!")),
-            (2, Step::Is(DIGITS)),
-            (1, Step::Is(b"0123456789X")),
-        ],
-    ),
-    (
-        "a push onto a slice cuts what lies behind it",
-        &[
-            (0, Step::Of(b"0123456789abcdef")),
-            (1, Step::SliceOf(0, 2, 9)),
-            (0, Step::New),
-            (1, Step::Push(b"X")),
-            (1, Step::Is(b"23456789aX")),
-        ],
-    ),
-    (
-        "slices end within the text",
-        &[
-            (0, Step::Of(DIGITS)),
-            (1, Step::SliceOf(0, 0, 10)),
-            (1, Step::Is(DIGITS)),
-            (1, Step::SliceOf(0, 1, 9)),
-            (1, Step::Is(b"123456789")),
-            (1, Step::SliceOf(0, 0, 9)),
-            (1, Step::Is(b"012345678")),
-            (1, Step::SliceOf(0, 9, 1)),
-            (1, Step::Is(b"9")),
-            (1, Step::SliceOf(0, 10, 0)),
-            (1, Step::Is(b"")),
-            (1, Step::SliceOf(0, 3, 2)),
-            (1, Step::Is(b"34")),
-            (0, Step::NoSlice(10, 1, OUTSIDE)),
-            (0, Step::NoSlice(11, 0, OUTSIDE)),
-            (0, Step::NoSlice(0, 11, OUTSIDE)),
-            (0, Step::NoSlice(4294967295, 4294967295, OUTSIDE)),
-        ],
-    ),
-    (
-        "marks of sharing",
-        &[
-            (0, Step::Of(DIGITS)),
-            (0, Step::Shared(false)),
-            (1, Step::CloneOf(0)),
-            (0, Step::Shared(true)),
-            (1, Step::Shared(true)),
-            (2, Step::SliceOf(1, 0, 9)),
-            (2, Step::Shared(true)),
-            (3, Step::SliceOf(1, 0, 8)),
-            (3, Step::Shared(false)),
-            (0, Step::Push(b"X")),
-            (0, Step::Shared(false)),
-        ],
-    ),
-    (
-        "too long",
-        &[
-            (0, Step::Of(b"abc")),
-            (0, Step::NoReserve(4294967293, Refusal::TooLong)),
-            (0, Step::Is(b"abc")),
-            // Also where the text is shared.
-            (1, Step::Of(DIGITS)),
-            (2, Step::CloneOf(1)),
-            (1, Step::NoReserve(4294967295, Refusal::TooLong)),
-            (2, Step::NoReserve(4294967295, Refusal::TooLong)),
-            (2, Step::Reserve(0)),
-        ],
-    ),
-    (
-        "a text pushed on its clone",
-        &[
-            (0, Step::Of(DIGITS)),
-            (1, Step::CloneOf(0)),
-            (0, Step::PushText(1)),
-            (0, Step::Is(b"01234567890123456789")),
-            (1, Step::Is(DIGITS)),
-        ],
-    ),
-    (
-        "room behind bytes that were popped",
-        &[
-            (0, Step::Of(&[b'x'; 100])),
-            (0, Step::PopFront(90)),
-            (0, Step::Fill(b'y')),
-            (0, Step::Reserve(100)),
-            (0, Step::Is(b"yyyyyyyyyy")),
-            (0, Step::Zeros(3)),
-            (0, Step::Push(b"z")),
-            (0, Step::Is(b"yyyyyyyyyy\0\0\0z")),
-        ],
-    ),
-    (
-        "room asked for a shared text leaves it",
-        &[
-            (0, Step::Of(&[b'x'; 1000])),
-            (1, Step::CloneOf(0)),
-            (0, Step::PopFront(900)),
-            (0, Step::Reserve(0)),
-            (0, Step::Shared(true)),
-            (0, Step::Reserve(100)),
-            (0, Step::Shared(true)),
-            (0, Step::Is(&[b'x'; 100])),
-        ],
-    ),
-];
-
-/// What is checked over both kinds of block.
-#[derive(Clone, Copy)]
-enum Case {
-    MakersOfStrings,
-    MakersOfBytes,
-    Million,
-    Queue,
+// A text of this string.
+pub(crate) fn text_of<A: Atomicity>(
+    notes: &mut Notes,
+    alloc: Global,
+    string: &str,
+) -> StrTendril<A> {
+    notes.or(
+        0,
+        StrTendril::<A>::from_slice(alloc, string),
+        Tendril::new(alloc),
+    )
 }
 
-impl Check for Case {
-    fn check<A: Atomicity>(self, alloc: Global) -> Result<(), Fail> {
-        match self {
-            Case::MakersOfStrings => check_makers_of_strings::<A>(alloc),
-            Case::MakersOfBytes => check_makers_of_bytes::<A>(alloc),
-            Case::Million => check_a_million_bytes::<A>(alloc),
-            Case::Queue => check_a_queue::<A>(alloc),
-        }
+// The conditions of these pops are proved here.
+fn popped<A: Atomicity>(alloc: Global) -> Result<ByteTendril<A>, Refusal> {
+    let mut text: ByteTendril<A> = slice_to_tendril(alloc, b"another rather long string")?;
+    if text.len32() != 26 {
+        return Err(Refusal::Invalid);
     }
+    text.pop_front(2);
+    text.pop_back(1);
+    text.unsafe_pop_front(6);
+    text.unsafe_pop_back(5);
+    Ok(text)
+}
+
+fn pop_known<A: Atomicity>(notes: &mut Notes, alloc: Global) {
+    let text: ByteTendril<A> = notes.or(1, popped(alloc), Tendril::new(alloc));
+    notes.same(2, text.as_byte_slice(), b"rather long ".as_slice());
+    notes.same(3, text.is_shared(), true);
 }
 
 #[test]
-fn sessions(rt: HostRuntime) -> Result<(), Fail> {
-    play_all::<Bytes, _>(rt.alloc(), SESSIONS)
+fn pops_whose_condition_holds(rt: HostRuntime) -> Result<(), Fail> {
+    let mut notes = Notes::new();
+    pop_known::<NonAtomic>(&mut notes, rt.alloc());
+    pop_known::<Atomic>(&mut notes, rt.alloc());
+    notes.end()
+}
+
+fn cut_known<A: Atomicity>(notes: &mut Notes, alloc: Global) {
+    let text: StrTendril<A> = text_of(notes, alloc, "0123456789");
+    let bytes = text.as_byte_slice();
+    if bytes.len() == 10 && UTF8::validate(&bytes[..9]) {
+        let slice = notes.or(1, text.subtendril(0, 9), Tendril::new(alloc));
+        notes.same(1, slice.as_str(), "012345678");
+        let slice = notes.or(2, text.unsafe_subtendril(0, 9), Tendril::new(alloc));
+        notes.same(2, slice.as_str(), "012345678");
+    }
+    notes.same(3, bytes.len(), 10);
 }
 
 #[test]
-fn a_text_is_three_words() -> Result<(), Fail> {
-    same(size_of::<Tendril<Bytes, NonAtomic>>(), 24)?;
-    same(size_of::<Tendril<Bytes, Atomic>>(), 24)?;
-    same(size_of::<ByteTendril>(), 24)?;
-    same(align_of::<ByteTendril>(), 8)
+fn slices_whose_condition_holds(rt: HostRuntime) -> Result<(), Fail> {
+    let mut notes = Notes::new();
+    cut_known::<NonAtomic>(&mut notes, rt.alloc());
+    cut_known::<Atomic>(&mut notes, rt.alloc());
+    notes.end()
 }
 
-// Bytes of texts, and what they are and how many with one byte more.
-const PUSHED: [(&[u8], &[u8], u32); 6] = [
-    (b"", b"X", 1),
-    (b"0", b"0X", 2),
-    (b"0123456", b"0123456X", 8),
-    (b"01234567", b"01234567X", 9),
-    (b"012345678", b"012345678X", 10),
-    (b"0123456789", b"0123456789X", 11),
+#[test]
+fn views_and_other_formats(rt: HostRuntime) -> Result<(), Fail> {
+    let mut notes = Notes::new();
+    let text: StrTendril = text_of(&mut notes, rt.alloc(), "hello");
+    notes.same(1, text.as_bytes().len32(), 5);
+    notes.same(2, text.as_bytes().as_byte_slice(), b"hello".as_slice());
+    let bytes = text.into_bytes();
+    let view = bytes.reinterpret_view_without_validating::<Bytes>();
+    notes.same(3, view.as_byte_slice(), b"hello".as_slice());
+    let bytes: ByteTendril = bytes.reinterpret_without_validating();
+    notes.same(4, bytes.len32(), 5);
+    match bytes.try_reinterpret::<ASCII>() {
+        Ok(text) => notes.same(5, text.into_superset::<UTF8>().as_str(), "hello"),
+        Err(_) => notes.holds(5, false, "hello is ASCII"),
+    }
+    notes.end()
+}
+
+fn length_by_trait<T: AsStr>(text: &T) -> usize {
+    text.as_str().len()
+}
+
+fn first_by_trait<T: AsSlice<u8>>(bytes: &T) -> Option<u8> {
+    bytes.as_slice().first().copied()
+}
+
+fn made<T: MadeWith<Global>>(alloc: Global) -> T {
+    T::made_with(alloc)
+}
+
+#[test]
+fn texts_by_the_traits_of_std(rt: HostRuntime) -> Result<(), Fail> {
+    let mut notes = Notes::new();
+    let text: StrTendril<Atomic> = text_of(&mut notes, rt.alloc(), "f\u{151}o-");
+    notes.same(1, length_by_trait(&text), 5);
+    notes.same(2, first_by_trait(&text.into_bytes()), Some(b'f'));
+    notes.same(3, made::<StrTendril>(rt.alloc()).as_str(), "");
+    notes.end()
+}
+
+/// Strings in the order of their bytes, round the inline length.
+const ORDERED: [&str; 8] = [
+    "",
+    "\0",
+    "01234567",
+    "012345678",
+    "0123456789",
+    "1",
+    "abc",
+    "\u{4e2d}",
 ];
 
 #[test]
-fn texts_round_the_inline_length(rt: HostRuntime) -> Result<(), Fail> {
-    for (bytes, pushed, len) in PUSHED {
-        play_both::<Bytes, _>(
-            rt.alloc(),
-            "texts round the inline length",
-            &[
-                (0, Step::Of(bytes)),
-                (0, Step::Is(bytes)),
-                (1, Step::CloneOf(0)),
-                (1, Step::Is(bytes)),
-                (1, Step::New),
-                (0, Step::Push(b"X")),
-                (0, Step::Len(len)),
-                (0, Step::Is(pushed)),
-            ],
-        )?;
+fn texts_as_keys_of_a_hash_map(rt: HostRuntime) -> Result<(), Fail> {
+    let mut notes = Notes::new();
+    let mut places: HashMap<StrTendril, usize> = HashMap::new(rt.alloc());
+    for (place, string) in ORDERED.iter().enumerate() {
+        let key = text_of(&mut notes, rt.alloc(), string);
+        let before = notes.or(place, places.insert(key, place), None);
+        notes.same(place, before, None);
     }
-    Ok(())
+    for (place, string) in ORDERED.iter().enumerate() {
+        let key: StrTendril = text_of(&mut notes, rt.alloc(), string);
+        notes.same(place, places.get(&key).copied(), Some(place));
+    }
+    notes.same(8, places.len(), 8);
+    notes.end()
 }
 
-fn check_makers_of_strings<A: Atomicity>(alloc: Global) -> Result<(), Fail> {
-    let mut text: StrTendril<A> = StrTendril::<A>::from_slice(alloc, "0123456789")?;
-    text.push_slice("ab")?;
-    same(text.as_byte_slice(), b"0123456789ab")?;
-    let text: StrTendril<A> = str_to_tendril(alloc, "0123456789")?;
-    same(text.as_byte_slice(), DIGITS)
-}
-
-// A text of the digits, which takes more bytes.
-fn takes_more<A: Atomicity>(mut text: ByteTendril<A>) -> Result<(), Fail> {
-    same(text.as_byte_slice(), DIGITS)?;
-    text.push_slice(b"ab")?;
-    text.push_bytes_without_validating(b"x")?;
-    same(text.as_byte_slice(), b"0123456789abx")
-}
-
-fn check_makers_of_bytes<A: Atomicity>(alloc: Global) -> Result<(), Fail> {
-    takes_more::<A>(slice_to_tendril(alloc, DIGITS)?)?;
-    takes_more::<A>(ByteTendril::from_slice(alloc, DIGITS)?)?;
-    takes_more::<A>(Tendril::from_byte_slice_without_validating(alloc, DIGITS)?)
+// Filled from the last string to the first.
+#[test]
+fn texts_as_keys_of_a_sorted_map(rt: HostRuntime) -> Result<(), Fail> {
+    let mut notes = Notes::new();
+    let mut places: BTreeMap<StrTendril<Atomic>, usize> = BTreeMap::new(rt.alloc());
+    for (place, string) in ORDERED.iter().enumerate().rev() {
+        let key = text_of(&mut notes, rt.alloc(), string);
+        let before = notes.or(place, places.insert(key, place), None);
+        notes.same(place, before, None);
+    }
+    for (place, (key, value)) in places.iter().enumerate() {
+        notes.same(place, (key.as_str(), *value), (ORDERED[place % 8], place));
+    }
+    notes.same(8, places.len(), 8);
+    notes.end()
 }
 
 #[test]
-fn texts_of_slices_and_strings(rt: HostRuntime) -> Result<(), Fail> {
-    let alloc = rt.alloc();
-    check_both(alloc, Case::MakersOfStrings)?;
-    check_both(alloc, Case::MakersOfBytes)
+fn a_caller_takes_a_text_apart(rt: HostRuntime) -> Result<(), Fail> {
+    let mut notes = Notes::new();
+    let text: StrTendril = text_of(&mut notes, rt.alloc(), "a<b & 0123456789!");
+    let set = ByteSet::new(b"<&!");
+    notes.same(1, set.contains(b'&'), true);
+    notes.same(2, set.contains(b'a'), false);
+    let parts = notes.or(3, parts(rt.alloc(), text, &set), Vec::new(rt.alloc()));
+    let expected = ["a", "<", "b ", "&", " 0123456789", "!"];
+    notes.same(4, parts.len(), expected.len());
+    for (row, (part, expected)) in parts.iter().zip(expected).enumerate() {
+        notes.same(row, part.as_str(), expected);
+    }
+    notes.end()
 }
 
 #[test]
-fn room_for_more(rt: HostRuntime) -> Result<(), Fail> {
-    for capacity in [0u32, 8, 9, 1000] {
-        play_both::<Bytes, _>(
-            rt.alloc(),
-            "room for more",
-            &[
-                (0, Step::Room(capacity)),
-                (0, Step::Len(0)),
-                (0, Step::Reserve(100)),
-                (0, Step::Push(b"012")),
-                (0, Step::Reserve(100)),
-                (0, Step::Push(DIGITS)),
-                (0, Step::Is(b"0120123456789")),
-                (1, Step::CloneOf(0)),
-                (0, Step::Reserve(1000)),
-                (0, Step::Clear),
-                (0, Step::Is(b"")),
-                (0, Step::Push(b"x")),
-                (0, Step::Is(b"x")),
-                (1, Step::Is(b"0120123456789")),
-            ],
-        )?;
+fn names_of_refusals(rt: HostRuntime) -> Result<(), Fail> {
+    let mut notes = Notes::new();
+    for (row, (refusal, name)) in [
+        (SubtendrilError::OutOfBounds, "OutOfBounds"),
+        (SubtendrilError::ValidationFailed, "ValidationFailed"),
+        (SubtendrilError::Count, "Count"),
+    ]
+    .iter()
+    .enumerate()
+    {
+        let none = String::new(rt.alloc());
+        let printed = notes.or(row, format!(in rt.alloc(); "{refusal}"), none);
+        notes.same(row, printed.as_str(), *name);
     }
-    Ok(())
-}
-
-fn check_a_million_bytes<A: Atomicity>(alloc: Global) -> Result<(), Fail> {
-    let mut text: ByteTendril<A> = Tendril::new(alloc);
-    for _ in 0..1000000 {
-        text.push_slice(b"a")?;
-    }
-    same(text.len32(), 1000000)?;
-    same(text.as_byte_slice().iter().all(|byte| *byte == b'a'), true)?;
-    same(text.clone()?.try_subtendril(1, 999998)?.len32(), 999998)
-}
-
-#[test]
-fn a_million_bytes_one_by_one(rt: HostRuntime) -> Result<(), Fail> {
-    check_both(rt.alloc(), Case::Million)
-}
-
-fn check_a_queue<A: Atomicity>(alloc: Global) -> Result<(), Fail> {
-    let mut queue: ByteTendril<A> = Tendril::new(alloc);
-    for round in 0..100000u32 {
-        queue.push_slice(&[(round % 251) as u8; 24])?;
-        if round > 2 {
-            queue.try_pop_front(24)?;
-        }
-    }
-    same(queue.len32(), 72)?;
-    // The last three rounds are 99997 to 99999, which leave 99, 100 and 101.
-    let left = [[99u8; 24], [100; 24], [101; 24]];
-    same(queue.as_byte_slice(), left.as_flattened())
-}
-
-#[test]
-fn a_queue_of_pieces(rt: HostRuntime) -> Result<(), Fail> {
-    check_both(rt.alloc(), Case::Queue)
-}
-
-// How much memory the process holds, in pages, as Linux tells it.
-fn resident_pages(rt: &(impl Files + AllocGlobal)) -> Result<u64, Fail> {
-    let told = fs::read_to_string(rt, "/proc/self/statm")?;
-    let pages = told.split(' ').nth(1).ok_or("no second number")?;
-    Ok(pages.parse::<u64>()?)
-}
-
-// Pushes and pops in turn.
-fn turn(queue: &mut ByteTendril, times: u32) -> Result<(), Fail> {
-    for _ in 0..times {
-        queue.push_slice(b"01234567")?;
-        queue.try_pop_front(8)?;
-    }
-    Ok(())
-}
-
-#[test]
-fn a_queue_holds_no_more_memory_the_longer_it_runs(rt: HostRuntime) -> Result<(), Fail> {
-    let mut queue: ByteTendril = slice_to_tendril(rt.alloc(), &[b'x'; 128])?;
-    let before = resident_pages(&rt)?;
-    turn(&mut queue, 10_000_000)?;
-    same(queue.len32(), 128)?;
-    // All that went through would be some 20000 pages.
-    let more = resident_pages(&rt)?.saturating_sub(before);
-    holds_at(0, more < 200, "fewer than 200 pages more")
+    notes.end()
 }

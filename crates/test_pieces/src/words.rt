@@ -1,0 +1,67 @@
+//! Bytes in the words of lines, and in replies.
+
+use std::alloc::{AllocError, Global};
+use std::fmt::{self, Display, Formatter};
+use tendril_words::bytes;
+
+/// How many bytes a reply writes one by one. Of more bytes it writes each run of equal ones once, with its length.
+pub const FEW: usize = 40;
+
+/// The bytes of words in hexadecimal, `-` for none, each with how often its bytes are repeated: `61*50000 ff 2030*3`.
+/// `None` where some word is of another form.
+pub fn read_bytes(alloc: Global, words: &str) -> Result<Option<Vec<u8>>, AllocError> {
+    let mut all = Vec::new(alloc);
+    for word in words.split(' ') {
+        if !push_word(alloc, &mut all, word)? {
+            return Ok(None);
+        }
+    }
+    Ok(Some(all))
+}
+
+// Puts the bytes of a word at the end, if it has the form of one.
+fn push_word(alloc: Global, all: &mut Vec<u8>, word: &str) -> Result<bool, AllocError> {
+    let (digits, count) = word.split_once('*').unwrap_or((word, "1"));
+    let Ok(count) = count.parse::<u32>() else {
+        return Ok(false);
+    };
+    let Some(once) = bytes(alloc, digits.as_bytes())? else {
+        return Ok(false);
+    };
+    all.reserve(once.as_slice().len().saturating_mul(count as usize))?;
+    for _ in 0..count {
+        all.extend_from_slice(once.as_slice())?;
+    }
+    Ok(true)
+}
+
+/// Bytes in hexadecimal, `-` for none.
+#[derive(Clone, Copy)]
+pub struct Hex<'a>(pub &'a [u8]);
+
+impl Display for Hex<'_> {
+    fn fmt<W: fmt::Write>(&self, f: &mut Formatter<W>) -> fmt::Result {
+        if self.0.is_empty() {
+            return f.write_str("-");
+        }
+        if self.0.len() > FEW {
+            return write_runs(f, self.0);
+        }
+        for byte in self.0.iter() {
+            write!(f, "{byte:02x}")?;
+        }
+        Ok(())
+    }
+}
+
+fn write_runs<W: fmt::Write>(f: &mut Formatter<W>, bytes: &[u8]) -> fmt::Result {
+    for (index, run) in bytes.chunk_by(|one, next| one == next).enumerate() {
+        let space = if index == 0 { "" } else { " " };
+        let byte = run.first().copied().unwrap_or(0);
+        match run.len() {
+            1 => write!(f, "{space}{byte:02x}")?,
+            count => write!(f, "{space}{byte:02x}*{count}")?,
+        }
+    }
+    Ok(())
+}

@@ -1,0 +1,180 @@
+//! Calls that take a text apart, send it, view it or change it.
+
+use crate::calls::{byte_text, set_of, slot_and_words, str_text, string_of};
+use crate::own::number as number_of;
+use std::fmt::{self, Write};
+use std::io;
+use tendril_block::{Atomicity, Refusal};
+use tendril_fmt::fmt::{ASCII, Bytes};
+use tendril_run::{Slot, Table};
+use tendril_text::{ByteTendril, SendTendril, StrTendril, Tendril};
+
+/// What the call of this name makes of a clone of a text. A slot that is gone is nothing.
+pub fn part<A: Atomicity>(
+    table: &Table<A>,
+    verb: &str,
+    words: &str,
+) -> Result<Option<Slot<A>>, Refusal> {
+    match verb {
+        "until"
+        | "after"
+        | "strip"
+        | "take"
+        | "lower"
+        | "push_char"
+        | "push_str"
+        | "write_str"
+        | "split"
+        | "left" => string_part(table, verb, words),
+        "write"
+        | "write_all"
+        | "push_without_validating"
+        | "reverse"
+        | "into_send"
+        | "send_clone" => { byte_part(table, verb, words) }
+        "view" | "view_whole" | "view_ascii" => view(table, verb, words),
+        _ => Ok(None),
+    }
+}
+
+fn string_part<A: Atomicity>(
+    table: &Table<A>,
+    verb: &str,
+    words: &str,
+) -> Result<Option<Slot<A>>, Refusal> {
+    let (number, words) = slot_and_words(words)?;
+    let mut text = str_text(table, number)?.clone()?;
+    let string = string_of(words);
+    match verb {
+        "until" => {
+            return match pop_until(&mut text, string)? {
+                Some(front) => Ok(Some(Slot::Utf8(front))),
+                None => Ok(Some(Slot::Gone)),
+            };
+        }
+        "after" => {
+            pop_until(&mut text, string)?;
+        }
+        "split" => return Ok(Some(Slot::Utf8(text.try_split_to(number_of(words)?)?))),
+        "left" => {
+            text.try_split_to(number_of(words)?)?;
+        }
+        "strip" => {
+            text.strip_prefix(string);
+        }
+        "take" => return Ok(Some(Slot::Utf8(text.take()))),
+        _ => change_string(&mut text, verb, string)?,
+    }
+    Ok(Some(Slot::Utf8(text)))
+}
+
+// What comes before the first byte of a set.
+fn pop_until<A: Atomicity>(
+    text: &mut StrTendril<A>,
+    set: &str,
+) -> Result<Option<StrTendril<A>>, Refusal> {
+    text.pop_front_until(&set_of(set.as_bytes())?)
+}
+
+fn change_string<A: Atomicity>(
+    text: &mut StrTendril<A>,
+    verb: &str,
+    string: &str,
+) -> Result<(), Refusal> {
+    match verb {
+        "lower" => text.make_ascii_lowercase(),
+        "push_char" => text.push_char(string.chars().next().unwrap_or('?')),
+        "push_str" => text.push_slice(string),
+        _ => write_str(text, string),
+    }
+}
+
+// A formatter's error has no reason.
+fn write_str<A: Atomicity>(text: &mut StrTendril<A>, string: &str) -> Result<(), Refusal> {
+    match text.write_str(string) {
+        Ok(()) => Ok(()),
+        Err(fmt::Error) => Err(Refusal::Memory),
+    }
+}
+
+fn byte_part<A: Atomicity>(
+    table: &Table<A>,
+    verb: &str,
+    words: &str,
+) -> Result<Option<Slot<A>>, Refusal> {
+    let (number, words) = slot_and_words(words)?;
+    let mut text = byte_text(table, number)?.clone()?;
+    match verb {
+        "into_send" => return Ok(Some(Slot::Bytes(received(sent(text)?)?))),
+        "send_clone" => return Ok(Some(Slot::Bytes(received(sent(text)?.clone()?)?))),
+        "reverse" => text.bytes_mut(|bytes: &mut [u8]| bytes.reverse())?,
+        _ => push_bytes(&mut text, verb, string_of(words).as_bytes())?,
+    }
+    Ok(Some(Slot::Bytes(text)))
+}
+
+fn push_bytes<A: Atomicity>(
+    text: &mut ByteTendril<A>,
+    verb: &str,
+    bytes: &[u8],
+) -> Result<(), Refusal> {
+    match verb {
+        "push_without_validating" => text.push_bytes_without_validating(bytes),
+        "write" => match io::Write::write(text, bytes) {
+            Ok(count) if count == bytes.len() => Ok(()),
+            Ok(_) => Err(Refusal::Invalid),
+            Err(error) => Err(refusal_of(error)),
+        },
+        _ => io::Write::write_all(text, bytes).map_err(refusal_of),
+    }
+}
+
+fn refusal_of(error: io::Error) -> Refusal {
+    match error.kind() {
+        io::ErrorKind::OutOfMemory => Refusal::Memory,
+        _ => Refusal::Io,
+    }
+}
+
+// A call that gets no memory returns the text.
+fn sent<A: Atomicity>(text: ByteTendril<A>) -> Result<SendTendril<Bytes>, Refusal> {
+    let before = text.clone()?;
+    match text.into_send() {
+        Ok(sent) => Ok(sent),
+        Err((refusal, back)) if back == before => Err(refusal),
+        Err(_) => Err(Refusal::Invalid),
+    }
+}
+
+// A call that gets no memory returns the text, which can be received then.
+fn received<A: Atomicity>(text: SendTendril<Bytes>) -> Result<ByteTendril<A>, Refusal> {
+    match Tendril::from_send(text) {
+        Ok(text) => Ok(text),
+        Err((Refusal::Memory, back)) => match Tendril::from_send(back) {
+            Ok(text) => Ok(text),
+            Err((refusal, _)) => Err(refusal),
+        },
+        Err((refusal, _)) => Err(refusal),
+    }
+}
+
+// A text of bytes or of ASCII that is made of a view of a string.
+fn view<A: Atomicity>(
+    table: &Table<A>,
+    verb: &str,
+    words: &str,
+) -> Result<Option<Slot<A>>, Refusal> {
+    let (number, words) = slot_and_words(words)?;
+    let text = str_text(table, number)?;
+    match verb {
+        "view" => {
+            let (offset, count) = words.split_once(' ').unwrap_or((words, ""));
+            let part = text
+                .as_bytes()
+                .try_subtendril(number_of(offset)?, number_of(count)?)?;
+            Ok(Some(Slot::Bytes(part)))
+        }
+        "view_whole" => Ok(Some(Slot::Bytes(text.as_bytes().to_tendril()?))),
+        _ => Ok(Some(Slot::Ascii(text.try_as_subset::<ASCII>()?.to_tendril()?))),
+    }
+}

@@ -1,0 +1,36 @@
+//! Classes of characters.
+ghost use Rattle.std.specs.Prelude.{if◌then◌else◌};
+ghost use Rattle.std.specs.Char.{is_whitespace};
+
+use std::cell::Cell;
+use tendril_run::Classifier;
+
+/// White space is class 0, everything else class 1. It counts its calls.
+#[derive(Drop)]
+pub struct Counting {
+    calls: Cell<u32>,
+}
+
+impl Counting {
+    pub fn new() -> Self {
+        Counting {
+            calls: Cell::new(0),
+        }
+    }
+
+    /// The number of calls since this was last asked.
+    pub fn take_calls(&self) -> u32 {
+        let calls = self.calls.get();
+        self.calls.set(0);
+        calls
+    }
+}
+
+impl Classifier for Counting {
+    ghost class = { λ _ character. if is_whitespace character then 0 else 1 };
+
+    fn class_of(&self, character: char) -> u32 {
+        self.calls.set(self.calls.get().saturating_add(1));
+        if character.is_whitespace() { 0 } else { 1 }
+    }
+}

@@ -1,0 +1,158 @@
+//! Plays sessions: files of rows `LINE => REPLY`. It prints each row whose reply was another, and how much was played.
+//!
+//! - `play FILE..` plays each file in every way in which its lines can be carried out.
+//! - `refuse FILE N` first allocates N times, so that a later request can be refused by its number, and plays the file row
+//!   by row. It prints how many rows got no memory.
+//! - `worker FILE` plays the file's one session in a worker, and prints how the job ended where a request is refused.
+#![tactic(auto)]
+
+mod calls;
+mod class;
+mod lined;
+mod notes;
+mod once;
+mod own;
+mod place;
+mod rope_lines;
+mod rope_workers;
+mod ropes;
+mod rows;
+mod slots;
+mod texts;
+mod worker;
+mod workers;
+
+use lined::Lined;
+use once::play_at_once;
+use rope_workers::play_ropes_in_threads;
+use ropes::Ropes;
+use rows::play_twice;
+use std::alloc::{AllocError, Global};
+use std::fs::Files;
+use std::process::ExitCode;
+use std::rt::Env;
+use std::thread::Threads;
+use std::{env, fs, io};
+use tendril_block::AtomicUpTo;
+use tendril_text::{Atomic, NonAtomic};
+use texts::Texts;
+use worker::play_in_worker;
+use workers::play_in_threads;
+
+/// What sessions of a file are played on, by the file's first line.
+#[derive(Clone, Copy)]
+enum Tables {
+    Texts,
+    /// `# over three holders`: blocks have at most three holders.
+    TextsOverThree,
+    /// `# with ropes`.
+    Ropes,
+    /// `# with ropes over three holders`.
+    RopesOverThree,
+}
+
+impl Tables {
+    fn of_file(text: &str) -> Self {
+        match text.lines().next() {
+            Some("# over three holders") => Tables::TextsOverThree,
+            Some("# with ropes") => Tables::Ropes,
+            Some("# with ropes over three holders") => Tables::RopesOverThree,
+            _ => Tables::Texts,
+        }
+    }
+}
+
+type Three = AtomicUpTo<3>;
+
+fn main(rt: HostRuntime) -> ExitCode {
+    match run(&rt) {
+        Ok(status) => ExitCode::from(status),
+        // The player itself could not read or got no memory.
+        Err(_) => ExitCode::from(1),
+    }
+}
+
+// The exit status: 0 where each reply was the expected one, 2 where the words are none of the player's, 3 else.
+fn run(rt: &(impl Env + Files + Print + AllocGlobal + Threads)) -> io::Result<u8> {
+    let mut words = env::args(rt)?.skip(1);
+    let right = match words.next() {
+        Some(way) if way.as_str() == "play" => {
+            let mut right = true;
+            for file in words {
+                right = play(rt, file.as_str())? && right;
+            }
+            right
+        }
+        Some(way) if way.as_str() == "refuse" => match (words.next(), words.next()) {
+            (Some(file), Some(count)) => refuse(rt, file.as_str(), count.as_str())?,
+            _ => return Ok(2),
+        },
+        Some(way) if way.as_str() == "worker" => match words.next() {
+            Some(file) => play_in_worker(rt, file.as_str())?,
+            None => return Ok(2),
+        },
+        _ => return Ok(2),
+    };
+    Ok(if right { 0 } else { 3 })
+}
+
+// Plays a file in all ways. Whether each reply was the expected one.
+fn play(rt: &(impl Files + Print + AllocGlobal + Threads), file: &str) -> io::Result<bool> {
+    let text = fs::read_to_string(rt, file)?;
+    let text = text.as_str();
+    match Tables::of_file(text) {
+        Tables::Texts => {
+            Ok(
+                play_all::<Texts<NonAtomic>, Texts<Atomic>>(rt, file, text)?
+                    && play_in_threads(rt, file, text)?,
+            )
+        }
+        Tables::TextsOverThree => play_all::<Texts<Three>, Texts<Three>>(rt, file, text),
+        Tables::Ropes => {
+            Ok(
+                play_all::<Ropes<NonAtomic>, Ropes<Atomic>>(rt, file, text)?
+                    && play_ropes_in_threads(rt, file, text)?,
+            )
+        }
+        Tables::RopesOverThree => play_all::<Ropes<Three>, Ropes<Three>>(rt, file, text),
+    }
+}
+
+// Plays a file over two kinds of block, row by row and in one call, and prints how much it was.
+fn play_all<T: Lined, U: Lined>(
+    rt: &(impl Print + AllocGlobal),
+    file: &str,
+    text: &str,
+) -> io::Result<bool> {
+    let counts = play_twice::<T, U>(rt, file, text)?;
+    counts.print_played(rt, file)?;
+    Ok(
+        counts.all_right()
+            && play_twice::<U, T>(rt, file, text)?.all_right()
+            && play_at_once::<T>(rt, file, text)?
+            && play_at_once::<U>(rt, file, text)?,
+    )
+}
+
+// Plays a file row by row after `count` requests for memory, and prints how many rows got none.
+fn refuse(rt: &(impl Files + Print + AllocGlobal), file: &str, count: &str) -> io::Result<bool> {
+    let text = fs::read_to_string(rt, file)?;
+    let text = text.as_str();
+    make_requests(rt.alloc(), count.parse::<u32>().unwrap_or(0))?;
+    let counts = match Tables::of_file(text) {
+        Tables::Texts => play_twice::<Texts<NonAtomic>, Texts<Atomic>>(rt, file, text)?,
+        Tables::TextsOverThree => play_twice::<Texts<Three>, Texts<Three>>(rt, file, text)?,
+        Tables::Ropes => play_twice::<Ropes<NonAtomic>, Ropes<Atomic>>(rt, file, text)?,
+        Tables::RopesOverThree => play_twice::<Ropes<Three>, Ropes<Three>>(rt, file, text)?,
+    };
+    counts.print_refused(rt, file)?;
+    Ok(counts.all_right())
+}
+
+fn make_requests(alloc: Global, count: u32) -> Result<(), AllocError> {
+    for _ in 0..count {
+        let mut asked = Vec::new(alloc);
+        asked.push(0u8)?;
+    }
+    Ok(())
+}

@@ -1,0 +1,121 @@
+//! Sessions whose commands are carried out in one call. A line that is no command ends a call, and the next call begins
+//! after it.
+
+use crate::lined::Lined;
+use crate::own::own_reply;
+use crate::place::{Place, Row, compare, wrong};
+use std::alloc::Global;
+use std::io;
+use tendril_block::Refusal;
+
+const WAY: &str = "in one call";
+
+/// Plays all sessions of a file. Whether each reply is the expected one.
+pub fn play_at_once<T: Lined>(
+    rt: &(impl Print + AllocGlobal),
+    file: &str,
+    text: &str,
+) -> io::Result<bool> {
+    let mut right = true;
+    let mut place = Place::first(file, WAY);
+    for session in text.split("\n\n") {
+        right = play_session::<T>(rt, place, session)? && right;
+        place = place.after(session);
+    }
+    Ok(right)
+}
+
+/// Rows with their index in a session, as often as each is played.
+pub type Rows<'a> = Vec<(usize, Row<'a>)>;
+
+fn play_session<T: Lined>(
+    rt: &(impl Print + AllocGlobal),
+    place: Place,
+    session: &str,
+) -> io::Result<bool> {
+    let mut right = true;
+    let mut table = T::empty(rt.alloc());
+    let mut rows: Rows = Vec::new(rt.alloc());
+    let mut commands: Vec<T::Command> = Vec::new(rt.alloc());
+    for (index, line) in session.lines().enumerate() {
+        if let Some(row) = Row::read(line) {
+            if !add::<T>(rt.alloc(), index, row, &mut rows, &mut commands)? {
+                right = run_all(rt, &mut table, place, &mut rows, &mut commands)? && right;
+                right = play_own(rt, &mut table, place.down(index), row)? && right;
+            }
+        }
+    }
+    Ok(run_all(rt, &mut table, place, &mut rows, &mut commands)? && right)
+}
+
+/// Adds the command of a row, as often as it is played. Whether it has one.
+pub fn add<'a, T: Lined>(
+    alloc: Global,
+    index: usize,
+    row: Row<'a>,
+    rows: &mut Rows<'a>,
+    commands: &mut Vec<T::Command>,
+) -> io::Result<bool> {
+    for _ in 0..row.times {
+        match T::read(alloc, row.line.as_bytes()).map_err(failed)? {
+            Some(command) => commands.push(command)?,
+            None => return Ok(false),
+        }
+        rows.push((index, row))?;
+    }
+    Ok(true)
+}
+
+/// The error of a call that the player itself needs.
+pub fn failed(_refusal: Refusal) -> io::Error {
+    io::Error::from(io::ErrorKind::OutOfMemory)
+}
+
+fn play_own<T: Lined>(
+    rt: &(impl Print + AllocGlobal),
+    table: &mut T,
+    place: Place,
+    row: Row,
+) -> io::Result<bool> {
+    let mut right = true;
+    for _ in 0..row.times {
+        right = match own_reply(rt.alloc(), table, row.line).map_err(failed)? {
+            Some(reply) => compare(rt, place, row, reply.as_str())?,
+            None => compare(rt, place, row, "malformed")?,
+        } && right;
+    }
+    Ok(right)
+}
+
+// Carries out the commands that were added, and forgets them.
+fn run_all<T: Lined>(
+    rt: &(impl Print + AllocGlobal),
+    table: &mut T,
+    place: Place,
+    rows: &mut Rows,
+    commands: &mut Vec<T::Command>,
+) -> io::Result<bool> {
+    let replies = table.run(commands.as_slice()).map_err(failed)?;
+    let right = compare_all::<T>(rt, place, rows.as_slice(), replies.as_slice())?;
+    rows.clear();
+    commands.clear();
+    Ok(right)
+}
+
+/// Whether these replies are the expected ones. Prints those that aren't.
+pub fn compare_all<T: Lined>(
+    rt: &(impl Print + AllocGlobal),
+    place: Place,
+    rows: &[(usize, Row)],
+    replies: &[T::Reply],
+) -> io::Result<bool> {
+    if replies.len() != rows.len() {
+        return wrong(rt, place, "the session", "another number of replies");
+    }
+    let mut right = true;
+    for ((index, row), reply) in rows.iter().zip(replies) {
+        let reply = T::print(rt.alloc(), reply).map_err(failed)?;
+        right = compare(rt, place.down(*index), *row, reply.as_str())? && right;
+    }
+    Ok(right)
+}

@@ -1,0 +1,215 @@
+//! Sessions row by row. A row that gets no memory leaves the table as it was, and is played again.
+
+use crate::lined::Lined;
+use crate::notes::Notes;
+use crate::own::own_reply;
+use crate::place::{Counts, Place, Row, compare, wrong};
+use std::alloc::Global;
+use std::{io, slice};
+use tendril_block::Refusal;
+
+const WAY: &str = "row by row";
+
+/// How a command is carried out.
+#[derive(Clone, Copy)]
+enum Call {
+    /// A step of the table.
+    Step,
+    /// A run of one command. It allocates its replies, so a silent table makes a step instead.
+    Run,
+}
+
+/// Plays all sessions of a file on tables of one kind by steps, and again on tables of another kind by runs. The tables
+/// have to hold the same after each row.
+pub fn play_twice<T: Lined, U: Lined>(
+    rt: &(impl Print + AllocGlobal),
+    file: &str,
+    text: &str,
+) -> io::Result<Counts> {
+    let mut notes = Notes::new(rt.alloc())?;
+    let mut counts = play_file::<T>(rt, file, text, Call::Step, &mut notes)?;
+    if counts.all_right() {
+        notes.play_again();
+        counts.add_again(play_file::<U>(rt, file, text, Call::Run, &mut notes)?);
+    }
+    Ok(counts)
+}
+
+// Plays each session of a file on a table of its own.
+fn play_file<T: Lined>(
+    rt: &(impl Print + AllocGlobal),
+    file: &str,
+    text: &str,
+    call: Call,
+    notes: &mut Notes,
+) -> io::Result<Counts> {
+    let mut counts = Counts::none();
+    let mut place = Place::first(file, WAY);
+    for session in text.split("\n\n") {
+        play_session::<T>(rt, place, session, call, notes, &mut counts)?;
+        place = place.after(session);
+    }
+    Ok(counts)
+}
+
+fn play_session<T: Lined>(
+    rt: &(impl Print + AllocGlobal),
+    place: Place,
+    session: &str,
+    call: Call,
+    notes: &mut Notes,
+    counts: &mut Counts,
+) -> io::Result<()> {
+    let mut table = T::empty(rt.alloc());
+    notes.add(&table)?;
+    for (index, line) in session.lines().enumerate() {
+        if !line.starts_with('#') {
+            counts.add_row();
+            if !play_row(rt, &mut table, place.down(index), line, call, notes, counts)? {
+                counts.add_wrong();
+            }
+        }
+    }
+    counts.add_session();
+    Ok(())
+}
+
+// Plays one row, as often as it says. Whether all is as expected.
+fn play_row<T: Lined>(
+    rt: &(impl Print + AllocGlobal),
+    table: &mut T,
+    place: Place,
+    line: &str,
+    call: Call,
+    notes: &mut Notes,
+    counts: &mut Counts,
+) -> io::Result<bool> {
+    let Some(row) = Row::read(line) else {
+        return wrong(rt, place, line, "no reply");
+    };
+    for _ in 0..row.times {
+        if !play_once(rt, table, place, row, call, notes, counts)? {
+            return Ok(false);
+        }
+        if !notes.add(table)? {
+            return wrong(
+                rt,
+                place,
+                row.line,
+                "another kind of table holds something else",
+            );
+        }
+    }
+    Ok(true)
+}
+
+fn play_once<T: Lined>(
+    rt: &(impl Print + AllocGlobal),
+    table: &mut T,
+    place: Place,
+    row: Row,
+    call: Call,
+    notes: &mut Notes,
+    counts: &mut Counts,
+) -> io::Result<bool> {
+    match reply_to(rt.alloc(), table, row.line, call, counts) {
+        Ok(reply) => return compare(rt, place, row, reply.as_str()),
+        Err(Unplayed::NoMemory) => counts.add_refused(),
+        Err(why) => return wrong(rt, place, row.line, why.words()),
+    }
+    if !notes.is_last(table)? {
+        return wrong(
+            rt,
+            place,
+            row.line,
+            "it got no memory, and the table has changed",
+        );
+    }
+    match reply_to(rt.alloc(), table, row.line, call, counts) {
+        Ok(reply) => compare(rt, place, row, reply.as_str()),
+        Err(why) => wrong(rt, place, row.line, why.words()),
+    }
+}
+
+/// Why a line has no reply.
+#[derive(Clone, Copy)]
+enum Unplayed {
+    NoMemory,
+    /// A command that may not allocate did.
+    Allocated,
+    /// The player has no such line, or the words of a line of its own are wrong.
+    NoLine,
+}
+
+impl Unplayed {
+    fn words(self) -> &'static str {
+        match self {
+            Unplayed::NoMemory => "it got no memory twice",
+            Unplayed::Allocated => "it allocated",
+            Unplayed::NoLine => "no such line",
+        }
+    }
+}
+
+fn why_unplayed(refusal: Refusal) -> Unplayed {
+    match refusal {
+        Refusal::Memory => Unplayed::NoMemory,
+        _ => Unplayed::NoLine,
+    }
+}
+
+// The reply to a line. A reply that got no memory to be printed is printed again.
+fn reply_to<T: Lined>(
+    alloc: Global,
+    table: &mut T,
+    line: &str,
+    call: Call,
+    counts: &mut Counts,
+) -> Result<String, Unplayed> {
+    let Some(command) = T::read(alloc, line.as_bytes()).map_err(why_unplayed)? else {
+        return reply_to_other(alloc, table, line);
+    };
+    let mut commands = Vec::new(alloc);
+    if commands.push(command).is_err() {
+        return Err(Unplayed::NoMemory);
+    }
+    let reply = match carry_out(table, commands.as_slice(), call) {
+        Ok(reply) => reply,
+        Err(_) if table.is_silent() && !line.starts_with("text ") => {
+            return Err(Unplayed::Allocated);
+        }
+        Err(refusal) => return Err(why_unplayed(refusal)),
+    };
+    match T::print(alloc, &reply) {
+        Ok(text) => Ok(text),
+        Err(_) => {
+            counts.add_refused();
+            T::print(alloc, &reply).map_err(why_unplayed)
+        }
+    }
+}
+
+// The reply to one command. That it got no memory is that error.
+fn carry_out<T: Lined>(
+    table: &mut T,
+    commands: &[T::Command],
+    call: Call,
+) -> Result<T::Reply, Refusal> {
+    let reply = match (call, commands) {
+        (Call::Step, [command]) => table.step(command)?,
+        (Call::Run, [command]) if table.is_silent() => table.step(command)?,
+        _ => table.run(commands)?.pop().ok_or(Refusal::Invalid)?,
+    };
+    if T::got_no_memory(&reply) {
+        return Err(Refusal::Memory);
+    }
+    Ok(reply)
+}
+
+// The reply to a line that is no command.
+fn reply_to_other<T: Lined>(alloc: Global, table: &mut T, line: &str) -> Result<String, Unplayed> {
+    match own_reply(alloc, table, line).map_err(why_unplayed)? {
+        Some(text) => Ok(text),
+        None => String::from_str(alloc, "malformed").map_err(|_| Unplayed::NoMemory),
+    }
+}

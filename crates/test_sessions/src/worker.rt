@@ -1,0 +1,199 @@
+//! A session in one worker, where a request for memory may be refused.
+
+use crate::class::Counting;
+use crate::lined::Lined;
+use crate::once::{Rows, add, compare_all, failed};
+use crate::place::{Place, Row, wrong};
+use crate::slots::write_slots;
+use crate::texts::Texts;
+use std::alloc::Global;
+use std::fs::Files;
+use std::sync::Arc;
+use std::sync::atomic::{AtomicBool, Ordering};
+use std::thread::Threads;
+use std::{fs, io};
+use tendril_block::Refusal;
+use tendril_run::{Gate, Job, Outcome, Reply, Table, run, run_tables};
+use tendril_text::Atomic;
+
+const WAY: &str = "in a worker";
+
+/// Notes that the worker began a command.
+#[derive(Drop)]
+struct Begun(Arc<AtomicBool>);
+
+impl Gate for Begun {
+    fn before(&self, _command: usize) {
+        self.0.store(true, Ordering::SeqCst);
+    }
+}
+
+type Work = Job<Counting, Begun>;
+
+/// What was so before the worker was started.
+#[derive(Drop)]
+struct Before {
+    table: Vec<u8>,
+    begun: Arc<AtomicBool>,
+}
+
+impl Before {
+    // Whether this is the table that was given to the worker, and no command was begun.
+    fn is_as_it_was(&self, alloc: Global, table: &Table<Atomic>) -> io::Result<bool> {
+        let mut now = Vec::new(alloc);
+        write_slots(table, &mut now)?;
+        Ok(now == self.table && !self.has_begun())
+    }
+
+    fn has_begun(&self) -> bool {
+        self.begun.load(Ordering::SeqCst)
+    }
+}
+
+/// Plays a file's one session, and prints how its job ended. Its first row makes slot 0, before the worker is started.
+/// Whether all is as expected.
+pub fn play_in_worker(
+    rt: &(impl Files + Print + AllocGlobal + Threads),
+    file: &str,
+) -> io::Result<bool> {
+    let text = fs::read_to_string(rt, file)?;
+    let place = Place::first(file, WAY);
+    let begun = Arc::new(rt.alloc(), AtomicBool::new(false))?;
+    let mut before = Before {
+        table: Vec::new(rt.alloc()),
+        begun: begun.clone()?,
+    };
+    let mut job = Job {
+        table: Table::new(rt.alloc()),
+        commands: Vec::new(rt.alloc()),
+        class: Counting::new(),
+        gate: Begun(begun),
+    };
+    let mut rows: Rows = Vec::new(rt.alloc());
+    for (index, line) in text.as_str().lines().enumerate() {
+        if let Some(row) = Row::read(line) {
+            add_row(rt.alloc(), index, row, &mut job, &mut rows)?;
+        }
+    }
+    write_slots(&job.table, &mut before.table)?;
+    match start(rt, place, rows.as_slice(), &before, job)? {
+        Some(ending) => {
+            println!(rt; "{file}: {ending}")?;
+            Ok(true)
+        }
+        None => wrong(rt, place, "the job", "another outcome"),
+    }
+}
+
+// The first row is carried out, the others are left to the worker.
+fn add_row<'a>(
+    alloc: Global,
+    index: usize,
+    row: Row<'a>,
+    job: &mut Work,
+    rows: &mut Rows<'a>,
+) -> io::Result<()> {
+    if job.table.len() > 0 {
+        add::<Texts<Atomic>>(alloc, index, row, rows, &mut job.commands)?;
+        return Ok(());
+    }
+    let mut commands = Vec::new(alloc);
+    add::<Texts<Atomic>>(alloc, index, row, rows, &mut commands)?;
+    rows.clear();
+    match run(&mut job.table, commands.as_slice(), &job.class) {
+        Ok(_) if job.table.len() == 1 => Ok(()),
+        _ => Err(failed(Refusal::Memory)),
+    }
+}
+
+// How a job ended, `None` where it ended otherwise than it may.
+fn start(
+    rt: &(impl Print + AllocGlobal + Threads),
+    place: Place,
+    rows: &[(usize, Row)],
+    before: &Before,
+    job: Work,
+) -> io::Result<Option<&'static str>> {
+    let mut jobs = Vec::new(rt.alloc());
+    jobs.push(job)?;
+    match run_tables(rt, rt.alloc(), jobs) {
+        Ok(mut outcomes) => match outcomes.pop() {
+            Some(outcome) => ended(rt, place, rows, before, outcome),
+            None => Ok(None),
+        },
+        Err((_, jobs)) => handed_back(rt, place, rows, before, jobs),
+    }
+}
+
+fn ended(
+    rt: &(impl Print + AllocGlobal),
+    place: Place,
+    rows: &[(usize, Row)],
+    before: &Before,
+    outcome: Outcome,
+) -> io::Result<Option<&'static str>> {
+    let (as_expected, ending) = match outcome {
+        Outcome::Done(_, replies) => return done(rt, place, rows, replies.as_slice()),
+        Outcome::Refused(table, refusal) => (
+            refusal == Refusal::Memory && before.is_as_it_was(rt.alloc(), &table)?,
+            "no memory for the replies",
+        ),
+        Outcome::NotStarted => (!before.has_begun(), "not started"),
+    };
+    Ok(if as_expected { Some(ending) } else { None })
+}
+
+// The job came back, and is done when it is started again.
+fn handed_back(
+    rt: &(impl Print + AllocGlobal + Threads),
+    place: Place,
+    rows: &[(usize, Row)],
+    before: &Before,
+    jobs: Vec<Work>,
+) -> io::Result<Option<&'static str>> {
+    let came_back = match jobs.as_slice() {
+        [job] => {
+            job.commands.len() == rows.len() && before.is_as_it_was(rt.alloc(), &job.table)?
+        }
+        _ => false,
+    };
+    if !came_back {
+        return Ok(None);
+    }
+    let Ok(mut outcomes) = run_tables(rt, rt.alloc(), jobs) else {
+        return Ok(None);
+    };
+    match outcomes.pop() {
+        Some(Outcome::Done(_, replies)) => {
+            Ok(done(rt, place, rows, replies.as_slice())?.map(|_| "handed back"))
+        }
+        _ => Ok(None),
+    }
+}
+
+// All replies are the expected ones, or those before the one that says that its command got no memory.
+fn done(
+    rt: &(impl Print + AllocGlobal),
+    place: Place,
+    rows: &[(usize, Row)],
+    replies: &[Reply],
+) -> io::Result<Option<&'static str>> {
+    let refused = replies.iter().position(got_no_memory);
+    let count = refused.unwrap_or(replies.len());
+    let right = replies.len() == rows.len()
+        && compare_all::<Texts<Atomic>>(
+            rt,
+            place,
+            rows.get(..count).unwrap_or(&[]),
+            replies.get(..count).unwrap_or(&[]),
+        )?;
+    let ending = match refused {
+        Some(_) => "no memory for a command",
+        None => "done",
+    };
+    Ok(if right { Some(ending) } else { None })
+}
+
+fn got_no_memory(reply: &Reply) -> bool {
+    Texts::<Atomic>::got_no_memory(reply)
+}
