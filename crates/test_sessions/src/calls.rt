@@ -5,7 +5,7 @@
 //!
 //! | Line | What it does | Reply |
 //! |---|---|---|
-//! | `from_strs "A" "B"`, .. | makes a text by the call of this name | `slot S` |
+//! | `from_strs "A" "B"`, .. | makes a text by the call of this name; `sent "A"` one that is sent there and back | `slot S` |
 //! | `extend_strs S "A" "B"`, .. | extends by the call of this name; `extend_tendrils S S S` by texts | `slot S` |
 //! | `until S "SET"`, `after S "SET"` | what `pop_front_until` returns, and what it leaves | `slot S` |
 //! | `split S N`, `left S N` | the same of `try_split_to` | `slot S` |

@@ -40,6 +40,7 @@ pub fn bytes<A: Atomicity>(
     let bytes = string_of(words).as_bytes();
     let made = match verb {
         "slice_to_tendril" => slice_to_tendril(alloc, bytes),
+        "sent" => sent(slice_to_tendril(alloc, bytes)?),
         "from_byte_slice" => ByteTendril::<A>::from_slice(alloc, bytes),
         "from_byte_slice_without_validating" => {
             Tendril::from_byte_slice_without_validating(alloc, bytes)
@@ -50,6 +51,14 @@ pub fn bytes<A: Atomicity>(
         _ => return Ok(None),
     };
     Ok(Some(made?))
+}
+
+// A text that is the only reference to its block goes to another thread and comes from there, which takes no memory.
+fn sent<A: Atomicity>(text: ByteTendril<A>) -> Result<ByteTendril<A>, Refusal> {
+    match text.into_send() {
+        Ok(sent) => Tendril::from_send(sent).map_err(|_| Refusal::Invalid),
+        Err(_) => Err(Refusal::Invalid),
+    }
 }
 
 fn of_slices<A: Atomicity>(alloc: Global, words: &str) -> Result<Option<ByteTendril<A>>, Refusal> {
