@@ -129,7 +129,7 @@ module _ {M : Type 1} {𝓤 : Ura M} (𝓛 : Logic 𝓤) where
       at true = qed 𝓛 (‵ (alone_gives role_coded.code (whose y g.4.3) (limit g.0) (content g.1 g.2 b g.3) b w g.4.0 g.4.1 g.4.2 g.4.3 n true) ∷ []) ∵ fsplit ! $ fpick ! (λ one. absurd (more one))
       at false = qed 𝓛 (‵ (alone_gives role_coded.code (whose y g.4.3) (limit g.0) (content g.1 g.2 b g.3) b w g.4.0 g.4.1 g.4.2 g.4.3 n false) ∷ []) ∵ fsplit ! $ drop ! $ fsplit ! $ done !
 
-  -- a writer that gives its holder up, its word at 0, has the duty
+  -- a writer that gives its holder up has the duty: the word is its own, so what stands there is no matter
   pub gives_up : (y : Bool) (l b w : ℕ) (P : Fml) (i : Id) → ent 𝓤 (sep 𝓤 (sem 𝓛 (mark role_coded.code i.1 i.2 Writer)) (sem 𝓛 (fex Counted (stands y l i)))) (H.⇛ (sem 𝓛 (owed l i)))
   gives_up y l b w P i = qed 𝓛 (‵ (mark role_coded.code i.1 i.2 Writer) ∷ ‵ (fex Counted (stands y l i)) ∷ []) ∵ updating ! $ move ! (1 ∷ []) $ fpick ! (λ s. fsplit ! $ move ! (1 ∷ []) $ fpick ! (λ so. drop ! $
       let s' : Counted = subtracted s i.2 Ended i.3 in let Ended_at = raw (upd 𝓤 (sep 𝓤 (sem 𝓛 (roster role_coded.code i.1 0 (roles s'.holders))) (sem 𝓛 (mark role_coded.code i.1 i.2 Gone)))) in

@@ -151,15 +151,15 @@ freed l i = fex Block
     (λ s. fsep (roster role_coded.code i.1 0 (roles s.holders))
     (fact (IsReached Any (limit l) s × (s.frees ≡ 1) × (s.duties ≡ []))))
 
--- the node at b, o of such a block
-module _ (l : ℕ) (h : Global) (x : BodyIn) (b o : ℕ) where
+-- the node at b, o of such a block, whatever its word still says: no holder is left to read it
+module _ (l : ℕ) (h : Global) (n : ℕ) (x : BodyIn) (b o : ℕ) where
   abbrev pub last_at : Fml
-  last_at = fsep (box_owns (ghosts.dealloc_token h) NodeRow (block_ptr b o) (record { count = 0; body = x }))
+  last_at = fsep (box_owns (ghosts.dealloc_token h) NodeRow (block_ptr b o) (record { count = n; body = x }))
       (fex Id (owed l))
 
-abbrev pub last_owns : ℕ → Ptr → Global → BodyIn → Fml
-last_owns l (block_ptr b o) h x = last_at l h x b o
-last_owns l null_ptr h x = ffalse
+abbrev pub last_owns : ℕ → Ptr → Global → ℕ → BodyIn → Fml
+last_owns l (block_ptr b o) h n x = last_at l h n x b o
+last_owns l null_ptr h n x = ffalse
 
 -- who steps on a node's word: its handle and list, where the node begins in its block, and the holder
 abbrev pub Stepper : Type 0

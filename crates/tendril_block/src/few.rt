@@ -52,8 +52,39 @@ impl Cells {
         ensures front { take (start + length bytes.now) self.new.bytes ≡ take start self.old.bytes ++ bytes.now }
         ensures len { length self.new.bytes ≡ 40 }
     {
-        self.front_mut(start + bytes.len())[start..].copy_from_slice(bytes);
+        put_words(&mut self.front_mut(start + bytes.len())[start..], bytes);
     }
+}
+
+// Writes at most 40 bytes over as many others. Of 8 and more, five words, which may overlap, are all of them: a call of std's
+// copy costs more, and guesses by the length, where here no branch depends on it.
+#[inline(always)]
+fn put_words(place: &mut [u8], bytes: &[u8])
+    requires few { length bytes.now ≤ 40 }
+    requires len { length place.old ≡ length bytes.now }
+    ensures { place.new ≡ bytes.now }
+{
+    let len = bytes.len();
+    if len < 8 {
+        place.copy_from_slice(bytes);
+        return;
+    }
+    let last = len - 8;
+    put_word(place, bytes, 0);
+    put_word(place, bytes, last.min(8));
+    put_word(place, bytes, last.min(16));
+    put_word(place, bytes, last.min(24));
+    put_word(place, bytes, last);
+}
+
+// Writes eight bytes, from a place on, over those at the same place.
+#[inline(always)]
+fn put_word(place: &mut [u8], bytes: &[u8], at: usize)
+    requires in_place { at + 8 ≤ length place.old }
+    requires in_bytes { at + 8 ≤ length bytes.now }
+    ensures { place.new ≡ take at place.old ++ (take 8 (drop at bytes.now) ++ drop (at + 8) place.old) }
+{
+    place[at..at + 8].copy_from_slice(&bytes[at..at + 8]);
 }
 
 impl Few {

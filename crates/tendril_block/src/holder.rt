@@ -1,80 +1,44 @@
 //! What the holders of a block have in common, whatever counts them.
 ghost use Rattle.std.specs.Prelude.{◌≡◌, ℕ, ◌+◌, ◌-◌, ◌⊎◌, length, IfOk, IfErr, IfSome};
 ghost use Rattle.std.specs.Borrow.{LendsSo, sem};
-ghost use Rattle.tendril_block.specs.Filled.{Filled};
 ghost use Rattle.tendril_block.specs.contracts.body.Body.{the_row as body_row};
 
 use crate::atomicity::Atomicity;
 use crate::behind::Behind;
 use crate::body::Body;
 use crate::copied::Copied;
+use crate::node::kind::Kind;
+use crate::pointer::Pointer;
 use crate::refusal::Refusal;
 use crate::sole::Sole;
 use std::alloc::Global;
 use std::marker::PhantomData;
 
-/// A pointer to a body that several such pointers share, and that counts them.
-pub trait Counted: Drop {
-    /// The body.
-    ghost inner: { Self → Filled };
-
-    /// The only pointer to a body, or the body back where memory is refused.
-    fn make(alloc: Global, body: Body) -> Result<Self, Body>
-        ensures inner { IfOk result (λ p. inner p ≡ body) }
-        ensures back { IfErr result (λ b. b ≡ body) };
-
-    /// One more pointer, unless there are as many as there can be.
-    fn share(&self) -> Option<Self>
-        ensures { IfSome result (λ p. inner p ≡ inner self.now) };
-
-    fn body(&self) -> &Body
-        ensures { result.now ≡ inner self.now };
-
-    /// Whether there was no other pointer a moment ago.
-    fn is_alone(&self) -> bool;
-
-    /// The body, to change it, where there is no other pointer.
-    fn alone_mut(&mut self) -> Option<&mut Body>
-        ensures* lends { sem 𝓛 (LendsSo Self.row body_row self.entry result
-            (λ n w. inner n ≡ w)
-            (λ n. inner n ≡ inner self.old)) }
-        ensures bytes { IfSome result (λ b. b.now ≡ inner self.old) };
-
-    /// The bytes alone, or the pointer back where there are others.
-    fn into_sole(self) -> Result<Sole, Self>
-        ensures bytes { IfOk result (λ s. s ≡ (inner self).bytes) }
-        ensures back { IfErr result (λ p. p ≡ self) };
-
-    /// The only pointer to these bytes, which count as copied once.
-    fn from_sole(sole: Sole) -> Self
-        ensures bytes { (inner result).bytes ≡ sole }
-        ensures took { (inner result).took ≡ length sole };
-}
-
-/// Blocks whose holders are counted by such pointers.
-pub struct CountedBy<C> {
-    pointer: PhantomData<C>,
+/// Blocks of at most N holders, taken as 1 where N is 0 and as `MAX_HOLDERS` where N is more. Their kind says in which threads
+/// the holders may be.
+pub struct CountedBy<K, const N: u64> {
+    kind: PhantomData<K>,
 }
 
 /// One holder of a block.
 #[derive(Drop)]
-pub struct Holder<C: Counted> {
-    pointer: C,
+pub struct Holder<K: Kind, const N: u64> {
+    pointer: Pointer<K, N>,
     // What the body had taken when this holder was made or last alone, and what this holder had taken by then.
     since: Copied,
     before: Copied,
 }
 
-impl<C: Counted> Atomicity for CountedBy<C> {
-    type Block = Holder<C>;
+impl<K: Kind, const N: u64> Atomicity for CountedBy<K, N> {
+    type Block = Holder<K, N>;
 
-    ghost bytes_of = { λ b. (C.inner b.pointer).bytes };
+    ghost bytes_of = { λ b. b.pointer.node.inner.bytes };
 
-    ghost copied = { λ b. b.before.bytes + ((C.inner b.pointer).took - b.since.bytes) };
+    ghost copied = { λ b. b.before.bytes + (b.pointer.node.inner.took - b.since.bytes) };
 
-    fn make(bytes: Vec<u8>) -> Result<Holder<C>, (Refusal, Vec<u8>)> {
+    fn make(bytes: Vec<u8>) -> Result<Holder<K, N>, (Refusal, Vec<u8>)> {
         let alloc = *bytes.allocator();
-        let Ok(mut pointer) = C::make(alloc, Body::empty(alloc)) else {
+        let Ok(mut pointer) = Pointer::make(alloc, Body::empty(alloc)) else {
             return Err((Refusal::Memory, bytes));
         };
         // The vector goes in once the node is there, so that it can be handed back where it isn't.
@@ -85,14 +49,14 @@ impl<C: Counted> Atomicity for CountedBy<C> {
         Ok(Holder::new(pointer))
     }
 
-    fn copy(alloc: Global, bytes: &[u8], capacity: usize) -> Result<Holder<C>, Refusal> {
-        let Ok(pointer) = C::make(alloc, Body::copy(alloc, bytes, capacity)?) else {
+    fn copy(alloc: Global, bytes: &[u8], capacity: usize) -> Result<Holder<K, N>, Refusal> {
+        let Ok(pointer) = Pointer::make(alloc, Body::copy(alloc, bytes, capacity)?) else {
             return Err(Refusal::Memory);
         };
         Ok(Holder::new(pointer))
     }
 
-    fn share(block: &Holder<C>) -> Result<Holder<C>, Refusal> {
+    fn share(block: &Holder<K, N>) -> Result<Holder<K, N>, Refusal> {
         let pointer = block.pointer.share().ok_or(Refusal::Count)?;
         let none = Copied::zero();
         let since = none.plus(&none, pointer.body().took(), 0);
@@ -103,24 +67,24 @@ impl<C: Counted> Atomicity for CountedBy<C> {
         })
     }
 
-    fn bytes(block: &Holder<C>) -> &[u8] {
+    fn bytes(block: &Holder<K, N>) -> &[u8] {
         block.pointer.body().as_slice()
     }
 
-    fn alone_mut(block: &mut Holder<C>) -> Option<&mut Body> {
+    fn alone_mut(block: &mut Holder<K, N>) -> Option<&mut Body> {
         block.settle();
         block.pointer.alone_mut()
     }
 
-    fn make_mut(block: &mut Holder<C>) -> Result<&mut Body, Refusal> {
+    fn make_mut(block: &mut Holder<K, N>) -> Result<&mut Body, Refusal> {
         block.own()?;
-        match CountedBy::<C>::alone_mut(block) {
+        match CountedBy::<K, N>::alone_mut(block) {
             Some(body) => Ok(body),
             None => Err(Refusal::Memory),
         }
     }
 
-    fn compact(block: &mut Holder<C>, start: usize, keep: usize, behind: Behind) -> bool {
+    fn compact(block: &mut Holder<K, N>, start: usize, keep: usize, behind: Behind) -> bool {
         let none = Copied::zero();
         let since = none.plus(&none, block.pointer.body().took(), 0);
         let Some(body) = block.pointer.alone_mut() else {
@@ -135,7 +99,7 @@ impl<C: Counted> Atomicity for CountedBy<C> {
         true
     }
 
-    fn into_sole(block: Holder<C>) -> Result<Sole, Holder<C>> {
+    fn into_sole(block: Holder<K, N>) -> Result<Sole, Holder<K, N>> {
         let Holder {
             pointer,
             since,
@@ -151,14 +115,14 @@ impl<C: Counted> Atomicity for CountedBy<C> {
         }
     }
 
-    fn from_sole(sole: Sole) -> Result<Holder<C>, (Refusal, Sole)> {
-        Ok(Holder::new(C::from_sole(sole)))
+    fn from_sole(sole: Sole) -> Result<Holder<K, N>, (Refusal, Sole)> {
+        Ok(Holder::new(Pointer::from_sole(sole)))
     }
 }
 
-impl<C: Counted> Holder<C> {
+impl<K: Kind, const N: u64> Holder<K, N> {
     // The only holder of a block.
-    fn new(pointer: C) -> Self
+    fn new(pointer: Pointer<K, N>) -> Self
         ensures pointer { result.pointer ≡ pointer }
         ensures since { result.since.bytes ≡ 0 }
         ensures before { result.before.bytes ≡ 0 }
@@ -173,11 +137,12 @@ impl<C: Counted> Holder<C> {
     // Counts from here on what the body takes, and keeps what it took before.
     fn settle(&mut self)
         ensures pointer { self.new.pointer ≡ self.old.pointer }
-        ensures since { self.new.since.bytes ≡ (C.inner self.old.pointer).took }
+        ensures since { self.new.since.bytes ≡ self.old.pointer.node.inner.took }
         ensures before { self.new.before.bytes
-            ≡ self.old.before.bytes + ((C.inner self.old.pointer).took - self.old.since.bytes) }
+            ≡ self.old.before.bytes + (self.old.pointer.node.inner.took - self.old.since.bytes) }
     {
-        let took = self.pointer.body().took();
+        let pointer = &self.pointer;
+        let took = pointer.body().took();
         let none = Copied::zero();
         let before = self.before.plus(&self.since, took, 0);
         let since = none.plus(&none, took, 0);
@@ -187,17 +152,17 @@ impl<C: Counted> Holder<C> {
 
     // Where others hold the block, a copy takes its place.
     fn own(&mut self) -> Result<(), Refusal>
-        ensures bytes { (C.inner self.new.pointer).bytes ≡ (C.inner self.old.pointer).bytes }
+        ensures bytes { self.new.pointer.node.inner.bytes ≡ self.old.pointer.node.inner.bytes }
         ensures copied { (self.new ≡ self.old)
-            ⊎ (self.new.before.bytes + ((C.inner self.new.pointer).took - self.new.since.bytes)
-            ≡ length (C.inner self.old.pointer).bytes) }
+            ⊎ (self.new.before.bytes + (self.new.pointer.node.inner.took - self.new.since.bytes)
+            ≡ length self.old.pointer.node.inner.bytes) }
         ensures refusal { IfErr result (λ r. r ≡ Refusal.Memory) }
     {
         if self.pointer.is_alone() {
             return Ok(());
         }
         let body = self.pointer.body();
-        let own = CountedBy::<C>::copy(body.allocator(), body.as_slice(), 0)?;
+        let own = CountedBy::<K, N>::copy(body.allocator(), body.as_slice(), 0)?;
         *self = own;
         Ok(())
     }

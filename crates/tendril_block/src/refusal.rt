@@ -2,9 +2,9 @@
 ghost use Rattle.std.specs.Prelude.{◌≡◌, ◌++◌, Some, codes, decimal};
 ghost use Rattle.tendril_block.specs.Refusals.{number_of, name_of};
 
-use std::alloc::AllocError;
+use std::alloc::{AllocError, AllocFailed};
 use std::error::Error;
-use std::fmt;
+use std::{fmt, io};
 
 /// Why a call was refused. The numbers and names are part of the product: programs print them.
 ///
@@ -83,7 +83,7 @@ impl fmt::Display for Refusal {
 
 impl Error for Refusal {}
 
-/// Memory was wanting. So `?` passes a refused growth up.
+/// `Memory`, so that `?` passes up a failed allocation.
 impl From<AllocError> for Refusal {
     ghost use Rattle.tendril_block.specs.declared.refusal.Refusal.TheVariants.{Memory};
 
@@ -91,5 +91,40 @@ impl From<AllocError> for Refusal {
 
     fn from(_: AllocError) -> Self {
         Refusal::Memory
+    }
+}
+
+/// `Memory`, so that `?` passes up a failed push onto a `Vec`. The value that wasn't stored is dropped.
+impl<T: Drop> From<AllocFailed<T>> for Refusal {
+    ghost use Rattle.tendril_block.specs.declared.refusal.Refusal.TheVariants.{Memory};
+
+    ghost from_gives = { λ _ r. r ≡ Memory };
+
+    fn from(_: AllocFailed<T>) -> Self {
+        Refusal::Memory
+    }
+}
+
+/// `Memory` where the error is `OutOfMemory`, else `Io`, so that `?` passes up a failed read or write.
+impl From<io::Error> for Refusal {
+    ghost use Rattle.std.specs.Prelude.{◌⊎◌};
+    ghost use Rattle.tendril_block.specs.declared.refusal.Refusal.TheVariants.{Io, Memory};
+
+    ghost from_gives = { λ _ r. (r ≡ Memory) ⊎ (r ≡ Io) };
+
+    fn from(error: io::Error) -> Self {
+        match error.kind() {
+            io::ErrorKind::OutOfMemory => Refusal::Memory,
+            _ => Refusal::Io,
+        }
+    }
+}
+
+/// The refusal of a call that returns its argument with it, so that `?` passes it up. The argument is dropped.
+impl<T: Drop> From<(Refusal, T)> for Refusal {
+    ghost from_gives = { λ refused r. r ≡ refused.0 };
+
+    fn from(refused: (Refusal, T)) -> Self {
+        refused.0
     }
 }

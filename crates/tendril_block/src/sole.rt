@@ -14,15 +14,19 @@ pub struct Sole {
 }
 
 impl Model for Sole {
-    ghost use Rattle.std.specs.Prelude.{ℕ, List};
+    ghost use Rattle.std.specs.Prelude.{◌≡◌, ℕ, List};
 
     ghost Value = { List ℕ };
 
     ghost view = { λ s. s.node.value.body.bytes };
+
+    // As the first holder of the node wants it.
+    ghost invariant = { λ s. s.node.value.count ≡ 1 };
 }
 
 impl Sole {
     pub(crate) fn new(node: Box<Node>) -> Self
+        requires { node.value.count ≡ 1 }
         ensures { result ≡ node.value.body.bytes }
     {
         Sole { node }
@@ -49,6 +53,7 @@ impl Sole {
 
     // The node, whose bytes count as copied once.
     pub(crate) fn into_node(self) -> Box<Node>
+        ensures count { result.value.count ≡ 1 }
         ensures bytes { result.value.body.bytes ≡ self }
         ensures took { result.value.body.took ≡ length self }
     {

@@ -8,7 +8,7 @@ use std::sync::atomic::Ordering::SeqCst;
 use std::sync::atomic::raw;
 
 /// Holders in any threads.
-pub(crate) struct AnyThread;
+pub struct AnyThread;
 
 impl Kind for AnyThread {
     ghost any_thread = { true };

@@ -42,11 +42,11 @@ impl<K: Kind> Handle<K> {
         }
     }
 
-    /// The only holder of a node that is nobody's.
-    pub(crate) fn from_node(mut node: Box<Node>, limit: u64) -> Handle<K>
+    /// The only holder of a node that is nobody's, with a word of 1.
+    pub(crate) fn from_node(node: Box<Node>, limit: u64) -> Handle<K>
+        requires { node.value.count ≡ 1 }
         ensures { (result.limit ≡ limit) × (result.inner ≡ node.value.body) }
     {
-        node.count = 1;
         Handle::of(Loose::of(node), limit)
     }
 
@@ -132,24 +132,24 @@ impl<K: Kind> Handle<K> {
         unsafe { Some(&mut (*node).body) }
     }
 
-    // Where the holder is alone it gives itself up, with a word of 0, or the holder back.
+    // Where the holder is alone it gives itself up, else it comes back. The word stays 1: no other can read it any more, and
+    // the next first holder of the node wants that.
     fn take_alone(self) -> Result<Last, Handle<K>>
-        ensures { MatchResult result (λ l. l.inner ≡ self.inner) (λ b. b ≡ self) }
+        ensures { MatchResult result (λ l. (l.count ≡ 1) × (l.inner ≡ self.inner)) (λ b. b ≡ self) }
     {
         let Handle { node, alloc, kind } = self;
         let count = unsafe { K::alone(&raw mut (*node).count) };
         if count != 1 {
             return Err(Handle { node, alloc, kind });
         }
-        unsafe {
-            (*node).count = 0;
-        }
         Ok(Last { node, alloc })
     }
 
-    /// The node, which is nobody's then, or the holder back where there are others.
+    /// The node, which is nobody's then, with a word of 1, or the holder back where there are others.
     pub(crate) fn into_node(self) -> Result<Box<Node>, Handle<K>>
-        ensures { MatchResult result (λ n. n.value.body ≡ self.inner) (λ b. b ≡ self) }
+        ensures { MatchResult result
+            (λ n. (n.value.count ≡ 1) × (n.value.body ≡ self.inner))
+            (λ b. b ≡ self) }
     {
         match self.take_alone() {
             Ok(last) => Ok(last.free().into_box()),

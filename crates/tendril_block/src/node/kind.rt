@@ -5,7 +5,7 @@ ghost use Rattle.tendril_block.specs.Owned.{Stepper, holds, left, seen_by, peeks
 ghost use base.Fml.{Share};
 
 /// A kind of holders: a type of which no value is made. Each function is one step on the word of a node.
-pub(crate) trait Kind {
+pub trait Kind {
     /// Whether the holders may be in any threads, or are all in one.
     ghost any_thread: { Bool };
 

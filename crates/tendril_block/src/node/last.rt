@@ -14,17 +14,19 @@ pub(crate) struct Last {
     pub(crate) node: *mut Node,
     pub(crate) alloc: Global,
     pub(crate) ghost limit: { ℕ },
+    // What the word still says.
+    pub(crate) ghost count: { ℕ },
     pub(crate) ghost inner: { BodyIn } by { body_coded },
 }
 
 impl Model for Last {
-    ghost also_owns = { λ l. last_owns l.limit l.node l.alloc l.inner };
+    ghost also_owns = { λ l. last_owns l.limit l.node l.alloc l.count l.inner };
 }
 
 impl Last {
     /// The machine's free: the node is the heap's to take back.
     pub(crate) fn free(self) -> Loose<Node, Global>
-        ensures body { result.value.body ≡ self.inner }
+        ensures node { (result.value.count ≡ self.count) × (result.value.body ≡ self.inner) }
         ensures* freed { sem 𝓛 (fex Id (freed self.limit)) }
     {
         let Last { node, alloc } = self;

@@ -7,7 +7,7 @@ use crate::node::kind::Kind;
 use std::marker::{Model, PhantomData};
 
 /// Holders that stay in one thread.
-pub(crate) struct OneThread {
+pub struct OneThread {
     // A raw pointer is not `Send`.
     stays: PhantomData<*const u8>,
 }

@@ -26,18 +26,6 @@ impl Format for Bytes {
         true
     }
 
-    fn validate_prefix(_bytes: &[u8]) -> bool {
-        true
-    }
-
-    fn validate_suffix(_bytes: &[u8]) -> bool {
-        true
-    }
-
-    fn validate_subseq(_bytes: &[u8]) -> bool {
-        true
-    }
-
     fn fixup(_left: &[u8], _right: &[u8]) -> Fixup {
         Fixup::default()
     }

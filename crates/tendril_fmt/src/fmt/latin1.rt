@@ -30,18 +30,6 @@ impl Format for Latin1 {
         true
     }
 
-    fn validate_prefix(_bytes: &[u8]) -> bool {
-        true
-    }
-
-    fn validate_suffix(_bytes: &[u8]) -> bool {
-        true
-    }
-
-    fn validate_subseq(_bytes: &[u8]) -> bool {
-        true
-    }
-
     fn fixup(_left: &[u8], _right: &[u8]) -> Fixup {
         Fixup::default()
     }

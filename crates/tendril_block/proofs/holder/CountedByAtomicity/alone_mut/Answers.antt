@@ -5,7 +5,7 @@ use Rattle.tendril_block.proofs.holder.CountedByAtomicity.alone_mut.Goals as goa
 
 pub returns : goal.returns
 returns g c =
-    let same = ap g.C.Counted.inner c.settle.ensures.pointer in let took = λ (b : Body). b.took in let bytes = λ (b : Body). b.bytes in let at_none = c.alone_mut.follows.holds-at-none ∙ same in (
+    let same = ap (λ p. p.node.inner) c.settle.ensures.pointer in let took = λ (b : Body). b.took in let bytes = λ (b : Body). b.bytes in let at_none = c.alone_mut.follows.holds-at-none ∙ same in (
       (
         refl,
         (λ w. let lent = c.alone_mut.follows.holds w in

@@ -81,10 +81,10 @@ release_spec 𝓤 𝓛 𝓜 𝓡 wired K law k d met =
     lands_last ! refl (typed n u (sym (ap only eu), small)) $ exec ! 𝓣.C 𝓣.Λ Ev (after 3 fn.body) (at_ret Ev Post) $
     -- [what the step gives; what was shared; the handle; the end of the parameters; the tokens]
     sets ! (is ! (of_opd ! (get ! refl)) (ap only eu)) refl (tt, record { fits = small }) $ sets ! (bin ! (get ! refl) (lit ! tt) tt) refl (tt, tt) $ first ! $ branches ! (get ! refl)
-    (λ last. let d : Node = record { count = 0; body = x } in let lr : L.Denot = record { node = block_ptr b o; alloc = a; limit = v.limit; inner = x } in let v₁ : Val = live 1 (vcons w vnil) in
+    (λ last. let d : Node = record { count = 0; body = x } in let lr : L.Denot = record { node = block_ptr b o; alloc = a; limit = v.limit; count = 0; inner = x } in let v₁ : Val = live 1 (vcons w vnil) in
     let good : Good (layout Out) v₁ = (and_tt _ good_w.0, (record { fits = lit< tt }, (good_w.1, tt))) in
     use1 𝓛 (later (‵ (word b (o + 0) 0) ⊛ ‵ (content a x b o) ⊛ ‵ (owed v.limit i))) (taken 𝓛 shared g b (o + 0) n (eqb→eq n 1 last)) $ await ! tt $ split3 ! $ move ! (2 ∷ []) $ fpack ! Id (owed v.limit) i $ move ! (2 ∷ []) $ fsplit3 ! $ move ! (4 ∷ 0 ∷ 2 ∷ []) $
-    use3 𝓛 (‵ (part_at node.the_row full_share d b o)) (rejoin 𝓛 d b o) $ fjoin ! $ fjoin ! $ move ! (0 ∷ 2 ∷ []) $ last_in ! v.limit b o h a x $
+    use3 𝓛 (‵ (part_at node.the_row full_share d b o)) (rejoin 𝓛 d b o) $ fjoin ! $ fjoin ! $ move ! (0 ∷ 2 ∷ []) $ last_in ! v.limit 0 b o h a x $
     sets ! (agg ! (and_then ! (get ! refl) (and_then ! (get ! refl) (no_more !)))) refl good_w $ sets_last ! (agg ! (and_then ! (lit ! tt) (and_then ! (get ! refl) (no_more !)))) refl good $
     exec ! 𝓣.C 𝓣.Λ Ev (after 6 fn.body) (at_ret Ev Post) $ sets ! (of_opd ! (get ! refl)) refl good $
     use1 𝓛 (‵ (Out.own_val (Some lr) (v₁ ∷ []))) (Some-of 𝓛 L lr w) $

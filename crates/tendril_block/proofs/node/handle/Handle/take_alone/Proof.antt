@@ -8,7 +8,7 @@ use base.Logic.{SProp, ent, emp, id⊢}
 use base.Fml.{Fml, ftrue, fex, flft}
 use prog.Wp.{WpFn}
 use types.Kit.{‵, raw, ◌⊛◌, some, later, at_ret, ◌$◌, ◌∵◌, !, qed, by, move, keep, drop, split, join, fsplit, fsplit3, fjoin, fjoin3, fpick, fpack, pick, suffices, use0, use1, use2, use3, await, rewrite, feq_i, feq_l, flt_l}
-use types.Run.{stop, fld, addr, lit, of_opd, bin, no_more, and_then, first, blocks, branches, skips, assigns_last, store, exec, returns, returns_within, enter}
+use types.Run.{stop, fld, addr, lit, of_opd, bin, no_more, and_then, first, blocks, branches, skips, exec, returns, returns_within, enter}
 use types.ByLocal.{alloc_all, pass_all, free_all, look_at, get, get_in, through, sets, lands_last, env, is}
 use types.Part.{agg, sub, whole}
 use types.Match.{live}
@@ -92,16 +92,14 @@ take_alone_spec 𝓤 𝓛 𝓜 𝓡 wired K law k d met =
     use1 𝓛 (‵ (Out.own_val (Err v) (v₁ ∷ []))) (Err-of 𝓛 L R v w') $
     use0 𝓛 (raw (fact 𝓤 (v ≡ v))) (fact_i 𝓤 (v ≡ v) (emp 𝓤) refl) $ nothing ! $ nothing ! $ fjoin ! $
     returns_within ! Post refl (look_at ! 0 refl) $ free_all ! refl $ keep ! (4 ∷ 0 ∷ 2 ∷ 1 ∷ []) $ by ! (leaves 𝓛 En stays c z v₁ (Err v) _ (tt, tt)))
-    (λ last. let d : Node = record { count = 0; body = x } in let lr : L.Denot = record { node = block_ptr b o; alloc = a; limit = v.limit; inner = x } in let v₀ : Val = live 0 (vcons w vnil) in
+    (λ last. let d : Node = record { count = 1; body = x } in let lr : L.Denot = record { node = block_ptr b o; alloc = a; limit = v.limit; count = 1; inner = x } in let v₀ : Val = live 0 (vcons w vnil) in
     let good : Good (layout Out) v₀ = (and_tt _ good_w.0, (record { fits = lit< tt }, (good_w.1, tt))) in skips ! $ exec ! 𝓣.C 𝓣.Λ Ev (after 7 fn.body) (at_ret Ev Post) $
     use1 𝓛 (later (‵ (part_at BodyRow full_share x b (o + body_at)) ⊛ ‵ (all_but_body shared v.limit a x b o i))) (granted 𝓛 shared g b n (is_so n 1 last)) $ await ! tt $ split ! $ move ! (1 ∷ []) $ fsplit3 ! $ move ! (2 ∷ []) $ fsplit3 ! $
     -- [the machine; the right to free; apart; mark; word; list; shown; invariant; the handle; the end of the parameters; the tokens]
-    move ! (4 ∷ []) $ first ! $ blocks ! $ assigns_last ! (of_opd ! (lit ! tt)) (through ! refl (fld ! refl (stop !))) (store ! 0 refl (tt, record { fits = lit< tt })) $ exec ! 𝓣.C 𝓣.Λ Ev (after 8 fn.body) (at_ret Ev Post) $
-    -- [word; the machine; the right to free; apart; mark; list; shown; invariant; the handle; the end of the parameters; the tokens]
-    move ! (4 ∷ 1 ∷ []) $ use2 𝓛 (later (‵ (owed v.limit i))) (gives_up 𝓛 shared v.limit b (o + 0) (content a x b o) i) $ await ! tt $ fpack ! Id (owed v.limit) i $
-    -- [the duty; word; the right to free; apart; list; shown; invariant; the handle; the end of the parameters; the tokens]
-    move ! (1 ∷ 4 ∷ 3 ∷ []) $ use3 𝓛 (‵ (part_at node.the_row full_share d b o)) (rejoin 𝓛 d b o) $ move ! (0 ∷ 2 ∷ []) $ fjoin ! $ fjoin ! $ move ! (0 ∷ 3 ∷ []) $ last_in ! v.limit b o h a x $
+    move ! (3 ∷ 0 ∷ []) $ use2 𝓛 (later (‵ (owed v.limit i))) (gives_up 𝓛 shared v.limit b (o + 0) (content a x b o) i) $ await ! tt $ fpack ! Id (owed v.limit) i $
+    -- [the duty; the right to free; apart; word; list; shown; invariant; the handle; the end of the parameters; the tokens]
+    move ! (3 ∷ 4 ∷ 2 ∷ []) $ use3 𝓛 (‵ (part_at node.the_row full_share d b o)) (rejoin 𝓛 d b o) $ move ! (0 ∷ 2 ∷ []) $ fjoin ! $ fjoin ! $ move ! (0 ∷ 3 ∷ []) $ last_in ! v.limit 1 b o h a x $
     sets ! (agg ! (and_then ! (get ! refl) (and_then ! (get ! refl) (no_more !)))) refl good_w $ sets ! (agg ! (and_then ! (lit ! tt) (and_then ! (get ! refl) (no_more !)))) refl good $
     use1 𝓛 (‵ (Out.own_val (Ok lr) (v₀ ∷ []))) (Ok-of 𝓛 L R lr w) $
-    use0 𝓛 (raw (fact 𝓤 (x ≡ x))) (fact_i 𝓤 (x ≡ x) (emp 𝓤) refl) $ nothing ! $ nothing ! $ fjoin ! $
+    let Told : Type 0 = (1 ≡ 1) × (x ≡ x) in use0 𝓛 (raw (fact 𝓤 Told)) (fact_i 𝓤 Told (emp 𝓤) (refl, refl)) $ nothing ! $ nothing ! $ fjoin ! $
     returns ! (look_at ! 0 refl) $ free_all ! refl $ keep ! (6 ∷ 0 ∷ 2 ∷ 1 ∷ []) $ by ! (leaves 𝓛 En stays c z v₀ (Ok lr) _ (tt, tt)))))))))))))

@@ -43,7 +43,7 @@ free_spec 𝓤 𝓛 𝓜 𝓡 wired =
     let κs = z.0.0 in let v = z.0.3.0 in let a = v.alloc in let x = v.inner in let Post : Val → SProp 𝓤 = (walk_of 𝓛 ended stayed c).post z in let Run : List Val → SProp 𝓤 = λ ws. WpFn 𝓤 H 𝓣.C 𝓣.Λ fn ws Post in
     qed 𝓛 ((‵ ftrue ⊛ ‵ (owns (types_at ended.signature.params κs) z.0.3 z.0.4)) ∷ ‵ ftrue ∷ []) ∵
     split ! $ move ! (1 ∷ []) $ fsplit ! $ last_out ! v z.0.4.0 (λ b o h e ws fits.
-    let w : Val = both (vptr b o) h in let good_w = loose_good node.the_row Z heap_laws.the_row_laws ghosts b o h fits in let d : Node = record { count = 0; body = x } in
+    let w : Val = both (vptr b o) h in let good_w = loose_good node.the_row Z heap_laws.the_row_laws ghosts b o h fits in let d : Node = record { count = v.count; body = x } in
     suffices ! (Run (w ∷ [])) (subst (λ (us : List Val). ent 𝓤 (Run (w ∷ [])) (Run us)) (sym (λ j. ws j ++ [])) (id⊢ 𝓤 (Run (w ∷ [])))) $
     enter ! 𝓣.C 𝓣.Λ fn (w ∷ []) Post $ alloc_all ! (λ l. pass_all ! refl (good_w, tt) $
     -- [the node and the machine; the handle; the end of the parameters; the tokens]
@@ -52,5 +52,6 @@ free_spec 𝓤 𝓛 𝓜 𝓡 wired =
     sets ! (agg ! (and_then ! (get ! refl) (and_then ! (get ! refl) (no_more !)))) refl good_w $
     loose_in node.the_row Z heap_laws.the_row_laws ghosts ! b o h a d $
     let r : Out.Denot = record { at = block_ptr b o; alloc = a; value = d } in
-    use0 𝓛 (raw (fact 𝓤 (x ≡ x))) (fact_i 𝓤 (x ≡ x) (emp 𝓤) refl) $ move ! (0 ∷ 2 ∷ []) $ join ! $ nothing ! $ nothing ! $ fjoin ! $
+    let Told : Type 0 = (v.count ≡ v.count) × (x ≡ x) in
+    use0 𝓛 (raw (fact 𝓤 Told)) (fact_i 𝓤 Told (emp 𝓤) (refl, refl)) $ move ! (0 ∷ 2 ∷ []) $ join ! $ nothing ! $ nothing ! $ fjoin ! $
     returns ! (look_at ! 0 refl) $ free_all ! refl $ keep ! (4 ∷ 0 ∷ 2 ∷ 1 ∷ []) $ by ! (leaves 𝓛 ended stayed c z w r _ (tt, tt)))))

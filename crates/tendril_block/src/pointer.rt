@@ -1,0 +1,89 @@
+//! A counted pointer to a body: a handle of a node, one of at most N.
+ghost use Rattle.std.specs.Prelude.{◌≡◌, length, IfOk, IfErr, IfSome};
+ghost use Rattle.std.specs.Borrow.{LendsSo, sem};
+ghost use Rattle.tendril_block.specs.Owned.{limit};
+ghost use Rattle.tendril_block.specs.contracts.body.Body.{the_row as body_row};
+
+use crate::atomicity::MAX_HOLDERS;
+use crate::body::Body;
+use crate::node::handle::Handle;
+use crate::node::kind::Kind;
+use crate::sole::Sole;
+use std::alloc::Global;
+
+/// A pointer to a body, one of at most N, taken as 1 where N is 0 and as `MAX_HOLDERS` where N is more.
+#[derive(Drop)]
+pub(crate) struct Pointer<K: Kind, const N: u64> {
+    node: Handle<K>,
+    ghost up_to: { node.limit ≡ N },
+}
+
+impl<K: Kind, const N: u64> Pointer<K, N> {
+    ghost use Rattle.tendril_block.specs.contracts.pointer.Pointer.{the_row};
+
+    /// The only pointer to a body, or the body back where memory is refused.
+    pub(crate) fn make(alloc: Global, body: Body) -> Result<Self, Body>
+        ensures inner { IfOk result (λ p. p.node.inner ≡ body) }
+        ensures back { IfErr result (λ b. b ≡ body) }
+    {
+        let node = Handle::make(alloc, N, body)?;
+        Ok(Pointer { node })
+    }
+
+    /// One more pointer, unless there are as many as there can be.
+    pub(crate) fn share(&self) -> Option<Self>
+        ensures { IfSome result (λ p. p.node.inner ≡ self.now.node.inner) }
+    {
+        let node = self.node.share(most::<N>())?;
+        Some(Pointer { node })
+    }
+
+    pub(crate) fn body(&self) -> &Body
+        ensures { result.now ≡ self.now.node.inner }
+    {
+        self.node.body()
+    }
+
+    /// Whether there was no other pointer a moment ago.
+    pub(crate) fn is_alone(&self) -> bool {
+        self.node.is_alone()
+    }
+
+    /// The body, to change it, where there is no other pointer.
+    pub(crate) fn alone_mut(&mut self) -> Option<&mut Body>
+        ensures* lends { sem 𝓛 (LendsSo (the_row K.row N.row K.Kind) body_row self.entry result
+            (λ n w. n.node.inner ≡ w)
+            (λ n. n.node.inner ≡ self.old.node.inner)) }
+        ensures bytes { IfSome result (λ b. b.now ≡ self.old.node.inner) }
+    {
+        self.node.alone_mut()
+    }
+
+    /// The bytes alone, or the pointer back where there are others.
+    pub(crate) fn into_sole(self) -> Result<Sole, Self>
+        ensures bytes { IfOk result (λ s. s ≡ self.node.inner.bytes) }
+        ensures back { IfErr result (λ p. p ≡ self) }
+    {
+        let Pointer { node } = self;
+        match node.into_node() {
+            Ok(node) => Ok(Sole::new(node)),
+            Err(node) => Err(Pointer { node }),
+        }
+    }
+
+    /// The only pointer to these bytes, which count as copied once.
+    pub(crate) fn from_sole(sole: Sole) -> Self
+        ensures bytes { result.node.inner.bytes ≡ sole }
+        ensures took { result.node.inner.took ≡ length sole }
+    {
+        let node = Handle::from_node(sole.into_node(), N);
+        Pointer { node }
+    }
+}
+
+// The number of holders that N stands for.
+fn most<const N: u64>() -> u64
+    ensures { result ≡ limit N }
+{
+    N.clamp(1, MAX_HOLDERS)
+}
