@@ -7,11 +7,11 @@ use Rattle.std.proofs.lemmas.Bool.{cases_lt, and_parts}
 use Rattle.std.proofs.lemmas.List.{nil_from_length, take-take, length-take, drop-append-le, append_cancel_left, take_all}
 use Rattle.std.proofs.lemmas.Str.{IsCharBoundary-from_take, IsUtf8-drop, length-encode, len_utf8_bounds}
 use Rattle.tendril_lossy.specs.Completions.{IsLongestText, CompletesTo, BreaksAt, StillOpen}
-use Rattle.tendril_lossy.specs.AfterText.{items_after}
+use Rattle.tendril_lossy.specs.AfterText.{EndsWithin, items_after}
 use Rattle.tendril_lossy.specs.Lossy.{Keep, lossy, IsOpen, IsLossy, IsMaximalSubpart}
 use Rattle.tendril_lossy.specs.declared.search.Ending.{Ending}
 use Rattle.tendril_lossy.specs.declared.search.Ending.TheVariants.{Whole, Broken, Open}
-use Rattle.tendril_lossy.proofs.Fronts.{text_front, past_kept}
+use Rattle.tendril_lossy.proofs.Fronts.{text_front, past_kept, ends_within}
 use Rattle.tendril_lossy.proofs.Streams.{IsLossy-lossy, IsOpen-no_char}
 
 -- what `first_part` says
@@ -33,6 +33,12 @@ pub ends_open : (bs front : List ℕ) → IsFirstPart bs front Open → (length 
 ends_open bs front p =
     let h = subst (IsLossy (drop (length front) bs)) (rest_items bs front Open p) (IsLossy-lossy (drop (length front) bs)) in
     (omega (arith, h.0, length-drop (length front) bs), h.2)
+
+-- what stands after the front
+pub ends : (bs front : List ℕ) (ending : Ending) → IsFirstPart bs front ending → EndsWithin bs (length front) ending
+ends bs front Whole p = tt
+ends bs front (Broken k) p = ends_within bs front k p.text p.items
+ends bs front Open p = ends_open bs front p
 
 -- no character begins what follows the front
 none_follows : (bs front : List ℕ) (ending : Ending) → IsFirstPart bs front ending → (drop (length front) bs ≡ []) ⊎ StartsWithNoChar (drop (length front) bs)

@@ -28,7 +28,7 @@ later z = is_in_range 0x80 0xBF z
 abbrev pub err : ℕ → ℕ → ℕ → ℕ → Option ℕ
 err n x y z = cond (n == 0) None (cond (lead x) (cond (nat_lt n 2) None (cond (second x y) (cond (nat_lt n 3) None (cond (later z) (cond (nat_lt n 4) None (Some 3)) (Some 2))) (Some 1))) (Some 1))
 
-err_is : (bs : List ℕ) → utf8_error_len bs ≡ err (length bs) (slice_index bs 0) (slice_index bs 1) (slice_index bs 2)
+pub err_is : (bs : List ℕ) → utf8_error_len bs ≡ err (length bs) (slice_index bs 0) (slice_index bs 1) (slice_index bs 2)
 unfolding utf8_error_len
 err_is bs = refl
 
@@ -101,16 +101,16 @@ none_by n x y z r (no_fourth p _ _ _ e) l s t b = absurd (omega arith)
 not_zero : (n : ℕ) → 0 < n → (n == 0) ≡ false
 not_zero n p = grind (arith, nat_tests)
 
-not_less : (n k : ℕ) → k ≤ n → nat_lt n k ≡ false
+pub not_less : (n k : ℕ) → k ≤ n → nat_lt n k ≡ false
 not_less n k p = grind (arith, nat_tests)
 
-at_start : (n x y z : ℕ) → 0 < n → lead x ≡ false → err n x y z ≡ Some 1
+pub at_start : (n x y z : ℕ) → 0 < n → lead x ≡ false → err n x y z ≡ Some 1
 at_start n x y z p l = cond-false _ _ _ (not_zero n p) ∙ cond-false _ _ _ l
 
-past_start : (n x y z : ℕ) → 2 ≤ n → lead x ≡ true → err n x y z ≡ cond (second x y) (cond (nat_lt n 3) None (cond (later z) (cond (nat_lt n 4) None (Some 3)) (Some 2))) (Some 1)
+pub past_start : (n x y z : ℕ) → 2 ≤ n → lead x ≡ true → err n x y z ≡ cond (second x y) (cond (nat_lt n 3) None (cond (later z) (cond (nat_lt n 4) None (Some 3)) (Some 2))) (Some 1)
 past_start n x y z p l = cond-false _ _ _ (not_zero n (omega arith)) ∙ cond-true _ _ _ l ∙ cond-false _ _ _ (not_less n 2 p)
 
-past_second : (n x y z : ℕ) → 3 ≤ n → lead x ≡ true → second x y ≡ true → err n x y z ≡ cond (later z) (cond (nat_lt n 4) None (Some 3)) (Some 2)
+pub past_second : (n x y z : ℕ) → 3 ≤ n → lead x ≡ true → second x y ≡ true → err n x y z ≡ cond (later z) (cond (nat_lt n 4) None (Some 3)) (Some 2)
 past_second n x y z p l s = past_start n x y z (omega arith) l ∙ cond-true _ _ _ s ∙ cond-false _ _ _ (not_less n 3 p)
 
 -- a fault is the same of other bytes that agree as far as it reads
@@ -152,14 +152,14 @@ same_error bs cs k i le agree = err_is cs ∙ by (utf8_error_len bs) (fault bs) 
 scalar_ranges : (c : ℕ) → IsScalar c → (c < 0xD800) ⊎ ((0xE000 ≤ c) × (c < 0x11_0000))
 scalar_ranges = scalar_cases
 
-second_3 : (c a b d : ℕ) → IsScalar c → 224 ≤ a → a < 240 → IsContinuation b → IsContinuation d → c + 925824 ≡ a * 4096 + b * 64 + d → 2048 ≤ c → second a b ≡ true
+pub second_3 : (c a b d : ℕ) → IsScalar c → 224 ≤ a → a < 240 → IsContinuation b → IsContinuation d → c + 925824 ≡ a * 4096 + b * 64 + d → 2048 ≤ c → second a b ≡ true
 second_3 c a b d s l h f g e m =
     let fl = f.0 in let fh = f.1 in let gl = g.0 in let gh = g.1 in
     let low : a ≡ 224 → 160 ≤ b = λ i. omega arith in
     let high : a ≡ 237 → b ≤ 159 = λ i. ⊎_elim (λ p. omega arith) (λ p. let q = p.0 in omega arith) (scalar_cases c s) in
     grind (arith, nat_tests)
 
-second_4 : (c a b d w : ℕ) → IsScalar c → 240 ≤ a → a < 245 → IsContinuation b → IsContinuation d → IsContinuation w → c + 63447168 ≡ a * 262144 + b * 4096 + d * 64 + w → 65536 ≤ c → second a b ≡ true
+pub second_4 : (c a b d w : ℕ) → IsScalar c → 240 ≤ a → a < 245 → IsContinuation b → IsContinuation d → IsContinuation w → c + 63447168 ≡ a * 262144 + b * 4096 + d * 64 + w → 65536 ≤ c → second a b ≡ true
 second_4 c a b d w s l h f g j e m =
     let fl = f.0 in let fh = f.1 in let gl = g.0 in let gh = g.1 in let jl = j.0 in let jh = j.1 in
     let top = IsCodePoint-scalar c s in
@@ -203,26 +203,26 @@ IsOpen-none xs o = by (point_shape o.0 (IsCodePoint-scalar o.0 o.2))
 lead_bounds : (x : ℕ) → lead x ≡ true → (194 ≤ x) × (x < 245)
 lead_bounds x h = (grind (arith, nat_tests), grind (arith, nat_tests))
 
-later_bounds : (z : ℕ) → later z ≡ true → IsContinuation z
+pub later_bounds : (z : ℕ) → later z ≡ true → IsContinuation z
 later_bounds z h = (grind (arith, nat_tests), grind (arith, nat_tests))
 
-second_bounds : (x y : ℕ) → second x y ≡ true → IsContinuation y × (x ≡ 224 → 160 ≤ y) × (x ≡ 237 → y < 160) × (x ≡ 240 → 144 ≤ y) × (x ≡ 244 → y < 144)
+pub second_bounds : (x y : ℕ) → second x y ≡ true → IsContinuation y × (x ≡ 224 → 160 ≤ y) × (x ≡ 237 → y < 160) × (x ≡ 240 → 144 ≤ y) × (x ≡ 244 → y < 144)
 second_bounds x y h = ((grind (arith, nat_tests), grind (arith, nat_tests)), (λ e. grind (arith, nat_tests)), (λ e. grind (arith, nat_tests)), (λ e. grind (arith, nat_tests)), (λ e. grind (arith, nat_tests)))
 
 pub is_scalar : (c : ℕ) → (c < 0xD800) ⊎ ((0xE000 ≤ c) × (c < 0x11_0000)) → IsScalar c
 is_scalar c r = ⊎_elim (λ p. grind (arith, nat_tests)) (λ p. let q = p.0 in let t = p.1 in grind (arith, nat_tests)) r
 
-abbrev Completes : List ℕ → Type 0
+abbrev pub Completes : List ℕ → Type 0
 Completes bs = (c : ℕ) × IsScalar c × (bs ≡ encode_utf8 c)
 
-spells_2 : (x y : ℕ) → lead x ≡ true → x < 224 → IsContinuation y → Completes (x ∷ y ∷ [])
+pub spells_2 : (x y : ℕ) → lead x ≡ true → x < 224 → IsContinuation y → Completes (x ∷ y ∷ [])
 spells_2 x y h lt f =
     let b = lead_bounds x h in
     let fl = f.0 in let fh = f.1 in
     let c = (x - 192) * 64 + (y - 128) in
     (c, is_scalar c (inl (omega arith)), sym (spelt_2 x y b.0 lt f))
 
-spells_3 : (x y z : ℕ) → lead x ≡ true → 224 ≤ x → x < 240 → second x y ≡ true → later z ≡ true → Completes (x ∷ y ∷ z ∷ [])
+pub spells_3 : (x y z : ℕ) → lead x ≡ true → 224 ≤ x → x < 240 → second x y ≡ true → later z ≡ true → Completes (x ∷ y ∷ z ∷ [])
 spells_3 x y z h l lt s t =
     let k = second_bounds x y s in
     let f = k.0 in let g = later_bounds z t in
@@ -236,7 +236,7 @@ spells_3 x y z h l lt s t =
     let least : 2048 ≤ c = ⊎_elim (λ (p : x < 225). omega arith) (λ (p : 225 ≤ x). omega arith) (cases_lt x 225) in
     (c, is_scalar c range, sym (spelt_3 x y z l lt f g least))
 
-spells_4 : (x y z w : ℕ) → lead x ≡ true → 240 ≤ x → second x y ≡ true → later z ≡ true → IsContinuation w → Completes (x ∷ y ∷ z ∷ w ∷ [])
+pub spells_4 : (x y z w : ℕ) → lead x ≡ true → 240 ≤ x → second x y ≡ true → later z ≡ true → IsContinuation w → Completes (x ∷ y ∷ z ∷ w ∷ [])
 spells_4 x y z w h l s t j =
     let k = second_bounds x y s in
     let b = lead_bounds x h in

@@ -6,3 +6,5 @@ pub mod Fronts
 pub mod Windows
 pub mod Resume
 pub mod Completions
+pub mod Near
+pub mod AsciiFronts

@@ -30,7 +30,7 @@ grow_front bs at w n u valid =
 items_at : (bs t : List ℕ) (m : ℕ) → IsUtf8 (take m bs) → t ≡ take m bs → lossy bs ≡ map Keep (chars t) ++ lossy (drop m bs)
 items_at bs t m u e = text_front bs m u ∙ ap (λ l. map Keep (chars l) ++ lossy (drop m bs)) (sym e)
 
-bad_at : (bs t : List ℕ) (m k : ℕ) → IsUtf8 (take m bs) → m ≤ length bs → t ≡ take m bs → lossy (drop m bs) ≡ Bad k ∷ lossy (drop k (drop m bs)) → lossy bs ≡ map Keep (chars t) ++ Bad k ∷ lossy (drop (length t + k) bs)
+pub bad_at : (bs t : List ℕ) (m k : ℕ) → IsUtf8 (take m bs) → m ≤ length bs → t ≡ take m bs → lossy (drop m bs) ≡ Bad k ∷ lossy (drop k (drop m bs)) → lossy bs ≡ map Keep (chars t) ++ Bad k ∷ lossy (drop (length t + k) bs)
 bad_at bs t m k u le e bad =
     let long : m ≡ length t = sym (length-take-le m bs le) ∙ ap length (sym e) in
     items_at bs t m u e ∙ ap (λ l. map Keep (chars t) ++ l) (bad ∙ ap (λ l. Bad k ∷ lossy l) (drop-drop k m bs ∙ ap (λ j. drop (j + k) bs) long))

@@ -1,5 +1,8 @@
 //! The search for what breaks a stream of UTF-8.
-ghost use Rattle.std.specs.Prelude.{◌≡◌, ◌+◌, ◌<◌, ◌≤◌, ◌++◌, length, map, take, chars, IsUtf8};
+ghost use Rattle.std.specs.Prelude.{◌≡◌, ℕ, ◌+◌, ◌<◌, ◌≤◌, ◌++◌, ◌&&◌, length, map, take, slice_index, chars, IsUtf8, IfSome, IfOk, IfErr, OnErr};
+ghost use Rattle.std.specs.Int.{is_in_range, from_le_bytes, w64};
+ghost use Rattle.std.specs.Str.{StartsWithNoChar};
+ghost use Rattle.std.specs.Str.Lossy.{second_byte_min, second_byte_max, utf8_error_len};
 ghost use Rattle.tendril_lossy.specs.AfterText.{EndsWithin, items_after};
 ghost use Rattle.tendril_lossy.specs.Lossy.{Keep, lossy};
 
@@ -11,24 +14,50 @@ pub enum Ending {
     Open,
 }
 
+// The first window where no fault is expected near.
+const WINDOW: usize = 128;
+
+// Fewer bytes than these are read one character after another, if a fault is expected among them.
+const NEAR: usize = 64;
+
 /// The longest valid front, and what follows it.
 pub fn first_part(bytes: &[u8]) -> (&str, Ending)
     ensures front { result.0.now ≡ take (length result.0.now) bytes.now }
     ensures items { lossy bytes.now ≡ map Keep (chars result.0.now) ++ items_after bytes.now (length result.0.now) result.1 }
     ensures within { EndsWithin bytes.now (length result.0.now) result.1 }
 {
-    first_part_by(bytes, 128)
+    first_part_by(bytes, WINDOW)
 }
 
-/// The same, where a first window of so many bytes is looked at first: few where a fault is likely near.
+/// The same, where so many bytes are looked at first: few where a fault is likely near.
 pub fn first_part_by(bytes: &[u8], first: usize) -> (&str, Ending)
     requires { 4 ≤ first }
     ensures front { result.0.now ≡ take (length result.0.now) bytes.now }
     ensures items { lossy bytes.now ≡ map Keep (chars result.0.now) ++ items_after bytes.now (length result.0.now) result.1 }
     ensures within { EndsWithin bytes.now (length result.0.now) result.1 }
 {
-    let mut at = 0;
-    let mut window = first;
+    if NEAR <= first {
+        return by_windows(bytes, 0, first);
+    }
+    let (at, ending) = near(bytes, first);
+    match ending {
+        Some(ending) => {
+            let text = unsafe { std::str::from_utf8_unchecked(&bytes[..at]) };
+            (text, ending)
+        }
+        None => by_windows(bytes, at, WINDOW),
+    }
+}
+
+// The same, where all is text up to a place: behind it one window is read after another, each twice as long as the last.
+fn by_windows(bytes: &[u8], mut at: usize, mut window: usize) -> (&str, Ending)
+    requires within { at ≤ length bytes.now }
+    requires text { IsUtf8 (take at bytes.now) }
+    requires some { 4 ≤ window }
+    ensures front { result.0.now ≡ take (length result.0.now) bytes.now }
+    ensures items { lossy bytes.now ≡ map Keep (chars result.0.now) ++ items_after bytes.now (length result.0.now) result.1 }
+    ensures within { EndsWithin bytes.now (length result.0.now) result.1 }
+{
     while bytes.len() - at > window {
         let end = char_start(bytes, at + window);
         match simdutf8::compat::from_utf8(&bytes[at..end]) {
@@ -58,6 +87,154 @@ pub fn first_part_by(bytes: &[u8], first: usize) -> (&str, Ending)
             }
         }
     }
+}
+
+// What ends the text at the front, if it ends among the first `count` bytes or soon after; else a place up to which all is
+// text. One character is read after another: a call that validates a window costs more than a few of them.
+#[inline]
+fn near(bytes: &[u8], count: usize) -> (usize, Option<Ending>)
+    ensures within { result.0 ≤ length bytes.now }
+    ensures text { IsUtf8 (take result.0 bytes.now) }
+    ensures items { IfSome result.1 (λ ending. lossy bytes.now ≡ map Keep (chars (take result.0 bytes.now)) ++ items_after bytes.now result.0 ending) }
+{
+    let mut at = 0;
+    while at < count {
+        // What is read below: eight bytes, and a character of at most four behind them.
+        if bytes.len() - at < 12 {
+            let (end, ending) = near_end(bytes, at);
+            return (end, Some(ending));
+        }
+        at += ascii_front(&bytes[at..at + 8]);
+        match first_char_len(&bytes[at..]) {
+            Ok(len) => at += len,
+            Err(len) => return (at, Some(Ending::Broken(len))),
+        }
+    }
+    (at, None)
+}
+
+// What ends the text, where all is text up to a place and few bytes are left behind it. A call, which comes once in a text.
+#[inline(never)]
+fn near_end(bytes: &[u8], at: usize) -> (usize, Ending)
+    requires within { at ≤ length bytes.now }
+    requires text { IsUtf8 (take at bytes.now) }
+    ensures within { result.0 ≤ length bytes.now }
+    ensures text { IsUtf8 (take result.0 bytes.now) }
+    ensures items { lossy bytes.now ≡ map Keep (chars (take result.0 bytes.now)) ++ items_after bytes.now result.0 result.1 }
+{
+    match std::str::from_utf8(&bytes[at..]) {
+        Ok(_text) => (bytes.len(), Ending::Whole),
+        Err(error) => {
+            let end = at + error.valid_up_to();
+            match error.error_len() {
+                Some(len) => (end, Ending::Broken(len)),
+                None => (end, Ending::Open),
+            }
+        }
+    }
+}
+
+// How many of eight bytes stand before the first that isn't ASCII. As a word they say it without a branch.
+#[inline(always)]
+fn ascii_front(bytes: &[u8]) -> usize
+    requires { 8 ≤ length bytes.now }
+    ensures within { result ≤ 8 }
+    ensures ascii { (k : ℕ) → k < result → slice_index bytes.now k < 128 }
+    ensures stops { result < 8 → 128 ≤ slice_index bytes.now result }
+{
+    ((word_of_eight(bytes) & 0x8080_8080_8080_8080).trailing_zeros() / 8) as usize
+}
+
+// The first eight bytes as a word.
+#[inline(always)]
+fn word_of_eight(bytes: &[u8]) -> u64
+    requires { 8 ≤ length bytes.now }
+    ensures { result ≡ from_le_bytes w64 bytes.now }
+{
+    match bytes {
+        [a, b, c, d, e, f, g, h, ..] => u64::from_le_bytes([*a, *b, *c, *d, *e, *f, *g, *h]),
+        _ => 0,
+    }
+}
+
+// How many bytes the first character has, or else the broken sequence that stands in its place.
+#[inline(always)]
+fn first_char_len(bytes: &[u8]) -> Result<usize, usize>
+    requires { 4 ≤ length bytes.now }
+    ensures some { IfOk result (λ len. (0 < len) × (len ≤ 4)) }
+    ensures text { IfOk result (λ len. IsUtf8 (take len bytes.now)) }
+    ensures none { OnErr result (StartsWithNoChar bytes.now) }
+    ensures fault { IfErr result (λ len. utf8_error_len bytes.now ≡ Some len) }
+{
+    let first = bytes[0];
+    if first < 0x80 {
+        return Ok(1);
+    }
+    if !begin_char(first, bytes[1]) {
+        return Err(1);
+    }
+    if first < 0xE0 {
+        return Ok(2);
+    }
+    if !goes_on(bytes[2]) {
+        return Err(2);
+    }
+    if first < 0xF0 {
+        return Ok(3);
+    }
+    if !goes_on(bytes[3]) {
+        return Err(3);
+    }
+    Ok(4)
+}
+
+// Whether two bytes begin a character that isn't ASCII. Most faults are found here, so the tests that they pass are counted:
+// joined by `&` each test becomes a branch, and of random bytes no branch is foreseen.
+#[inline(always)]
+fn begin_char(first: u8, second: u8) -> bool
+    ensures { result ≡ (is_in_range 0xC2 0xF4 first && is_in_range (second_byte_min first) (second_byte_max first) second) }
+{
+    let passed = u8::from(0xC2 <= first)
+        + u8::from(first <= 0xF4)
+        + u8::from(least_second(first) <= second)
+        + u8::from(second <= greatest_second(first));
+    passed == 4
+}
+
+// The least byte that may follow the first one of a character: below it the character would fit fewer bytes.
+#[inline(always)]
+fn least_second(first: u8) -> u8
+    ensures { result ≡ second_byte_min first }
+{
+    if first == 0xE0 {
+        0xA0
+    } else if first == 0xF0 {
+        0x90
+    } else {
+        0x80
+    }
+}
+
+// The greatest one: above it are the surrogates, or no code points any more.
+#[inline(always)]
+fn greatest_second(first: u8) -> u8
+    ensures { result ≡ second_byte_max first }
+{
+    if first == 0xED {
+        0x9F
+    } else if first == 0xF4 {
+        0x8F
+    } else {
+        0xBF
+    }
+}
+
+// Whether the byte goes on with a character.
+#[inline(always)]
+fn goes_on(byte: u8) -> bool
+    ensures { result ≡ is_in_range 0x80 0xBF byte }
+{
+    byte & 0xC0 == 0x80
 }
 
 // The start of the last character, where it has more than one byte and all before it is text; else the place itself.
@@ -91,5 +268,5 @@ fn back_in_char(bytes: &[u8], at: usize) -> usize
     requires { (0 < at) × (at < length bytes.now) }
     ensures { (result ≤ at) × (at ≤ result + 1) }
 {
-    if bytes[at] & 0xC0 == 0x80 { at - 1 } else { at }
+    if goes_on(bytes[at]) { at - 1 } else { at }
 }

@@ -1,3 +1,4 @@
 mod Overs
+pub mod Partings
 pub mod Views
 pub mod Words

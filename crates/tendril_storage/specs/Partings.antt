@@ -1,5 +1,5 @@
 -- A text parted in two.
-use Rattle.std.specs.Prelude.{ℕ, ◌≡◌, ◌<◌, ◌+◌, length, take, drop, Result}
+use Rattle.std.specs.Prelude.{ℕ, ◌≡◌, ◌<◌, ◌≤◌, ◌+◌, length, take, drop, Result, Option, MatchOption}
 use Rattle.tendril_block.specs.declared.refusal.Refusal.{Refusal}
 use Rattle.tendril_block.specs.declared.refusal.Refusal.TheVariants.{Count}
 use Rattle.tendril_block.specs.Outcomes.{NoneMust, Outcome}
@@ -18,3 +18,16 @@ pub record IsParted (count : ℕ) (old front rest : Text) : Type 0 where
 abbrev pub TakesFront : ℕ → Text → Result Text Refusal → Text → Type 0
 TakesFront count old result new =
     Outcome NoneMust (BothLong count (length old.bytes)) (IsParted count old) old result new
+
+-- the first few bytes of a text are given as a text, so many bytes behind them are let go of, and many are left
+pub record IsFewTaken (count skip : ℕ) (old front rest : Text) : Type 0 where
+  pub few : count ≤ 8
+  pub many : 8 + (count + skip) < length old.bytes
+  pub front_bytes : front.bytes ≡ take count old.bytes
+  pub rest_bytes : rest.bytes ≡ drop (count + skip) old.bytes
+  pub front_copied : front.copied ≡ count
+  pub rest_copied : rest.copied ≡ old.copied
+
+-- where nothing is answered, the text is as it was
+abbrev pub TakesFew : ℕ → ℕ → Text → Option Text → Text → Type 0
+TakesFew count skip old result new = MatchOption result (new ≡ old) (λ front. IsFewTaken count skip old front new)

@@ -60,6 +60,7 @@ impl<A: Atomicity> Storage<A> {
     /// Sees the bytes that stand right behind these in their block too, if they equal `more`; whether it does. They are
     /// compared, wherever they stand. Nothing is copied.
     #[tactic(auto, using(crate::proofs::Views::grows))]
+    #[inline(always)]
     pub fn grows_over(&mut self, more: &[u8]) -> bool
         requires fits { length self.old.bytes + length more.now ≤ MAX_LEN }
         ensures bytes { result ≡ true → self.new.bytes ≡ self.old.bytes ++ more.now }

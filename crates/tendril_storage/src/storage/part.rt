@@ -1,13 +1,13 @@
 //! Parts of stored bytes: few are copied inline, many are seen in the same block.
 ghost use Rattle.std.specs.Prelude.{◌≡◌, ◌<◌, ◌≤◌, ◌+◌, length, take, drop, IfOk, IfErr, IfSome, OnSome};
 ghost use Rattle.tendril_block.specs.Outcomes.{CountMay};
-ghost use Rattle.tendril_storage.specs.Partings.{TakesFront};
+ghost use Rattle.tendril_storage.specs.Partings.{TakesFew, TakesFront};
 
 use crate::storage::{Held, INLINE, Storage, word_of};
 use std::alloc::Global;
 use std::cell::Cell;
 use std::mem;
-use tendril_block::{Atomicity, Refusal};
+use tendril_block::{Atomicity, MAX_LEN, Refusal};
 
 impl<A: Atomicity> Storage<A> {
     ghost use Rattle.tendril_storage.specs.Texts.{Parts, Shares};
@@ -57,9 +57,9 @@ impl<A: Atomicity> Storage<A> {
         Self::few(self.alloc, &self.as_slice()[start..end])
     }
 
-    // A copy of few bytes, made where it is called for.
+    /// The same as `inline`, made where it is called for: bytes that are known there are one word, with no call.
     #[inline(always)]
-    fn few(alloc: Global, bytes: &[u8]) -> Self
+    pub fn few(alloc: Global, bytes: &[u8]) -> Self
         requires { length bytes.now ≤ 8 }
         ensures bytes { result.bytes ≡ bytes.now }
         ensures copied { result.copied ≡ length bytes.now }
@@ -152,8 +152,7 @@ impl<A: Atomicity> Storage<A> {
         ensures { TakesFront count self.old result self.new }
     {
         // What most pops of characters and runs find.
-        if let Some(front) = self.few_before_many(count) {
-            self.skip_in_view(count);
+        if let Some(front) = self.take_few(count, 0) {
             return Ok(front);
         }
         let rest = self.len32() - count;
@@ -168,15 +167,29 @@ impl<A: Atomicity> Storage<A> {
         Ok(front)
     }
 
-    // The first few bytes of a view that leave many behind.
+    /// Takes the first bytes of a view out, where they are few, and lets go of the `skip` bytes behind them, where many are left
+    /// then. Else it answers nothing, and nothing is changed. Most pops of characters, of runs and of broken bytes find few
+    /// bytes before many, so it is made where it is called for.
+    #[inline(always)]
+    pub fn take_few(&mut self, count: u32, skip: u32) -> Option<Self>
+        requires { count + skip ≤ length self.old.bytes }
+        ensures { TakesFew count skip self.old result self.new }
+    {
+        let front = self.few_before_many(count, skip)?;
+        self.skip_in_view(count + skip);
+        Some(front)
+    }
+
+    // The first few bytes of a view that has many behind them and what is skipped.
     #[tactic(auto, using(crate::proofs::Views::slices))]
     #[inline(always)]
-    fn few_before_many(&self, count: u32) -> Option<Self>
-        requires { count ≤ length self.now.bytes }
+    fn few_before_many(&self, count: u32, skip: u32) -> Option<Self>
+        requires { count + skip ≤ length self.now.bytes }
         ensures bytes { IfSome result (λ front. front.bytes ≡ take count self.now.bytes) }
         ensures copied { IfSome result (λ front. front.copied ≡ count) }
         ensures few { OnSome result (count ≤ 8) }
-        ensures many { OnSome result (8 + count < length self.now.bytes) }
+        ensures many { OnSome result (8 + (count + skip) < length self.now.bytes) }
+        ensures short { OnSome result (length self.now.bytes ≤ MAX_LEN) }
     {
         match &self.held {
             Held::Inline { .. } => None,
@@ -186,12 +199,20 @@ impl<A: Atomicity> Storage<A> {
                 len,
                 ..
             } => {
-                if count as usize > INLINE || (*len - count) as usize <= INLINE {
+                if count as usize > INLINE || (*len - count - skip) as usize <= INLINE {
                     return None;
                 }
+                // More than eight bytes stand here, so one load has the few, however many they are: a jump by their number
+                // is often guessed wrong. What the buffer has behind them belongs to no text.
                 let start = *offset as usize;
-                let end = start + count as usize;
-                Some(Self::few(self.alloc, &A::bytes(block)[start..end]))
+                let word = word_of(&A::bytes(block)[start..start + INLINE]);
+                Some(Storage {
+                    held: Held::Inline {
+                        len: u64::from(count),
+                        buffer: word.to_le_bytes(),
+                    },
+                    alloc: self.alloc,
+                })
             }
         }
     }

@@ -1,5 +1,5 @@
 use Rattle.std.proofs.Common.{◌-◌, ◌≤◌, length, take, IsUtf8}
-use Rattle.tendril_lossy.proofs.search.first_part_by.Given as goal
+use Rattle.tendril_lossy.proofs.search.by_windows.Given as goal
 
 abbrev pub invariant-loop-window : goal.invariant-loop-window
 invariant-loop-window l = record {
