@@ -11,7 +11,8 @@ ghost use Rattle.rope_run.specs.RopeRules.{Answered, Changed};
 use rope_text::{MAX_TOTAL, Rope};
 use tendril_run::{Reply, Slot};
 use tendril_text::block::Refusal;
-use tendril_text::{Atomicity, StrTendril};
+use tendril_text::fmt::UTF8;
+use tendril_text::{Atomicity, Tendril};
 
 /// Puts the text of a slot at the end of the rope.
 pub(crate) fn push<A: Atomicity>(rope: &mut Option<Rope<A>>, slot: &Slot<A>) -> Reply
@@ -29,7 +30,7 @@ pub(crate) fn push<A: Atomicity>(rope: &mut Option<Rope<A>>, slot: &Slot<A>) -> 
 }
 
 // Puts a text at the rope's end, which shares it.
-fn push_text<A: Atomicity>(rope: &mut Rope<A>, text: &StrTendril<A>) -> Result<(), Refusal>
+fn push_text<A: Atomicity>(rope: &mut Rope<A>, text: &Tendril<UTF8, A>) -> Result<(), Refusal>
     ensures done { Outcome (TotalMust (length rope.old.bytes + length text.now.bytes)) (ShareMay (length text.now.bytes))
         (λ _ b. b ≡ rope.old.bytes ++ text.now.bytes) rope.old.bytes result rope.new.bytes }
     ensures kept { IsRopeCell (rope_cell rope.old.bytes) → IsRopeCell (rope_cell rope.new.bytes) }

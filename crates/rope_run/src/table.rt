@@ -14,7 +14,8 @@ use std::alloc::Global;
 use std::marker::Model;
 use tendril_run::{Classifier, Reply, Slot, Table};
 use tendril_text::block::Refusal;
-use tendril_text::{Atomicity, StrTendril};
+use tendril_text::fmt::UTF8;
+use tendril_text::{Atomicity, Tendril};
 
 /// Slots and ropes, each numbered from 0, each with a text or gone.
 #[derive(Drop)]
@@ -143,7 +144,7 @@ impl<A: Atomicity> RopeTable<A> {
     }
 
     // Puts a text at the end of the slots, where there is room and it could be made.
-    fn add_slot(&mut self, made: Result<StrTendril<A>, Refusal>) -> RopeReply
+    fn add_slot(&mut self, made: Result<Tendril<UTF8, A>, Refusal>) -> RopeReply
         requires { 1 ≤ self.old.slot_room }
         ensures added { MatchResult made
             (λ text. AddsSlot self.old.cells (text_cell kind.Utf8 text.bytes) result self.new.cells)
@@ -183,7 +184,7 @@ impl<A: Atomicity> RopeTable<A> {
     }
 
     // The bytes of a rope as one text, copied.
-    fn whole(&self, rope: usize) -> Result<StrTendril<A>, Refusal>
+    fn whole(&self, rope: usize) -> Result<Tendril<UTF8, A>, Refusal>
         ensures { Gives (RopeTakeMust (rope_at self.now.cells.ropes rope))
             (RopeTakeMay (rope_at self.now.cells.ropes rope))
             (λ t. text_cell kind.Utf8 t.bytes ≡ rope_taken (rope_at self.now.cells.ropes rope)) result }

@@ -17,11 +17,12 @@ use tendril_stream::{
     read_decoded,
 };
 use tendril_text::block::Refusal;
-use tendril_text::{Atomicity, ByteTendril, StrTendril};
+use tendril_text::fmt::{Bytes, UTF8};
+use tendril_text::{Atomicity, Tendril};
 
 /// Decodes pieces of bytes to a rope, which shares them. It has the characters that are due of the joined bytes, with
 /// U+FFFD for what isn't UTF-8.
-pub fn decode_rope<A: Atomicity, I: IntoIterator<Item = ByteTendril<A>>>(
+pub fn decode_rope<A: Atomicity, I: IntoIterator<Item = Tendril<Bytes, A>>>(
     alloc: Global,
     pieces: I,
 ) -> Result<Rope<A>, Refusal>
@@ -30,8 +31,8 @@ pub fn decode_rope<A: Atomicity, I: IntoIterator<Item = ByteTendril<A>>>(
         × I.into_iter_gives pieces it × YieldsThen I.IntoIter.next_gives it read None end
         × (chars rope.bytes ≡ characters (due (flat_map (λ p. p.bytes) read)))) }
     ensures refusal { IfErr result (λ r. PiecesStop I.into_iter_gives I.IntoIter.next_gives
-        ⟦<Rope<A> as TendrilSink<StrTendril<A>>>⟧.takes ⟦<Rope<A> as TendrilSink<StrTendril<A>>>⟧.refuses
-        ⟦<Rope<A> as TendrilSink<StrTendril<A>>>⟧.ends ⟦<Rope<A> as Tracks<StrTendril<A>>>⟧.after pieces r) }
+        ⟦<Rope<A> as TendrilSink<Tendril<UTF8, A>>>⟧.takes ⟦<Rope<A> as TendrilSink<Tendril<UTF8, A>>>⟧.refuses
+        ⟦<Rope<A> as TendrilSink<Tendril<UTF8, A>>>⟧.ends ⟦<Rope<A> as Tracks<Tendril<UTF8, A>>>⟧.after pieces r) }
 {
     decode_pieces_into(alloc, Rope::new(alloc), pieces)
 }
@@ -53,8 +54,8 @@ pub fn read_rope<A: Atomicity, R: CountedRead>(
         × (IsOfReading s.refusal → StopsBetween most these s.refusal
         × ((d : _) × (s.sink ≡ Some d) × (d.failed ≡ false)
         × StandsAt HasCharacters d.inner_sink d.kept (given these)))
-        × (IsOfReading s.refusal ⊎ StreamStops ⟦<Rope<A> as TendrilSink<StrTendril<A>>>⟧.takes
-        ⟦<Rope<A> as TendrilSink<StrTendril<A>>>⟧.refuses ⟦<Rope<A> as TendrilSink<StrTendril<A>>>⟧.ends
+        × (IsOfReading s.refusal ⊎ StreamStops ⟦<Rope<A> as TendrilSink<Tendril<UTF8, A>>>⟧.takes
+        ⟦<Rope<A> as TendrilSink<Tendril<UTF8, A>>>⟧.refuses ⟦<Rope<A> as TendrilSink<Tendril<UTF8, A>>>⟧.ends
         HasCharacters (λ d. d.inner_sink) (λ d. d.failed) most these s.refusal s.sink)) }
 {
     let decoder = Utf8LossyDecoder::new(alloc, Rope::new(alloc));
@@ -77,8 +78,8 @@ pub fn rope_from_file<A: Atomicity, F: Files>(
         ⊎ ((these : List OneRead) × (IsOfReading s.refusal → StopsBetween most these s.refusal
         × ((d : _) × (s.sink ≡ Some d) × (d.failed ≡ false)
         × StandsAt HasCharacters d.inner_sink d.kept (given these)))
-        × (IsOfReading s.refusal ⊎ StreamStops ⟦<Rope<A> as TendrilSink<StrTendril<A>>>⟧.takes
-        ⟦<Rope<A> as TendrilSink<StrTendril<A>>>⟧.refuses ⟦<Rope<A> as TendrilSink<StrTendril<A>>>⟧.ends
+        × (IsOfReading s.refusal ⊎ StreamStops ⟦<Rope<A> as TendrilSink<Tendril<UTF8, A>>>⟧.takes
+        ⟦<Rope<A> as TendrilSink<Tendril<UTF8, A>>>⟧.refuses ⟦<Rope<A> as TendrilSink<Tendril<UTF8, A>>>⟧.ends
         HasCharacters (λ d. d.inner_sink) (λ d. d.failed) most these s.refusal s.sink))) }
 {
     match fs::open(files, path) {

@@ -17,7 +17,8 @@ mod whole;
 use std::alloc::Global;
 use std::collections::VecDeque;
 use std::marker::Model;
-use tendril_text::{Atomicity, NonAtomic, StrTendril};
+use tendril_text::fmt::UTF8;
+use tendril_text::{Atomicity, NonAtomic, Tendril};
 
 /// A rope has at most so many bytes.
 pub const MAX_TOTAL: u64 = u64::MAX;
@@ -25,7 +26,7 @@ pub const MAX_TOTAL: u64 = u64::MAX;
 /// A text in UTF-8 of at most 18446744073709551615 bytes, in pieces.
 #[derive(Drop)]
 pub struct Rope<A: Atomicity = NonAtomic> {
-    pieces: VecDeque<StrTendril<A>>,
+    pieces: VecDeque<Tendril<UTF8, A>>,
     // Where each piece ends, counted from `start` on and past 2 ^ 64 from 0 again. A pop at the front moves the start,
     // and no end.
     ends: VecDeque<u64>,

@@ -21,6 +21,6 @@ pub use tendril_text::{
 #[macro_export]
 macro_rules! format_tendril {
     (in $alloc:expr; $($arg:tt)+) => {
-        $crate::StrTendril::<$crate::NonAtomic>::format($alloc, &format_args!($($arg)+))
+        $crate::StrTendril::format($alloc, &format_args!($($arg)+))
     };
 }

@@ -11,9 +11,7 @@ pub fn parts(alloc: Global, mut text: StrTendril, set: &ByteSet) -> Result<Vec<S
 {
     let mut parts = Vec::new(alloc);
     'parts: while let Some(part) = next_part(alloc, &mut text, set)? {
-        if parts.push(part).is_err() {
-            return Err(Refusal::Memory);
-        }
+        parts.push(part)?;
     }
     Ok(parts)
 }

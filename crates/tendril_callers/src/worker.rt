@@ -12,13 +12,13 @@ use tendril::{SendTendril, StrTendril, Tendril};
 pub fn louder_in_a_worker<R: Threads>(rt: &R, text: StrTendril) -> Result<StrTendril, Refusal>
     ensures { IfOk result (λ louder. louder.bytes ≡ text.bytes ++ codes "!") }
 {
-    let sent = text.into_send().map_err(|(refusal, _)| refusal)?;
+    let sent = text.into_send()?;
     let promise = Louder(Snapshot::of(&sent));
     let Ok(worker) = thread::spawn_with(rt, promise, move || make_louder(sent)) else {
         return Err(Refusal::Memory);
     };
     let back = worker.join(rt)?;
-    Tendril::from_send(back).map_err(|(refusal, _)| refusal)
+    Ok(Tendril::from_send(back)?)
 }
 
 // What the worker answers has this text and an exclamation mark.
@@ -33,7 +33,7 @@ impl Promise<Result<SendTendril<UTF8>, Refusal>> for Louder {
 fn make_louder(text: SendTendril<UTF8>) -> Result<SendTendril<UTF8>, Refusal>
     ensures { IfOk result (λ t. t ≡ text ++ codes "!") }
 {
-    let mut text: StrTendril = Tendril::from_send(text).map_err(|(refusal, _)| refusal)?;
+    let mut text = StrTendril::from_send(text)?;
     text.push_slice("!")?;
-    text.into_send().map_err(|(refusal, _)| refusal)
+    Ok(text.into_send()?)
 }

@@ -5,11 +5,12 @@ ghost use Rattle.std.specs.Fmt.{decimal};
 use std::fmt::Write;
 use std::{fmt, io};
 use tendril::block::Refusal;
-use tendril::{Atomicity, ByteTendril, StrTendril};
+use tendril::fmt::{Bytes, UTF8};
+use tendril::{Atomicity, Tendril};
 
 /// Sets one byte of a text. All others stay.
 pub fn set_byte<A: Atomicity>(
-    text: &mut ByteTendril<A>,
+    text: &mut Tendril<Bytes, A>,
     index: u32,
     byte: u8,
 ) -> Result<(), Refusal>
@@ -23,14 +24,14 @@ pub fn set_byte<A: Atomicity>(
 }
 
 /// Prints a number and a line feed at the end of a text.
-pub fn print_line<A: Atomicity>(text: &mut StrTendril<A>, number: u64) -> fmt::Result
+pub fn print_line<A: Atomicity>(text: &mut Tendril<UTF8, A>, number: u64) -> fmt::Result
     ensures { OnOk result (text.new.bytes ≡ text.old.bytes ++ (decimal number ++ 10 ∷ [])) }
 {
     writeln!(text, "{number}")
 }
 
 /// Writes bytes twice at the end of a text, as to a file.
-pub fn write_twice<A: Atomicity>(text: &mut ByteTendril<A>, bytes: &[u8]) -> io::Result<()>
+pub fn write_twice<A: Atomicity>(text: &mut Tendril<Bytes, A>, bytes: &[u8]) -> io::Result<()>
     ensures { OnOk result (text.new.bytes ≡ text.old.bytes ++ bytes.now ++ bytes.now) }
 {
     io::Write::write_all(text, bytes)?;

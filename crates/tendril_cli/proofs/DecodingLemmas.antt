@@ -7,20 +7,19 @@ use Rattle.std.specs.Io.KnownBytes.{Appends, IsAtEnd}
 use Rattle.std.specs.List.{FoldsTo}
 use Rattle.std.specs.Prelude.{All}
 use Rattle.tendril_text.proofs.Decoding.{long-some}
-use Rattle.tendril_text.specs.Pushes.{Joins as Pushes}
 use Rattle.tendril_text.specs.Texts.{Text}
 use Rattle.tendril_block.specs.declared.refusal.Refusal.{Refusal}
 use Rattle.tendril_block.specs.declared.refusal.Refusal.TheVariants.{Failed, Io, Memory, SinkRefused}
 use Rattle.tendril_lossy.proofs.Streams.{due-end, due_open-append, kept-append}
 use Rattle.tendril_lossy.proofs.Lossy.{lossy-nil}
 use Rattle.tendril_lossy.proofs.Told.{characters-append, characters-map}
-use Rattle.tendril_lossy.specs.Lossy.{Told, Char, Mark, characters, closed_of, cut_bytes, due, due_open, kept}
+use Rattle.tendril_lossy.specs.Lossy.{Told, Char, characters, closed_of, cut_bytes, due, due_open, kept}
 use Rattle.tendril_stream.proofs.Fed.{given-push, MakesReads-none}
 use Rattle.tendril_stream.specs.Decoders.{Decodes, DecodingStops as Stopping, Ends, EndStops, no_piece}
 use Rattle.tendril_stream.specs.Readings.{Hears, MakesReads, ReadStops}
 use Rattle.tendril_stream.specs.Reads.{OneRead, Gave, WasInterrupted, HasFailed, CameToEnd, MayReadOn, given, given_by}
 use Rattle.tendril_stream.specs.Sinks.{Sent, Piece, Feeds, IsStop, told, told_of}
-use Rattle.tendril_cli.specs.Decodings.{Decoded, DecodeStops, IsReady, JoinRefused, WritesText, WritesAll, WritesFrontOfText}
+use Rattle.tendril_cli.specs.Decodings.{Decoded, DecodeStops, IsReady, WritesText, WritesAll, WritesFrontOfText}
 use Rattle.tendril_script.specs.Writing.{AppendsFront}
 
 -- a sink that adds the characters of what it is sent to those that it has
@@ -104,13 +103,9 @@ front_of_all before after b l w = record {
   front = record { taken = w.bytes; rest = []; splits = sym (append-nil w.bytes); appends = w.appends };
 }
 
-pub pushed : (r : Result (Unit {0}) Refusal) (old new : Text) (more : List ℕ) → IsUtf8 old.bytes → Pushes (λ a b. a ++ b) more old r new → OnOk r (chars new.bytes ≡ chars old.bytes ++ characters (map Char (chars more)))
-pushed (Ok r) old new more u h = ap chars h.outcome.1 ∙ chars-append old.bytes more u ∙ ap (λ l. chars old.bytes ++ l) (sym (characters-map (chars more)))
+pub pushed : (r : Result (Unit {0}) Refusal) (old new more : List ℕ) → IsUtf8 old → OnOk r (new ≡ old ++ more) → OnOk r (chars new ≡ chars old ++ characters (map Char (chars more)))
+pushed (Ok r) old new more u h = ap chars h ∙ chars-append old more u ∙ ap (λ l. chars old ++ l) (sym (characters-map (chars more)))
 pushed (Err e) old new more u h = tt
-
-pub push_refused : (r : Result (Unit {0}) Refusal) (old new text : Text) → Pushes (λ a b. a ++ b) text.bytes old r new → IfErr r (λ e. (new.bytes ≡ old.bytes) × JoinRefused old.bytes (Piece text) e)
-push_refused (Ok r) old new text h = tt
-push_refused (Err e) old new text h = (ap (λ t. t.bytes) h.outcome.1, h.outcome.0)
 
 -- and of what is due of them and the end
 pub front_of_end : (before after : Option (List ℕ)) (b : List ℕ) → WritesText (characters (due_open b)) before after → WritesFrontOfText (characters (due b)) before after

@@ -18,7 +18,6 @@ use Rattle.std.specs.Prelude.{
   false,
 }
 use Rattle.std.specs.Io.KnownBytes.{Appends, Consumes, IsAtEnd}
-use Rattle.tendril_block.specs.Outcomes.{LengthMust, MemoryMay, Refused}
 use Rattle.tendril_block.specs.declared.refusal.Refusal.{Refusal}
 use Rattle.tendril_block.specs.declared.refusal.Refusal.TheVariants.{Count, Io, Memory, SinkRefused, TooManyReads}
 use Rattle.tendril_lossy.specs.Lossy.{characters, due, due_open, kept}
@@ -32,12 +31,10 @@ use Rattle.tendril_cli.specs.Endings.{program_name}
 abbrev pub most_reads : ℕ
 most_reads = 1000000000
 
--- why a text isn't put behind these bytes: they would be too long then, or more than 8 and memory is wanting. No error
--- is refused.
-abbrev pub JoinRefused : List ℕ → Sent → Refusal → Type 0
-JoinRefused bytes (Piece t) refusal =
-    Refused (LengthMust (length (bytes ++ t.bytes))) (MemoryMay (length (bytes ++ t.bytes))) refusal
-JoinRefused bytes (Fault words) refusal = ⊥
+-- a text is refused where there is no memory for it; no error is refused
+abbrev pub JoinRefused : Sent → Refusal → Type 0
+JoinRefused (Piece t) refusal = refusal ≡ Memory
+JoinRefused (Fault words) refusal = ⊥
 
 -- a writer that tells its bytes has taken these characters, in UTF-8
 pub record WritesText (characters : List ℕ) (before after : Option (List ℕ)) : Type 0 where

@@ -12,7 +12,6 @@ use std::alloc::Global;
 use std::io::Write;
 use tendril_script::{flush, write_bytes};
 use tendril_stream::{CountedRead, TendrilSink, Utf8LossyDecoder, read_once};
-use tendril_text::StrTendril;
 use tendril_text::block::Refusal;
 
 /// How many reads are made at most. Of a file or a pipe that fills each read that is 4 TB.
@@ -50,33 +49,33 @@ fn decode_read<R: CountedRead, W: Write>(
     out: &mut W,
 ) -> Result<bool, Refusal>
     ensures read { (before : Option (List ℕ)) → (these : List OneRead)
-        → IsReady these before (W.contents out.old) decoder.old.kept decoder.old.failed decoder.old.inner_sink.text.bytes
+        → IsReady these before (W.contents out.old) decoder.old.kept decoder.old.failed decoder.old.inner_sink
         → IfOk result (λ ended. ended ≡ false → (one : OneRead) × MayReadOn one
         × MakesReads R.history R.remaining reader.old (one ∷ []) reader.new × IsReady (these ++ one ∷ []) before
-        (W.contents out.new) decoder.new.kept decoder.new.failed decoder.new.inner_sink.text.bytes) }
+        (W.contents out.new) decoder.new.kept decoder.new.failed decoder.new.inner_sink) }
     ensures ended { IfOk result (λ ended. ended ≡ true
         → MakesReads R.history R.remaining reader.old (CameToEnd ∷ []) reader.new
         × IsAtEnd (R.remaining reader.new) × (decoder.new ≡ decoder.old) × (out.new ≡ out.old)) }
     ensures stops { (before : Option (List ℕ)) → (these : List OneRead) → All MayReadOn these → length these < most_reads
-        → IsReady these before (W.contents out.old) decoder.old.kept decoder.old.failed decoder.old.inner_sink.text.bytes
+        → IsReady these before (W.contents out.old) decoder.old.kept decoder.old.failed decoder.old.inner_sink
         → IfErr result (λ r. (more : List OneRead) × MakesReads R.history R.remaining reader.old more reader.new
         × DecodeStops most_reads (these ++ more) (R.remaining reader.new) before (W.contents out.new) r) }
 {
     if read_once(alloc, decoder, reader)? {
         return Ok(true);
     }
-    write_text(&decoder.inner_sink.text, out)?;
-    decoder.inner_sink.text.clear();
+    write_text(&decoder.inner_sink, out)?;
+    decoder.inner_sink.clear();
     Ok(false)
 }
 
 // Ends the stream, and writes what is due of its end.
 fn decode_end<W: Write>(decoder: Utf8LossyDecoder<Joined>, out: &mut W) -> Result<(), Refusal>
     ensures ok { (before : Option (List ℕ)) → (these : List OneRead)
-        → IsReady these before (W.contents out.old) decoder.kept decoder.failed decoder.inner_sink.text.bytes
+        → IsReady these before (W.contents out.old) decoder.kept decoder.failed decoder.inner_sink
         → OnOk result (WritesText (characters (due (given these))) before (W.contents out.new)) }
     ensures stops { (before : Option (List ℕ)) → (these : List OneRead)
-        → IsReady these before (W.contents out.old) decoder.kept decoder.failed decoder.inner_sink.text.bytes
+        → IsReady these before (W.contents out.old) decoder.kept decoder.failed decoder.inner_sink
         → IfErr result (λ r. (r ≡ Refusal.SinkRefused)
         × WritesFrontOfText (characters (due (given these))) before (W.contents out.new)) }
 {
@@ -85,13 +84,13 @@ fn decode_end<W: Write>(decoder: Utf8LossyDecoder<Joined>, out: &mut W) -> Resul
 }
 
 // Writes a text, and flushes.
-fn write_text<W: Write>(text: &StrTendril, out: &mut W) -> Result<(), Refusal>
-    ensures utf8 { IsUtf8 text.now.bytes }
-    ensures ok { OnOk result (Appends (W.contents out.old) (W.contents out.new) text.now.bytes) }
-    ensures err { OnErr result (AppendsFront (W.contents out.old) (W.contents out.new) text.now.bytes) }
+fn write_text<W: Write>(text: &Joined, out: &mut W) -> Result<(), Refusal>
+    ensures utf8 { IsUtf8 text.now }
+    ensures ok { OnOk result (Appends (W.contents out.old) (W.contents out.new) text.now) }
+    ensures err { OnErr result (AppendsFront (W.contents out.old) (W.contents out.new) text.now) }
     ensures refusal { IfErr result (λ r. r ≡ Refusal.SinkRefused) }
 {
-    if let Err(_) = write_bytes(out, text.as_str().as_bytes()) {
+    if let Err(_) = write_bytes(out, text.as_bytes()) {
         return Err(Refusal::SinkRefused);
     }
     if let Err(_) = flush(out) {

@@ -1,26 +1,61 @@
 //! A sink that joins texts.
-ghost use Rattle.std.specs.Prelude.{◌≡◌, []};
+ghost use Rattle.std.specs.Prelude.{◌≡◌, ◌++◌, [], IfErr, IsUtf8, OnErr, OnOk};
 
-use std::alloc::Global;
+use std::alloc::{AllocError, Global};
 use std::borrow::CowStr;
+use std::marker::Model;
 use tendril_stream::TendrilSink;
 use tendril_text::StrTendril;
 use tendril_text::block::Refusal;
 
-/// The texts that were sent, as one.
+/// The texts that were sent, as one. A vector, since nobody shares it: a push onto it tests less than one onto a text.
 #[derive(Drop)]
 pub struct Joined {
-    pub text: StrTendril,
+    text: Vec<u8>,
+}
+
+impl Model for Joined {
+    ghost use Rattle.std.specs.Prelude.{ℕ, List, IsUtf8};
+
+    ghost Value = { List ℕ };
+
+    ghost view = { λ j. j.text.items };
+
+    ghost invariant = { λ j. IsUtf8 j.text.items };
 }
 
 impl Joined {
     /// No text was sent yet.
     pub fn new(alloc: Global) -> Self
-        ensures { result.text.bytes ≡ [] }
+        ensures { result ≡ [] }
     {
         Joined {
-            text: StrTendril::new(alloc),
+            text: Vec::new(alloc),
         }
+    }
+
+    /// The bytes of the texts.
+    pub fn as_bytes(&self) -> &[u8]
+        ensures value { result.now ≡ self.now }
+        ensures utf8 { IsUtf8 self.now }
+    {
+        self.text.as_slice()
+    }
+
+    /// Drops the texts, and keeps the memory.
+    pub fn clear(&mut self)
+        ensures { self.new ≡ [] }
+    {
+        self.text.clear();
+    }
+
+    fn push(&mut self, text: &str) -> Result<(), Refusal>
+        ensures ok { OnOk result (self.new ≡ self.old ++ text.now) }
+        ensures err { OnErr result (self.new ≡ self.old) }
+        ensures refusal { IfErr result (λ r. r ≡ Refusal.Memory) }
+    {
+        push_bytes(&mut self.text, text.as_bytes())?;
+        Ok(())
     }
 }
 
@@ -30,26 +65,56 @@ impl TendrilSink<StrTendril> for Joined {
     ghost use Rattle.tendril_stream.specs.Sinks.{told_of};
     ghost use Rattle.tendril_cli.specs.Decodings.{JoinRefused};
 
-    type Output = StrTendril;
+    type Output = Joined;
 
-    ghost takes = { λ a e b. chars b.text.bytes ≡ chars a.text.bytes ++ characters (told_of e) };
+    ghost takes = { λ a e b. chars b ≡ chars a ++ characters (told_of e) };
 
-    ghost refuses = { λ a e r b. (b.text.bytes ≡ a.text.bytes) × JoinRefused a.text.bytes e r };
+    ghost refuses = { λ a e r b. (b ≡ a) × JoinRefused e r };
 
-    ghost finishes = { λ a out. out.bytes ≡ a.text.bytes };
+    ghost finishes = { λ a out. out ≡ a };
 
     ghost ends = { λ a r. ⊥ };
 
     fn process(&mut self, text: StrTendril) -> Result<(), Refusal> {
-        let _is_utf8 = self.text.as_str();
-        self.text.push_slice(text.as_str())
+        let _utf8 = self.as_bytes();
+        self.push(text.as_str())
     }
 
     fn error(&mut self, _words: CowStr<'static>) -> Result<(), Refusal> {
         Ok(())
     }
 
-    fn finish(self) -> Result<StrTendril, Refusal> {
-        Ok(self.text)
+    fn finish(self) -> Result<Joined, Refusal> {
+        Ok(self)
+    }
+}
+
+// Appends bytes. One character of up to three bytes is what comes most between broken bytes, and is U+FFFD too: it is stored
+// byte by byte, since a call to copy it takes longer.
+#[inline(always)]
+fn push_bytes(to: &mut Vec<u8>, bytes: &[u8]) -> Result<(), AllocError>
+    ensures ok { OnOk result (to.new.items ≡ to.old.items ++ bytes.now) }
+    ensures err { OnErr result (to.new.items ≡ to.old.items) }
+{
+    match bytes {
+        [first] => {
+            to.reserve(1)?;
+            to.push_reserved(*first);
+            Ok(())
+        }
+        [first, second] => {
+            to.reserve(2)?;
+            to.push_reserved(*first);
+            to.push_reserved(*second);
+            Ok(())
+        }
+        [first, second, third] => {
+            to.reserve(3)?;
+            to.push_reserved(*first);
+            to.push_reserved(*second);
+            to.push_reserved(*third);
+            Ok(())
+        }
+        _ => to.extend_from_slice(bytes),
     }
 }

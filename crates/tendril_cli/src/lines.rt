@@ -50,7 +50,7 @@ impl Lines for TextLines {
     fn answer(&mut self, alloc: Global, line: &[u8]) -> Result<String, Refusal> {
         match parse_line(alloc, line)? {
             Some(command) => print_reply(alloc, &self.reply(&command)),
-            None => String::from_str(alloc, "malformed").map_err(|_| Refusal::Memory),
+            None => Ok(String::from_str(alloc, "malformed")?),
         }
     }
 }

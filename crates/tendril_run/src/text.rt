@@ -20,8 +20,8 @@ use std::alloc::Global;
 use std::cmp::Ordering;
 use tendril_lines::{ByteList, Comparison, Kind, UnitList};
 use tendril_text::block::{MAX_LEN, Refusal};
-use tendril_text::fmt::{CharFormat, Format, WTF8};
-use tendril_text::{Atomicity, ByteTendril, Tendril};
+use tendril_text::fmt::{Bytes, CharFormat, Format, WTF8};
+use tendril_text::{Atomicity, Tendril};
 
 /// A text of these bytes.
 pub(crate) fn from_bytes<F: Format, A: Atomicity>(
@@ -134,7 +134,7 @@ pub(crate) fn edit<F: Format, A: Atomicity>(
 
 /// Changes the bytes of a text of bytes.
 pub(crate) fn edit_bytes<A: Atomicity>(
-    text: &mut ByteTendril<A>,
+    text: &mut Tendril<Bytes, A>,
     edit: ByteEdit,
 ) -> Result<(), Refusal>
     ensures done { BytesEdited edit text.old.bytes result text.new.bytes }
@@ -146,7 +146,11 @@ pub(crate) fn edit_bytes<A: Atomicity>(
     }
 }
 
-fn write_byte<A: Atomicity>(text: &mut ByteTendril<A>, index: u32, byte: u8) -> Result<(), Refusal>
+fn write_byte<A: Atomicity>(
+    text: &mut Tendril<Bytes, A>,
+    index: u32,
+    byte: u8,
+) -> Result<(), Refusal>
     ensures done { BytesEdited (ByteEdit.WriteByte index byte) text.old.bytes result text.new.bytes }
     ensures short { length text.old.bytes ≤ MAX_LEN → length text.new.bytes ≤ MAX_LEN }
 {
@@ -212,8 +216,8 @@ fn sent_and_back<F: Format, A: Atomicity>(text: &Tendril<F, A>) -> Result<Tendri
     ensures bytes { IfOk result (λ t. t.bytes ≡ text.now.bytes) }
     ensures refusal { IfErr result (SendMay (length text.now.bytes)) }
 {
-    let sent = text.clone()?.into_send().map_err(|(refusal, _)| refusal)?;
-    Tendril::from_send(sent).map_err(|(refusal, _)| refusal)
+    let sent = text.clone()?.into_send()?;
+    Ok(Tendril::from_send(sent)?)
 }
 
 /// A part of the text.

@@ -5,14 +5,25 @@ use crate::sink::TendrilSink;
 use crate::tracks::Tracks;
 use std::alloc::Global;
 use std::borrow::CowStr;
+use std::fmt::{self, Debug, Formatter, Write};
 use tendril_block::Refusal;
-use tendril_text::{Atomicity, NonAtomic, StrTendril};
+use tendril_text::fmt::UTF8;
+use tendril_text::{Atomicity, NonAtomic, Tendril};
 
 /// A text, or an error.
 #[derive(Drop)]
 pub enum Event<A: Atomicity = NonAtomic> {
-    Text(StrTendril<A>),
+    Text(Tendril<UTF8, A>),
     Error(CowStr<'static>),
+}
+
+impl<A: Atomicity> Debug for Event<A> {
+    fn fmt<W: Write>(&self, f: &mut Formatter<W>) -> fmt::Result {
+        match self {
+            Event::Text(text) => f.debug_tuple("Text").field(text).finish(),
+            Event::Error(words) => f.debug_tuple("Error").field(words).finish(),
+        }
+    }
 }
 
 /// What was sent so far.
@@ -42,11 +53,20 @@ impl<A: Atomicity> Accumulate<A> {
         ensures ok { OnOk result (self.new.events.items ≡ self.old.events.items ++ event ∷ []) }
         ensures err { IfErr result (λ r. (r ≡ Refusal.Memory) × (self.new.events.items ≡ self.old.events.items)) }
     {
-        self.events.push(event).map_err(|_| Refusal::Memory)
+        self.events.push(event)?;
+        Ok(())
     }
 }
 
-impl<A: Atomicity> TendrilSink<StrTendril<A>> for Accumulate<A> {
+impl<A: Atomicity> Debug for Accumulate<A> {
+    fn fmt<W: Write>(&self, f: &mut Formatter<W>) -> fmt::Result {
+        f.debug_struct("Accumulate")
+            .field("events", &self.events)
+            .finish()
+    }
+}
+
+impl<A: Atomicity> TendrilSink<Tendril<UTF8, A>> for Accumulate<A> {
     ghost use Rattle.std.specs.Prelude.{◌≡◌, List, [], ◌∷◌, ◌++◌, OnOk, IfOk, IfErr};
     ghost use Rattle.std.specs.Cow.{cow_str_bytes};
     ghost use Rattle.tendril_block.specs.declared.refusal.Refusal.TheVariants.{Memory};
@@ -63,7 +83,7 @@ impl<A: Atomicity> TendrilSink<StrTendril<A>> for Accumulate<A> {
 
     ghost ends = { λ a r. ⊥ };
 
-    fn process(&mut self, text: StrTendril<A>) -> Result<(), Refusal>
+    fn process(&mut self, text: Tendril<UTF8, A>) -> Result<(), Refusal>
         ensures ok { OnOk result (sent self.new.events.items ≡ sent self.old.events.items ++ Piece text ∷ []) }
         ensures err { IfErr result (λ r. (r ≡ Memory) × (self.new.events.items ≡ self.old.events.items)) }
     {
@@ -87,7 +107,7 @@ impl<A: Atomicity> TendrilSink<StrTendril<A>> for Accumulate<A> {
 }
 
 /// What it was sent tells what it was told.
-impl<A: Atomicity> Tracks<StrTendril<A>> for Accumulate<A> {
+impl<A: Atomicity> Tracks<Tendril<UTF8, A>> for Accumulate<A> {
     ghost use Rattle.std.specs.Prelude.{◌≡◌};
     ghost use Rattle.tendril_stream.specs.Stored.{stored_on};
     ghost use Rattle.tendril_stream.specs.Events.{sent};

@@ -33,26 +33,12 @@ impl<R: Read + Drop> CountedRead for Counted<R> {
     ghost remaining = { λ c. R.remaining c.reader };
 
     fn read_some(&mut self, buffer: &mut [u8]) -> Result<usize, ReadFault> {
-        match self.reader.read(buffer) {
-            Ok(0) => {
-                self.log = self.log.after_end();
-                Ok(0)
-            }
-            Ok(count) => {
-                self.log = self.log.after_bytes(buffer, count);
-                Ok(count)
-            }
-            Err(error) => match fault_of(&error) {
-                ReadFault::Interrupted => {
-                    self.log = self.log.after_interrupted();
-                    Err(ReadFault::Interrupted)
-                }
-                ReadFault::Failed => {
-                    self.log = self.log.after_failed();
-                    Err(ReadFault::Failed)
-                }
-            },
-        }
+        let answer = match self.reader.read(buffer) {
+            Ok(count) => Ok(count),
+            Err(error) => Err(fault_of(&error)),
+        };
+        self.log = self.log.after(&answer, buffer);
+        answer
     }
 }
 

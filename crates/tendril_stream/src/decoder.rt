@@ -13,7 +13,8 @@ use std::borrow::CowStr;
 use std::marker::PhantomData;
 use tendril_block::Refusal;
 use tendril_lossy::Ending;
-use tendril_text::{Atomicity, ByteTendril, FEW_BEFORE, IncompleteUtf8, NonAtomic, StrTendril};
+use tendril_text::fmt::{Bytes, UTF8};
+use tendril_text::{Atomicity, IncompleteUtf8, MANY_BEFORE, NonAtomic, Tendril};
 
 const INVALID: &str = "invalid byte sequence";
 
@@ -24,7 +25,7 @@ const INCOMPLETE: &str = "incomplete byte sequence at end of stream";
 /// A call is refused with SinkRefused where the sink refuses what it is sent, whatever the sink's reason, and with Count
 /// where a piece can't be shared. After one refusal all that follow are refused with Failed.
 #[derive(Drop)]
-pub struct Utf8LossyDecoder<S: TendrilSink<StrTendril<A>>, A: Atomicity = NonAtomic> {
+pub struct Utf8LossyDecoder<S: TendrilSink<Tendril<UTF8, A>>, A: Atomicity = NonAtomic> {
     /// Where the texts go.
     pub inner_sink: S,
     alloc: Global,
@@ -33,7 +34,7 @@ pub struct Utf8LossyDecoder<S: TendrilSink<StrTendril<A>>, A: Atomicity = NonAto
     atomicity: PhantomData<A>,
 }
 
-impl<S: TendrilSink<StrTendril<A>>, A: Atomicity> Utf8LossyDecoder<S, A> {
+impl<S: TendrilSink<Tendril<UTF8, A>>, A: Atomicity> Utf8LossyDecoder<S, A> {
     ghost use Rattle.tendril_stream.specs.contracts.decoder.Utf8LossyDecoder.{the_row};
 
     /// A decoder that has read nothing.
@@ -80,7 +81,7 @@ impl<S: TendrilSink<StrTendril<A>>, A: Atomicity> Utf8LossyDecoder<S, A> {
 /// A decoder of any encoding that is here, which is UTF-8 alone.
 pub type LossyDecoder<S, A = NonAtomic> = Utf8LossyDecoder<S, A>;
 
-impl<S: TendrilSink<StrTendril<A>>, A: Atomicity> TendrilSink<ByteTendril<A>>
+impl<S: TendrilSink<Tendril<UTF8, A>>, A: Atomicity> TendrilSink<Tendril<Bytes, A>>
     for Utf8LossyDecoder<S, A> {
     ghost use Rattle.std.specs.Prelude.{◌≡◌, ◌⊎◌, true, false};
     ghost use Rattle.tendril_block.specs.declared.refusal.Refusal.TheVariants.{Failed};
@@ -100,7 +101,7 @@ impl<S: TendrilSink<StrTendril<A>>, A: Atomicity> TendrilSink<ByteTendril<A>>
     ghost ends = { λ d r. ((d.failed ≡ true) × (r ≡ Failed))
         ⊎ ((d.failed ≡ false) × EndStops S.takes S.refuses S.ends d.inner_sink d.kept r) };
 
-    fn process(&mut self, piece: ByteTendril<A>) -> Result<(), Refusal> {
+    fn process(&mut self, piece: Tendril<Bytes, A>) -> Result<(), Refusal> {
         if self.failed {
             return Err(Refusal::Failed);
         }
@@ -129,9 +130,9 @@ impl<S: TendrilSink<StrTendril<A>>, A: Atomicity> TendrilSink<ByteTendril<A>>
 }
 
 // Sends a text.
-fn send<S: TendrilSink<StrTendril<A>>, A: Atomicity>(
+fn send<S: TendrilSink<Tendril<UTF8, A>>, A: Atomicity>(
     sink: &mut S,
-    text: StrTendril<A>,
+    text: Tendril<UTF8, A>,
 ) -> Result<(), Refusal>
     ensures ok { OnOk result (S.takes sink.old (Piece text) sink.new) }
     ensures err { IfErr result (λ r. RefusesCall S.refuses sink.old (Piece text) r sink.new) }
@@ -139,20 +140,8 @@ fn send<S: TendrilSink<StrTendril<A>>, A: Atomicity>(
     sink.process(text).map_err(|_| Refusal::SinkRefused)
 }
 
-// A text of few bytes.
-fn short<A: Atomicity>(alloc: Global, text: &str) -> StrTendril<A>
-    requires { length text.now ≤ 4 }
-    ensures bytes { result.bytes ≡ text.now }
-    ensures copied { result.copied ≡ length text.now }
-{
-    match StrTendril::from_slice(alloc, text) {
-        Ok(text) => text,
-        Err(_) => unreachable!(),
-    }
-}
-
 // Sends an error, and then its replacement.
-fn replace<S: TendrilSink<StrTendril<A>>, A: Atomicity>(
+fn replace<S: TendrilSink<Tendril<UTF8, A>>, A: Atomicity>(
     sink: &mut S,
     alloc: Global,
     words: &'static str,
@@ -164,13 +153,13 @@ fn replace<S: TendrilSink<StrTendril<A>>, A: Atomicity>(
     if let Err(_) = sink.error(CowStr::Borrowed(words)) {
         return Err(Refusal::SinkRefused);
     }
-    send(sink, short(alloc, "\u{FFFD}"))
+    send(sink, Tendril::from_short_str(alloc, "\u{FFFD}"))
 }
 
 // Sends a text, if there is one.
-fn send_some<S: TendrilSink<StrTendril<A>>, A: Atomicity>(
+fn send_some<S: TendrilSink<Tendril<UTF8, A>>, A: Atomicity>(
     sink: &mut S,
-    text: Option<StrTendril<A>>,
+    text: Option<Tendril<UTF8, A>>,
 ) -> Result<(), Refusal>
     ensures ok { OnOk result (FoldsTo (λ s t u. S.takes s (Piece t) u) sink.old (listed text) sink.new) }
     ensures err { IfErr result (λ r. IsSomeAnd text (λ t. RefusesCall S.refuses sink.old (Piece t) r sink.new)) }
@@ -182,16 +171,16 @@ fn send_some<S: TendrilSink<StrTendril<A>>, A: Atomicity>(
 }
 
 // Decodes a piece where nothing is kept, and answers what is to be kept.
-fn feed_rest<S: TendrilSink<StrTendril<A>>, A: Atomicity>(
+fn feed_rest<S: TendrilSink<Tendril<UTF8, A>>, A: Atomicity>(
     sink: &mut S,
     alloc: Global,
-    mut piece: ByteTendril<A>,
+    mut piece: Tendril<Bytes, A>,
 ) -> Result<IncompleteUtf8, Refusal>
     ensures ok { IfOk result (λ k.
         Feeds S.takes piece sink.old (due_open piece.bytes) sink.new × (k ≡ kept piece.bytes)) }
     ensures err { IfErr result (λ r. Stops S.takes S.refuses piece sink.old (due_open piece.bytes) r sink.new) }
 {
-    let mut last = FEW_BEFORE;
+    let mut last = MANY_BEFORE;
     loop {
         let (text, ending) = piece.pop_text_after(last)?;
         last = match &text {
@@ -209,11 +198,11 @@ fn feed_rest<S: TendrilSink<StrTendril<A>>, A: Atomicity>(
 }
 
 // Completes what is kept, if anything is, from the front of a piece, and answers whether that was enough.
-fn resume<S: TendrilSink<StrTendril<A>>, A: Atomicity>(
+fn resume<S: TendrilSink<Tendril<UTF8, A>>, A: Atomicity>(
     sink: &mut S,
     alloc: Global,
     kept: &mut IncompleteUtf8,
-    piece: &mut ByteTendril<A>,
+    piece: &mut Tendril<Bytes, A>,
 ) -> Result<bool, Refusal>
     ensures ok { IfOk result (λ done. ResumesPiece S.takes sink.old kept.old piece.old done sink.new kept.new piece.new) }
     ensures err { IfErr result (λ r.
@@ -226,18 +215,18 @@ fn resume<S: TendrilSink<StrTendril<A>>, A: Atomicity>(
         return Ok(false);
     };
     match completed {
-        Ok(text) => send(sink, short(alloc, text.as_str()))?,
+        Ok(text) => send(sink, Tendril::from_short_str(alloc, text.as_str()))?,
         Err(_) => replace(sink, alloc, INVALID)?,
     }
     Ok(true)
 }
 
 // Decodes a piece after what is kept.
-fn feed<S: TendrilSink<StrTendril<A>>, A: Atomicity>(
+fn feed<S: TendrilSink<Tendril<UTF8, A>>, A: Atomicity>(
     sink: &mut S,
     alloc: Global,
     held: &mut IncompleteUtf8,
-    mut piece: ByteTendril<A>,
+    mut piece: Tendril<Bytes, A>,
 ) -> Result<(), Refusal>
     ensures ok { OnOk result (Feeds S.takes piece sink.old (due_open (held.old ++ piece.bytes)) sink.new
         × (held.new ≡ kept (held.old ++ piece.bytes))) }
@@ -251,7 +240,7 @@ fn feed<S: TendrilSink<StrTendril<A>>, A: Atomicity>(
 }
 
 // Tells of kept bytes in which the stream ended.
-fn flush<S: TendrilSink<StrTendril<A>>, A: Atomicity>(
+fn flush<S: TendrilSink<Tendril<UTF8, A>>, A: Atomicity>(
     sink: &mut S,
     alloc: Global,
     held: &IncompleteUtf8,

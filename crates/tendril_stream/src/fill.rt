@@ -7,7 +7,8 @@ ghost use Rattle.tendril_stream.specs.Reads.{OneRead, given};
 use crate::counted_read::{CountedRead, ReadFault};
 use crate::reading::read_into;
 use tendril_block::{MAX_LEN, Refusal};
-use tendril_text::{Atomicity, ByteTendril};
+use tendril_text::fmt::Bytes;
+use tendril_text::{Atomicity, Tendril};
 
 /// How many bytes the first read is offered.
 const FIRST: u32 = 32;
@@ -30,7 +31,7 @@ pub trait ReadExt: CountedRead {
     /// The first read is offered 32 bytes, and whenever those are filled twice as many follow, up to 65536.
     fn read_to_tendril<A: Atomicity>(
         &mut self,
-        text: &mut ByteTendril<A>,
+        text: &mut Tendril<Bytes, A>,
         most: u64,
     ) -> Result<usize, Refusal>
         ensures adds { Adds Self.history Self.remaining most self.old self.new text.old text.new result }
@@ -40,7 +41,7 @@ pub trait ReadExt: CountedRead {
 impl<R: CountedRead> ReadExt for R {
     fn read_to_tendril<A: Atomicity>(
         &mut self,
-        text: &mut ByteTendril<A>,
+        text: &mut Tendril<Bytes, A>,
         most: u64,
     ) -> Result<usize, Refusal>
         ensures adds { Adds R.history R.remaining most self.old self.new text.old text.new result }
@@ -59,7 +60,7 @@ impl<R: CountedRead> ReadExt for R {
 // room that wasn't filled.
 fn fill<A: Atomicity, R: CountedRead>(
     reader: &mut R,
-    text: &mut ByteTendril<A>,
+    text: &mut Tendril<Bytes, A>,
     most: u64,
 ) -> (u32, Result<(), Refusal>)
     ensures within { result.0 ≤ length text.new.bytes }
@@ -93,7 +94,7 @@ fn fill<A: Atomicity, R: CountedRead>(
 
 // Offers a text that is filled as many further bytes, and the next time twice as many.
 fn make_room<A: Atomicity>(
-    text: &mut ByteTendril<A>,
+    text: &mut Tendril<Bytes, A>,
     filled: u32,
     offered: &mut u32,
 ) -> Result<(), Refusal>

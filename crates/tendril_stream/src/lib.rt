@@ -20,6 +20,6 @@ pub use decoder::{LossyDecoder, Utf8LossyDecoder};
 pub use fill::ReadExt;
 pub use pieces::{decode_pieces, decode_pieces_into};
 pub use reading::{Stopped, decode_reader, from_file, read_decoded, read_from, read_once};
-pub use sink::{Streamed, TendrilSink};
+pub use sink::{StreamText, TendrilSink};
 pub use theorems::laws;
 pub use tracks::Tracks;

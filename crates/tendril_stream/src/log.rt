@@ -1,8 +1,9 @@
 //! The reads of a reader, for contracts alone. The list takes no memory, and these functions do nothing at run time.
-ghost use Rattle.std.specs.Prelude.{◌≡◌, List, [], ◌∷◌, ◌++◌, take};
+ghost use Rattle.std.specs.Prelude.{◌≡◌, List, [], ◌∷◌, ◌++◌};
 ghost use Rattle.std.specs.Borrow.{ftrue};
-ghost use Rattle.tendril_stream.specs.Reads.{OneRead, Gave, WasInterrupted, HasFailed, CameToEnd};
+ghost use Rattle.tendril_stream.specs.Reads.{OneRead, read_of};
 
+use crate::counted_read::ReadFault;
 use std::marker::Model;
 
 /// Reads, one after another, that only proofs see.
@@ -23,30 +24,9 @@ impl Log {
         Log {}
     }
 
-    /// After a read that gave so many bytes of the buffer.
-    pub(crate) fn after_bytes(&self, _buffer: &[u8], _count: usize) -> Log
-        ensures { result.reads ≡ self.now.reads ++ Gave (take _count _buffer.now) ∷ [] }
-    {
-        Log {}
-    }
-
-    /// After one that was interrupted.
-    pub(crate) fn after_interrupted(&self) -> Log
-        ensures { result.reads ≡ self.now.reads ++ WasInterrupted ∷ [] }
-    {
-        Log {}
-    }
-
-    /// After one that failed.
-    pub(crate) fn after_failed(&self) -> Log
-        ensures { result.reads ≡ self.now.reads ++ HasFailed ∷ [] }
-    {
-        Log {}
-    }
-
-    /// After one that came to the end.
-    pub(crate) fn after_end(&self) -> Log
-        ensures { result.reads ≡ self.now.reads ++ CameToEnd ∷ [] }
+    /// After a read that gave this answer, and left the buffer so.
+    pub(crate) fn after(&self, _answer: &Result<usize, ReadFault>, _buffer: &[u8]) -> Log
+        ensures { result.reads ≡ self.now.reads ++ read_of _answer.now _buffer.now ∷ [] }
     {
         Log {}
     }

@@ -13,10 +13,11 @@ use crate::sink::TendrilSink;
 use crate::tracks::Tracks;
 use std::alloc::Global;
 use tendril_block::Refusal;
-use tendril_text::{Atomicity, ByteTendril, StrTendril};
+use tendril_text::fmt::{Bytes, UTF8};
+use tendril_text::{Atomicity, Tendril};
 
 /// Decodes pieces to a list of texts and errors.
-pub fn decode_pieces<A: Atomicity, I: IntoIterator<Item = ByteTendril<A>>>(
+pub fn decode_pieces<A: Atomicity, I: IntoIterator<Item = Tendril<Bytes, A>>>(
     alloc: Global,
     pieces: I,
 ) -> Result<Vec<Event<A>>, Refusal>
@@ -25,8 +26,8 @@ pub fn decode_pieces<A: Atomicity, I: IntoIterator<Item = ByteTendril<A>>>(
         × I.into_iter_gives pieces it × YieldsThen I.IntoIter.next_gives it read None end
         × (told (sent events.items) ≡ due (flat_map (λ p. p.bytes) read))) }
     ensures refusal { IfErr result (λ r. PiecesStop I.into_iter_gives I.IntoIter.next_gives
-        ⟦<Accumulate<A> as TendrilSink<StrTendril<A>>>⟧.takes ⟦<Accumulate<A> as TendrilSink<StrTendril<A>>>⟧.refuses
-        ⟦<Accumulate<A> as TendrilSink<StrTendril<A>>>⟧.ends ⟦<Accumulate<A> as Tracks<StrTendril<A>>>⟧.after pieces r) }
+        ⟦<Accumulate<A> as TendrilSink<Tendril<UTF8, A>>>⟧.takes ⟦<Accumulate<A> as TendrilSink<Tendril<UTF8, A>>>⟧.refuses
+        ⟦<Accumulate<A> as TendrilSink<Tendril<UTF8, A>>>⟧.ends ⟦<Accumulate<A> as Tracks<Tendril<UTF8, A>>>⟧.after pieces r) }
 {
     decode_pieces_into(alloc, Accumulate::new(alloc), pieces)
 }
@@ -34,8 +35,8 @@ pub fn decode_pieces<A: Atomicity, I: IntoIterator<Item = ByteTendril<A>>>(
 /// Decodes pieces into a sink, and ends the stream.
 pub fn decode_pieces_into<
     A: Atomicity,
-    S: Tracks<StrTendril<A>>,
-    I: IntoIterator<Item = ByteTendril<A>>,
+    S: Tracks<Tendril<UTF8, A>>,
+    I: IntoIterator<Item = Tendril<Bytes, A>>,
 >(alloc: Global, sink: S, pieces: I) -> Result<S::Output, Refusal>
     requires new { S.after sink [] }
     requires finite { IsFiniteIterable I.into_iter_gives I.IntoIter.can_next I.IntoIter.remaining pieces }

@@ -15,9 +15,12 @@ use crate::decoder::Utf8LossyDecoder;
 use crate::sink::TendrilSink;
 use crate::tracks::Tracks;
 use std::alloc::Global;
+use std::error::Error;
+use std::fmt;
 use std::fs::{self, Files};
 use tendril_block::Refusal;
-use tendril_text::{Atomicity, ByteTendril, StrTendril};
+use tendril_text::fmt::{Bytes, UTF8};
+use tendril_text::{Atomicity, ByteTendril, Tendril};
 
 /// How many bytes each read is offered.
 const PIECE: u32 = 4096;
@@ -29,12 +32,37 @@ pub struct Stopped<S> {
     pub sink: Option<S>,
 }
 
+/// Prints the refusal.
+impl<S: Drop> fmt::Display for Stopped<S> {
+    fn fmt<W: fmt::Write>(&self, f: &mut fmt::Formatter<W>) -> fmt::Result {
+        write!(f, "{}", self.refusal)
+    }
+}
+
+/// Prints the refusal, whatever the sink is.
+impl<S: Drop> fmt::Debug for Stopped<S> {
+    fn fmt<W: fmt::Write>(&self, f: &mut fmt::Formatter<W>) -> fmt::Result {
+        f.debug_tuple("Stopped").field(&self.refusal).finish()
+    }
+}
+
+impl<S: Drop> Error for Stopped<S> {}
+
+/// Why reading stopped, so that `?` passes it up. The sink is dropped.
+impl<S: Drop> From<Stopped<S>> for Refusal {
+    ghost from_gives = { λ stopped refusal. refusal ≡ stopped.refusal };
+
+    fn from(stopped: Stopped<S>) -> Self {
+        stopped.refusal
+    }
+}
+
 /// Reads to the end, and gives the sink each part that is read, of at most 4096 bytes. At most so many reads are made,
 /// interrupted ones among them.
 ///
 /// The sink isn't finished where reading stops before the end, and comes back. A failed read is Io, the end not reached
 /// within so many reads TooManyReads, no memory for a part Memory; what the sink refuses is answered as it says it.
-pub fn read_from<A: Atomicity, S: TendrilSink<ByteTendril<A>>, R: CountedRead>(
+pub fn read_from<A: Atomicity, S: TendrilSink<Tendril<Bytes, A>>, R: CountedRead>(
     alloc: Global,
     mut sink: S,
     reader: &mut R,
@@ -75,7 +103,7 @@ pub fn read_from<A: Atomicity, S: TendrilSink<ByteTendril<A>>, R: CountedRead>(
 
 /// Reads once, and gives the sink what is read, which is at most 4096 bytes. It answers whether the end came, which the
 /// sink isn't told; of an interrupted read it hears nothing either.
-pub fn read_once<A: Atomicity, S: TendrilSink<ByteTendril<A>>, R: CountedRead>(
+pub fn read_once<A: Atomicity, S: TendrilSink<Tendril<Bytes, A>>, R: CountedRead>(
     alloc: Global,
     sink: &mut S,
     reader: &mut R,
@@ -97,7 +125,7 @@ pub fn read_once<A: Atomicity, S: TendrilSink<ByteTendril<A>>, R: CountedRead>(
 /// Reads a file to its end into a sink, as `read_from` does.
 ///
 /// A file that can't be opened is refused as Io, as is a folder, of which no read succeeds.
-pub fn from_file<A: Atomicity, S: TendrilSink<ByteTendril<A>>, F: Files>(
+pub fn from_file<A: Atomicity, S: TendrilSink<Tendril<Bytes, A>>, F: Files>(
     files: &F,
     alloc: Global,
     sink: S,
@@ -133,9 +161,9 @@ pub fn decode_reader<A: Atomicity, R: CountedRead>(
         × (IsOfReading s.refusal → StopsBetween most these s.refusal
         × ((d : _) × (s.sink ≡ Some d) × (d.failed ≡ false)
         × StandsAt (λ a t. told (sent a.events.items) ≡ t) d.inner_sink d.kept (given these)))
-        × (IsOfReading s.refusal ⊎ StreamStops ⟦<Accumulate<A> as TendrilSink<StrTendril<A>>>⟧.takes
-        ⟦<Accumulate<A> as TendrilSink<StrTendril<A>>>⟧.refuses ⟦<Accumulate<A> as TendrilSink<StrTendril<A>>>⟧.ends
-        ⟦<Accumulate<A> as Tracks<StrTendril<A>>>⟧.after (λ d. d.inner_sink) (λ d. d.failed) most these s.refusal s.sink)) }
+        × (IsOfReading s.refusal ⊎ StreamStops ⟦<Accumulate<A> as TendrilSink<Tendril<UTF8, A>>>⟧.takes
+        ⟦<Accumulate<A> as TendrilSink<Tendril<UTF8, A>>>⟧.refuses ⟦<Accumulate<A> as TendrilSink<Tendril<UTF8, A>>>⟧.ends
+        ⟦<Accumulate<A> as Tracks<Tendril<UTF8, A>>>⟧.after (λ d. d.inner_sink) (λ d. d.failed) most these s.refusal s.sink)) }
 {
     let decoder = Utf8LossyDecoder::new(alloc, Accumulate::new(alloc));
     read_decoded(alloc, decoder, reader, most)
@@ -143,7 +171,7 @@ pub fn decode_reader<A: Atomicity, R: CountedRead>(
 
 /// Reads to the end through a decoder: `read_from`, for callers whose sink names a lifetime, as `Accumulate` does, and at
 /// which the borrow checker passes no decoder to `read_from` itself.
-pub fn read_decoded<A: Atomicity, S: TendrilSink<StrTendril<A>>, R: CountedRead>(
+pub fn read_decoded<A: Atomicity, S: TendrilSink<Tendril<UTF8, A>>, R: CountedRead>(
     alloc: Global,
     decoder: Utf8LossyDecoder<S, A>,
     reader: &mut R,
@@ -151,12 +179,12 @@ pub fn read_decoded<A: Atomicity, S: TendrilSink<StrTendril<A>>, R: CountedRead>
 ) -> Result<S::Output, Stopped<Utf8LossyDecoder<S, A>>>
     ensures ok { IfOk result (λ out. (these : List OneRead) × MakesReads R.history R.remaining reader.old these reader.new
         × IsAtEnd (R.remaining reader.new)
-        × ReadsAll ⟦<Utf8LossyDecoder<S, A> as TendrilSink<ByteTendril<A>>>⟧.takes
-        ⟦<Utf8LossyDecoder<S, A> as TendrilSink<ByteTendril<A>>>⟧.finishes most decoder these out) }
+        × ReadsAll ⟦<Utf8LossyDecoder<S, A> as TendrilSink<Tendril<Bytes, A>>>⟧.takes
+        ⟦<Utf8LossyDecoder<S, A> as TendrilSink<Tendril<Bytes, A>>>⟧.finishes most decoder these out) }
     ensures stopped { IfErr result (λ s. (these : List OneRead) × MakesReads R.history R.remaining reader.old these reader.new
-        × Halts ⟦<Utf8LossyDecoder<S, A> as TendrilSink<ByteTendril<A>>>⟧.takes
-        ⟦<Utf8LossyDecoder<S, A> as TendrilSink<ByteTendril<A>>>⟧.refuses
-        ⟦<Utf8LossyDecoder<S, A> as TendrilSink<ByteTendril<A>>>⟧.ends most decoder these s.refusal s.sink) }
+        × Halts ⟦<Utf8LossyDecoder<S, A> as TendrilSink<Tendril<Bytes, A>>>⟧.takes
+        ⟦<Utf8LossyDecoder<S, A> as TendrilSink<Tendril<Bytes, A>>>⟧.refuses
+        ⟦<Utf8LossyDecoder<S, A> as TendrilSink<Tendril<Bytes, A>>>⟧.ends most decoder these s.refusal s.sink) }
 {
     read_from(alloc, decoder, reader, most)
 }
@@ -164,7 +192,7 @@ pub fn read_decoded<A: Atomicity, S: TendrilSink<StrTendril<A>>, R: CountedRead>
 // What a read came to.
 #[derive(Drop)]
 enum Part<A: Atomicity> {
-    Bytes(ByteTendril<A>),
+    Bytes(Tendril<Bytes, A>),
     Interrupted,
     End,
 }
@@ -180,7 +208,7 @@ fn read_part<A: Atomicity, R: CountedRead>(
         ((r ≡ Refusal.Memory) × (reader.new ≡ reader.old))
         ⊎ ((r ≡ Refusal.Io) × MakesReads R.history R.remaining reader.old (HasFailed ∷ []) reader.new)) }
 {
-    let mut piece = ByteTendril::new(alloc);
+    let mut piece = Tendril::<Bytes, A>::new(alloc);
     piece.push_uninitialized(PIECE)?;
     match read_into(reader, &mut piece, 0)? {
         Ok(0) => Ok(Part::End),
@@ -196,7 +224,7 @@ fn read_part<A: Atomicity, R: CountedRead>(
 // Reads once into the bytes of a text from `start` on, if they aren't shared or there is memory to copy them.
 pub(crate) fn read_into<A: Atomicity, R: CountedRead>(
     reader: &mut R,
-    text: &mut ByteTendril<A>,
+    text: &mut Tendril<Bytes, A>,
     start: usize,
 ) -> Result<Result<usize, ReadFault>, Refusal>
     requires { start ≤ length text.old.bytes }

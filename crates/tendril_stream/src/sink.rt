@@ -5,28 +5,19 @@ use tendril_block::Refusal;
 use tendril_text::{Atomicity, Format, Tendril};
 
 /// A text that a sink may take: a `Tendril` in any format, over any kind of block.
-pub trait Streamed: Drop {
-    ghost use Rattle.std.specs.Prelude.{◌≡◌, length};
+pub trait StreamText: Drop {
     ghost use Rattle.tendril_text.specs.Texts.{Text};
 
     /// The text, as contracts see it.
     ghost text: { Self → Text };
-
-    /// How many bytes it has.
-    fn len32(&self) -> u32
-        ensures { result ≡ length (Text.bytes (text self.now)) };
 }
 
-impl<F: Format, A: Atomicity> Streamed for Tendril<F, A> {
+impl<F: Format, A: Atomicity> StreamText for Tendril<F, A> {
     ghost text = { λ t. t };
-
-    fn len32(&self) -> u32 {
-        Tendril::len32(self)
-    }
 }
 
 /// What takes a stream of texts and errors.
-pub trait TendrilSink<T: Streamed>: Drop {
+pub trait TendrilSink<T: StreamText>: Drop {
     ghost use Rattle.std.specs.Prelude.{◌≡◌, ◌⊎◌, List, Option, Some, None, IfOk, IfErr, OnOk};
     ghost use Rattle.std.specs.Cow.{cow_str_bytes};
     ghost use Rattle.std.specs.List.{FoldsTo};

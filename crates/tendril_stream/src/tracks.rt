@@ -1,9 +1,9 @@
 //! Sinks whose state is known by what they were told.
 
-use crate::sink::{Streamed, TendrilSink};
+use crate::sink::{StreamText, TendrilSink};
 
 /// A sink whose state is known by the characters and marks that it was told.
-pub trait Tracks<T: Streamed>: TendrilSink<T> {
+pub trait Tracks<T: StreamText>: TendrilSink<T> {
     ghost use Rattle.std.specs.Prelude.{List};
     ghost use Rattle.tendril_lossy.specs.Lossy.{Told};
     ghost use Rattle.tendril_stream.specs.Compositions.{FollowsCalls};

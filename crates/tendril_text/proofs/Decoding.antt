@@ -20,7 +20,7 @@ use Rattle.tendril_lossy.specs.Lossy.{Item, Keep, Bad, Cut, Char, IsLossy, IsOpe
 use Rattle.tendril_lossy.specs.declared.search.Ending.{Ending}
 use Rattle.tendril_lossy.specs.declared.search.Ending.TheVariants.{Whole, Broken, Open}
 use Rattle.tendril_text.specs.Decoding.{BothShare, LongPieceMay, DecodesPiece, IsHandedOn, IsRest, HandsOn, HandsOnUpTo, Hands, Leaves, PopsText, broken_len, bytes_of, listed}
-use Rattle.tendril_storage.specs.Partings.{IsParted}
+use Rattle.tendril_storage.specs.Partings.{IsFewTaken, IsParted}
 use Rattle.tendril_storage.specs.Texts.{Text, IsPart, Keeps}
 
 -- what is left of what is left
@@ -111,6 +111,33 @@ popped old mid new front ending text p within taken end part =
         let h = subst (IsLossy (drop (length front) old.bytes)) items (IsLossy-lossy (drop (length front) old.bytes)) in
         let is = rest ∙ none in
         (ap (λ l. Cut l ∷ []) (sym is), subst (λ l. 0 < length l) (sym is) h.0, subst IsOpen (sym is) h.2)
+
+-- few bytes of text and the broken ones after them are taken off a long text at once
+pub few_popped : (old new t : Text) (front : List ℕ) (k : ℕ) (text : Option Text) → IsFirstPart old.bytes front (Broken k) → EndsWithin old.bytes (length front) (Broken k) → IsFewTaken (length front) k old t new
+    → ((length front ≡ 0) × (text ≡ None)) ⊎ ((0 < length front) × (text ≡ Some t)) → PopsText old text (Broken k) new
+few_popped old new t front k text p within few is =
+    let count = length front in
+    let mid : Text = record { bytes = drop count old.bytes; copied = old.copied } in
+    let many = few.many in
+    let few_bytes = few.few in
+    let inside : count ≤ length old.bytes = omega (arith, many) in
+    let len : length t.bytes ≡ count = ap length few.front_bytes ∙ length-take-le count old.bytes inside in
+    let left : length mid.bytes ≡ length old.bytes - count = length-drop count old.bytes in
+    let handed : 0 < count → IsHandedOn old t = λ some. record {
+      some = omega (arith, len, some);
+      text = subst IsUtf8 (p.front_is ∙ sym few.front_bytes) p.text;
+      within = λ long. omega (arith, len, few_bytes, long);
+      part = (λ long. absurd (omega (arith, len, few_bytes, long)), λ short. omega (arith, few.front_copied, few_bytes));
+    } in
+    let rest : IsRest old mid = inr (λ long. inr refl, λ short. absurd (omega (arith, left, many, short))) in
+    let taken : TakesText count old text mid = record {
+      front = ⊎_elim (λ h. ap bytes_of h.1 ∙ ap (λ n. take n old.bytes) (sym h.0)) (λ h. ap bytes_of h.1 ∙ few.front_bytes) is;
+      handed = ⊎_elim (λ h. subst (λ o. IfSome o (IsHandedOn old)) (sym h.1) tt) (λ h. subst (λ o. IfSome o (IsHandedOn old)) (sym h.1) (handed h.0)) is;
+      rest = refl;
+      part = rest;
+    } in
+    let end : new.bytes ≡ drop k mid.bytes = few.rest_bytes ∙ sym (drop-drop k count old.bytes) in
+    popped old mid new front (Broken k) text p within taken end (inr (λ long. inr few.rest_copied, λ short. absurd (omega (arith, ap length few.rest_bytes, length-drop (count + k) old.bytes, many, short))))
 
 -- where the first text and the rest are both long, a broken sequence stands between them
 pub both_share : (b front : List ℕ) (ending : Ending) → IsFirstPart b front ending → 8 < length front → 8 + length front < length b → BothShare b

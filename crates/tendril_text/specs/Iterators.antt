@@ -4,6 +4,7 @@ use Rattle.std.specs.Prelude.{
   ◌≡◌,
   ◌+◌,
   ◌⊎◌,
+  ◌++◌,
   Bool,
   true,
   false,
@@ -23,7 +24,7 @@ use Rattle.tendril_block.specs.declared.refusal.Refusal.TheVariants.{Count}
 use Rattle.tendril_storage.specs.Texts.{Text, Keeps, Parts}
 use Rattle.tendril_text.specs.declared.search.SetResult.{SetResult}
 use Rattle.tendril_text.specs.Characters.{AsksLongRun, AsksRun}
-use Rattle.tendril_text.specs.Search.{HasLongPartBefore, TakesPart}
+use Rattle.tendril_text.specs.Search.{HasLongPartBefore, TakesPart, part_bytes}
 
 -- what is left of a text once a character is asked of it: the text, where none came, or a pop of it
 abbrev pub IsLeftBy : Option ℕ → Text → Text → Type 0
@@ -64,5 +65,6 @@ module _ {F A B : _} (chars : List ℕ → List ℕ) (encoding : ℕ → List �
   NextPart text refused None rest then = IsOver text refused rest then
   NextPart text refused (Some (Ok part)) rest then =
       PartComes refused then × TakesPart chars encoding set text part rest
+      × (text.bytes ≡ part_bytes encoding part ++ rest.bytes)
   NextPart text refused (Some (Err r)) rest then =
       IsRefusedNow text refused rest then × HasLongPartBefore set text.bytes r

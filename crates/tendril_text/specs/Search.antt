@@ -66,3 +66,9 @@ module _ {F A B : _} (chars : List ℕ → List ℕ) (encoding : ℕ → List �
       Passes set old.bytes 0 × (old.bytes ≡ encoding c ++ new.bytes) × (chars old.bytes ≡ c ∷ chars new.bytes)
       × Keeps old new
   TakesPart old (NotFromSet front) new = PartsBefore set old front new
+
+-- the bytes of what was taken off a text
+module _ {F A B : _} (encoding : ℕ → List ℕ) where
+  abbrev pub part_bytes : SetResult F A B → List ℕ
+  part_bytes (FromSet c) = encoding c
+  part_bytes (NotFromSet front) = front.bytes

@@ -45,6 +45,7 @@ impl<F: CharFormat, A: Atomicity> Tendril<F, A> {
         requires { C.IsAlwaysCallable classify }
         ensures run { IfOk result (λ found. IfSome found (λ run.
             IsRun C.step R.eq F.valid F.chars classify run.1 self.old.bytes run.0.bytes self.new.bytes)) }
+        ensures joined { IfOk result (λ found. IfSome found (λ run. self.old.bytes ≡ run.0.bytes ++ self.new.bytes)) }
         ensures copied { IfOk result (λ found. IfSome found (λ run. Parts self.old run.0 self.new)) }
         ensures shorter { IfOk result (λ found. OnSome found (length self.new.bytes < length self.old.bytes)) }
         ensures none { IfOk result (λ found. IfNone found ((self.old.bytes ≡ []) × (self.new ≡ self.old))) }
@@ -64,6 +65,7 @@ impl<F: CharFormat, A: Atomicity> Tendril<F, A> {
         requires { C.IsAlwaysCallable classify.old }
         ensures run { IfOk result (λ found. IfSome found (λ run. AsksRun C.step R.eq F.valid F.chars
             classify.old run.1 self.old.bytes run.0.bytes self.new.bytes classify.new)) }
+        ensures joined { IfOk result (λ found. IfSome found (λ run. self.old.bytes ≡ run.0.bytes ++ self.new.bytes)) }
         ensures copied { IfOk result (λ found. IfSome found (λ run. Parts self.old run.0 self.new)) }
         ensures shorter { IfOk result (λ found. OnSome found (length self.new.bytes < length self.old.bytes)) }
         ensures none { IfOk result (λ found. IfNone found
@@ -98,7 +100,7 @@ impl<A: Atomicity> Tendril<UTF8, A> {
         ensures bytes { IfOk result (λ t. t.bytes ≡ encode_utf8 character) }
         ensures copied { IfOk result (λ t. t.copied ≤ 8) }
     {
-        let mut text = Tendril::new(alloc);
+        let mut text: Self = Tendril::new(alloc);
         text.push_char(character)?;
         Ok(text)
     }

@@ -6,6 +6,7 @@ ghost use Rattle.std.specs.Iterator.{IsFinite, IsFiniteIterable};
 ghost use Rattle.tendril_fmt.specs.Chars.{one_byte};
 ghost use Rattle.tendril_text.specs.Items.{Extends, Makes, TakesItems, appended, joined};
 
+mod collect;
 mod pushable;
 
 use crate::items::pushable::Pushable;
@@ -79,7 +80,7 @@ impl<F: Format, A: Atomicity> Tendril<F, A> {
         requires { IsFiniteIterable I.into_iter_gives I.IntoIter.can_next I.IntoIter.remaining items }
         ensures { Makes I.into_iter_gives I.IntoIter.next_gives I.Item.bytes (joined I.Item.bytes F.join) items result }
     {
-        let mut text = Tendril::new(alloc);
+        let mut text: Self = Tendril::new(alloc);
         text.extend_with(items)?;
         Ok(text)
     }

@@ -19,7 +19,7 @@ pub use crate::search::SetResult;
 pub use crate::tendril::{
     ByteTendril, SendTendril, StrTendril, Tendril, slice_to_tendril, str_to_tendril,
 };
-pub use crate::utf8_decode::{FEW_BEFORE, Handed, IncompleteUtf8};
+pub use crate::utf8_decode::{FEW_BEFORE, Handed, IncompleteUtf8, MANY_BEFORE};
 pub use crate::view::View;
 pub use tendril_block as block;
 pub use tendril_block::{Atomic, Atomicity, NonAtomic};

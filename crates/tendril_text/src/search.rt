@@ -3,11 +3,12 @@ ghost use Rattle.std.specs.Prelude.{◌≡◌, ◌<◌, ◌≤◌, ◌↔◌, �
 ghost use Rattle.memchr.specs.Find.{IsFirstByte, is_byte};
 ghost use Rattle.tendril_fmt.specs.Parts.{IsFrontOf};
 ghost use Rattle.tendril_storage.specs.Texts.{Keeps};
-ghost use Rattle.tendril_text.specs.Search.{has_byte, EndsBefore, PartsBefore, BeginsWithOne, HasLongPartBefore, TakesPart};
+ghost use Rattle.tendril_text.specs.Search.{has_byte, EndsBefore, PartsBefore, BeginsWithOne, HasLongPartBefore, TakesPart, part_bytes};
 
 use crate::byte_set::ByteSet;
 use crate::tendril::Tendril;
 use memchr::memchr;
+use std::fmt::{self, Debug, Formatter, Write};
 use tendril_block::{Atomicity, NonAtomic, Refusal};
 use tendril_fmt::fmt::{CharFormat, CutsAtAscii, Format, UTF8};
 
@@ -38,6 +39,18 @@ pub enum SetResult<F: Format, A: Atomicity = NonAtomic> {
     NotFromSet(Tendril<F, A>),
 }
 
+impl<F: Format, A: Atomicity> Debug for SetResult<F, A>
+where
+    Tendril<F, A>: Debug,
+{
+    fn fmt<W: Write>(&self, f: &mut Formatter<W>) -> fmt::Result {
+        match self {
+            SetResult::FromSet(character) => f.debug_tuple("FromSet").field(character).finish(),
+            SetResult::NotFromSet(front) => f.debug_tuple("NotFromSet").field(front).finish(),
+        }
+    }
+}
+
 impl<F: CutsAtAscii, A: Atomicity> Tendril<F, A> {
     /// Takes the bytes before the first one of the set, or all where there is none, out of the text. Answers `None`
     /// where the text is empty or begins with a byte of the set.
@@ -46,6 +59,7 @@ impl<F: CutsAtAscii, A: Atomicity> Tendril<F, A> {
     pub fn pop_front_until(&mut self, set: &ByteSet) -> Result<Option<Self>, Refusal>
         ensures front { IfOk result (λ found. IfSome found (λ front.
             PartsBefore (has_byte set.now) self.old front self.new)) }
+        ensures joined { IfOk result (λ found. IfSome found (λ front. self.old.bytes ≡ front.bytes ++ self.new.bytes)) }
         ensures shorter { IfOk result (λ found. OnSome found (length self.new.bytes < length self.old.bytes)) }
         ensures none { IfOk result (λ found. IfNone found
             (BeginsWithOne (has_byte set.now) self.old.bytes × (self.new ≡ self.old))) }
@@ -67,6 +81,8 @@ impl<F: CharFormat + CutsAtAscii, A: Atomicity> Tendril<F, A> {
     pub fn pop_except_from(&mut self, set: &ByteSet) -> Result<Option<SetResult<F, A>>, Refusal>
         ensures part { IfOk result (λ found. IfSome found (λ part.
             TakesPart F.chars F.encoding (has_byte set.now) self.old part self.new)) }
+        ensures joined { IfOk result (λ found. IfSome found (λ part.
+            self.old.bytes ≡ part_bytes F.encoding part ++ self.new.bytes)) }
         ensures shorter { IfOk result (λ found. OnSome found (length self.new.bytes < length self.old.bytes)) }
         ensures none { IfOk result (λ found. IfNone found ((self.old.bytes ≡ []) × (self.new ≡ self.old))) }
         ensures refusal { IfErr result (HasLongPartBefore (has_byte set.now) self.old.bytes) }
@@ -83,15 +99,18 @@ impl<F: CharFormat + CutsAtAscii, A: Atomicity> Tendril<F, A> {
 }
 
 impl<A: Atomicity> Tendril<UTF8, A> {
-    /// Whether the text begins with this one.
+    /// Whether the text begins with the prefix. `str::starts_with` takes a character or a closure too:
+    /// `text.as_str().starts_with('<')`.
     pub fn starts_with(&self, prefix: &str) -> bool
         ensures { IsTrue result ↔ IsFrontOf prefix.now self.now.bytes }
     {
         begins_with(self.as_byte_slice(), prefix)
     }
 
-    /// Drops the front of the text where it is this one, and answers whether it is. Takes no memory and adds no holder.
-    pub fn strip_prefix(&mut self, prefix: &str) -> bool
+    /// Drops the prefix from the front of the text, and returns whether the text began with it. Never allocates.
+    ///
+    /// `str::strip_prefix` changes nothing: it returns what follows the prefix.
+    pub fn skip_prefix(&mut self, prefix: &str) -> bool
         ensures yes { IsTrue result → self.old.bytes ≡ prefix.now ++ self.new.bytes }
         ensures copied { IsTrue result → Keeps self.old self.new }
         ensures no { IsFalse result → IsFrontOf prefix.now self.old.bytes → ⊥ }

@@ -17,6 +17,7 @@ mod write;
 pub(crate) use make::share;
 pub use make::{slice_to_tendril, str_to_tendril};
 pub(crate) use part::try_part;
+pub(crate) use print::debug;
 pub use send::SendTendril;
 use std::marker::{Model, PhantomData};
 use tendril_block::{Atomicity, NonAtomic};
@@ -32,11 +33,11 @@ pub struct Tendril<F: Format, A: Atomicity = NonAtomic> {
     format: PhantomData<F>,
 }
 
-/// A text of any bytes.
-pub type ByteTendril<A = NonAtomic> = Tendril<Bytes, A>;
+/// A text of any bytes, over `NonAtomic` blocks.
+pub type ByteTendril = Tendril<Bytes>;
 
-/// A text in UTF-8.
-pub type StrTendril<A = NonAtomic> = Tendril<UTF8, A>;
+/// A text in UTF-8, over `NonAtomic` blocks. Over `Atomic` ones it is `Tendril<UTF8, Atomic>`.
+pub type StrTendril = Tendril<UTF8>;
 
 impl<F: Format, A: Atomicity> Model for Tendril<F, A> {
     ghost use Rattle.tendril_storage.specs.Texts.{Text};

@@ -2,7 +2,7 @@
 //!
 //! Broken bytes are replaced by U+FFFD, one for each maximal subpart (Unicode, chapter 3, 'U+FFFD Substitution of Maximal
 //! Subparts'), as std's `from_utf8_lossy` and the WHATWG Encoding Standard do it.
-ghost use Rattle.std.specs.Prelude.{◌≡◌, ◌<◌, ◌≤◌, [], length, IfSome, IfNone, OnSome, IfOk, IfErr, OnOk, OnErr, MatchOption, MatchResult};
+ghost use Rattle.std.specs.Prelude.{◌≡◌, ◌<◌, ◌≤◌, [], length, drop, IfSome, IfNone, OnSome, IfOk, IfErr, OnOk, OnErr, MatchOption, MatchResult};
 ghost use Rattle.tendril_text.specs.Decoding.{DecodesPiece, Hands, HandsCompleted, HandsOnUpTo, IsRest, LongPieceMay, PopsText, listed};
 ghost use Rattle.tendril_block.specs.Outcomes.{NoneMust, Outcome};
 ghost use Rattle.tendril_lossy.specs.Completions.{BreaksAt, CompletesTo, StillOpen};
@@ -15,8 +15,11 @@ use tendril_block::{Atomicity, Refusal};
 use tendril_fmt::fmt::{Bytes, Encoded, Format, UTF8};
 use tendril_lossy::{Completion, Ending, ShortText, complete, first_part_by};
 
-/// So few bytes of text before a broken sequence let another one be expected near.
+/// After fewer bytes of text than this between two broken sequences, the next one is expected near.
 pub const FEW_BEFORE: u32 = 16;
+
+/// After this many bytes of text, as at the start of a piece, no broken sequence is expected near.
+pub const MANY_BEFORE: u32 = 1024;
 
 const REPLACEMENT: &str = "\u{FFFD}";
 
@@ -260,7 +263,7 @@ impl<A: Atomicity> Tendril<Bytes, A> {
             HandsOnUpTo (λ p t u q. P.step p (⟦<Tendril<UTF8, A> as Handed<T>>⟧.handed t) u q)
             push_utf8.old self.old self.new push_utf8.new) }
     {
-        let mut last = FEW_BEFORE;
+        let mut last = MANY_BEFORE;
         loop {
             let (text, ending) = self.pop_text_after(last)?;
             last = match &text {
@@ -291,8 +294,9 @@ impl<A: Atomicity> Tendril<Bytes, A> {
         self.pop_text_after(FEW_BEFORE)
     }
 
-    /// The same behind a broken sequence that stood behind so many bytes of text. Where they were few, the next broken
-    /// sequence is looked for among few bytes first.
+    /// `pop_text` in a loop: `last` is how many bytes of text were before the last broken sequence, or `MANY_BEFORE` at the
+    /// start. After few the next one is looked for among few bytes first, after many among many. It changes the time alone.
+    #[inline(always)]
     pub fn pop_text_after(
         &mut self,
         last: u32,
@@ -300,20 +304,50 @@ impl<A: Atomicity> Tendril<Bytes, A> {
         ensures { Outcome NoneMust (LongPieceMay self.old.bytes)
             (λ found new. PopsText self.old found.0 found.1 new) self.old result self.new }
     {
-        let window = if last < FEW_BEFORE { 16 } else { 128 };
-        let (front, ending) = first_part_by(self.as_byte_slice(), window);
-        let text = match front.len() {
+        let (front, ending) = first_part_by(self.as_byte_slice(), first_window(last));
+        let count = front.len() as u32;
+        if let Ending::Broken(len) = ending {
+            // What most broken bytes find.
+            if let Some(text) = self.take_few_text(count, len as u32) {
+                let text = if count == 0 { None } else { Some(text) };
+                return Ok((text, ending));
+            }
+        }
+        let text = match count {
             0 => None,
             count => {
-                let text = self.take_front(count as u32)?;
+                let text = self.take_front(count)?;
                 Some(text.reinterpret_without_validating())
             }
         };
         match ending {
-            Ending::Broken(len) => self.pop_front(len as u32),
+            Ending::Broken(len) => self.skip(len as u32),
             Ending::Whole | Ending::Open => {}
         }
         Ok((text, ending))
+    }
+
+    // Drops the first `count` bytes. What is left of bytes are bytes.
+    #[inline(always)]
+    fn skip(&mut self, count: u32)
+        requires { count ≤ length self.old.bytes }
+        ensures bytes { self.new.bytes ≡ drop count self.old.bytes }
+        ensures copied { Keeps self.old self.new }
+    {
+        let _bytes = self.as_byte_slice();
+        self.pop_front(count);
+    }
+}
+
+// How many bytes are looked at first for a fault, after so many bytes of text before the last one.
+#[inline(always)]
+fn first_window(last: u32) -> usize
+    ensures { 4 ≤ result }
+{
+    match last {
+        0..FEW_BEFORE => 16,
+        FEW_BEFORE..MANY_BEFORE => 128,
+        _ => 1024,
     }
 }
 

@@ -3,10 +3,11 @@ ghost use Rattle.std.specs.Prelude.{◌≡◌, ◌<◌, ◌≤◌, ◌+◌, leng
 ghost use Rattle.tendril_text.specs.Parts.{Clones, SlicesValid};
 
 use crate::error::SubtendrilError;
-use crate::tendril::{Tendril, share, try_part};
+use crate::tendril::{Tendril, debug, share, try_part};
+use std::fmt::{self, Debug, Formatter, Write};
 use std::marker::{Model, PhantomData};
 use tendril_block::{Atomicity, MAX_LEN, Refusal};
-use tendril_fmt::fmt::{Format, UTF8};
+use tendril_fmt::fmt::{Bytes, Format, UTF8};
 use tendril_storage::Storage;
 
 /// A text that is lent and seen in the format `F`, in which it is valid. It stands for a reference to a text in `F`.
@@ -76,5 +77,19 @@ impl<'a, A: Atomicity> View<'a, UTF8, A> {
         ensures { result.now ≡ self.now.bytes }
     {
         unsafe { str::from_utf8_unchecked(self.as_byte_slice()) }
+    }
+}
+
+/// Prints the text as `Tendril` does.
+impl<'a, A: Atomicity> Debug for View<'a, UTF8, A> {
+    fn fmt<W: Write>(&self, f: &mut Formatter<W>) -> fmt::Result {
+        debug::<UTF8, A, &str, W>(self.storage, &self.as_str(), f)
+    }
+}
+
+/// Prints the text as `Tendril` does.
+impl<'a, A: Atomicity> Debug for View<'a, Bytes, A> {
+    fn fmt<W: Write>(&self, f: &mut Formatter<W>) -> fmt::Result {
+        debug::<Bytes, A, &[u8], W>(self.storage, &self.as_byte_slice(), f)
     }
 }

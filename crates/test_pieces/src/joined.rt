@@ -5,18 +5,19 @@ use std::borrow::CowStr;
 use std::fs::Files;
 use tendril_block::{Atomicity, Refusal};
 use tendril_stream::{TendrilSink, Utf8LossyDecoder, from_file};
-use tendril_text::StrTendril;
+use tendril_text::fmt::UTF8;
+use tendril_text::{StrTendril, Tendril};
 
 /// A sink that joins the texts.
 #[derive(Drop)]
 pub struct Joined<A: Atomicity> {
-    text: StrTendril<A>,
+    text: Tendril<UTF8, A>,
 }
 
-impl<A: Atomicity> TendrilSink<StrTendril<A>> for Joined<A> {
-    type Output = StrTendril<A>;
+impl<A: Atomicity> TendrilSink<Tendril<UTF8, A>> for Joined<A> {
+    type Output = Tendril<UTF8, A>;
 
-    fn process(&mut self, text: StrTendril<A>) -> Result<(), Refusal> {
+    fn process(&mut self, text: Tendril<UTF8, A>) -> Result<(), Refusal> {
         self.text.push_tendril(&text)
     }
 
@@ -24,7 +25,7 @@ impl<A: Atomicity> TendrilSink<StrTendril<A>> for Joined<A> {
         Ok(())
     }
 
-    fn finish(self) -> Result<StrTendril<A>, Refusal> {
+    fn finish(self) -> Result<Tendril<UTF8, A>, Refusal> {
         Ok(self.text)
     }
 }
@@ -35,10 +36,10 @@ pub fn text_of_file<A: Atomicity>(
     alloc: Global,
     path: &str,
     most: u64,
-) -> Result<StrTendril<A>, Refusal> {
+) -> Result<Tendril<UTF8, A>, Refusal> {
     let sink = Joined {
-        text: StrTendril::new(alloc),
+        text: Tendril::new(alloc),
     };
     let decoder: Utf8LossyDecoder<Joined<A>, A> = Utf8LossyDecoder::new(alloc, sink);
-    from_file(files, alloc, decoder, path, most).map_err(|stopped| stopped.refusal)
+    Ok(from_file(files, alloc, decoder, path, most)?)
 }

@@ -6,12 +6,13 @@ use std::cell::Cell;
 use std::rc::Rc;
 use tendril_block::{Atomicity, Refusal};
 use tendril_stream::TendrilSink;
-use tendril_text::StrTendril;
+use tendril_text::Tendril;
+use tendril_text::fmt::UTF8;
 
 /// What the sink was sent by one call.
 #[derive(Drop)]
 pub enum Sent<A: Atomicity> {
-    Text(StrTendril<A>),
+    Text(Tendril<UTF8, A>),
     Error(Words),
 }
 
@@ -98,10 +99,10 @@ impl<A: Atomicity> Recorder<A> {
     }
 }
 
-impl<A: Atomicity> TendrilSink<StrTendril<A>> for Recorder<A> {
+impl<A: Atomicity> TendrilSink<Tendril<UTF8, A>> for Recorder<A> {
     type Output = Vec<Sent<A>>;
 
-    fn process(&mut self, text: StrTendril<A>) -> Result<(), Refusal> {
+    fn process(&mut self, text: Tendril<UTF8, A>) -> Result<(), Refusal> {
         self.call()?;
         self.push(Sent::Text(text))
     }

@@ -5,7 +5,8 @@ use crate::words::{FEW, Hex};
 use std::alloc::{AllocError, Global};
 use std::fmt::Display;
 use tendril_block::{Atomicity, Refusal};
-use tendril_text::StrTendril;
+use tendril_text::Tendril;
+use tendril_text::fmt::UTF8;
 
 // Bytes for the longest reply, so that no reply allocates and a row that is out of memory has done nothing that a second
 // call would do again.
@@ -58,7 +59,7 @@ impl Reply {
     }
 
     /// Adds a text as a string, or as bytes where it has many, and whether it shares a block.
-    pub fn text<A: Atomicity>(&mut self, text: &StrTendril<A>) -> Result<(), Refusal> {
+    pub fn text<A: Atomicity>(&mut self, text: &Tendril<UTF8, A>) -> Result<(), Refusal> {
         let shared = if text.is_shared() { " shared" } else { "" };
         let string = text.as_str();
         if string.len() > FEW {

@@ -44,7 +44,8 @@ use tendril_stream::{
     Counted, Event, ReadExt, Stopped, TendrilSink, Utf8LossyDecoder, decode_pieces, decode_reader,
     read_decoded,
 };
-use tendril_text::{ByteTendril, IncompleteUtf8, StrTendril, slice_to_tendril};
+use tendril_text::fmt::{Bytes, UTF8};
+use tendril_text::{ByteTendril, IncompleteUtf8, Tendril};
 
 // How many texts a session can keep that `decode_utf8_lossy` hands on.
 const TEXTS: usize = 16;
@@ -62,14 +63,14 @@ pub struct Stream<A: Atomicity> {
     printed: usize,
     calls: Rc<Cell<Calls>>,
     script: Script,
-    text: ByteTendril<A>,
-    clones: Vec<ByteTendril<A>>,
-    texts: Vec<StrTendril<A>>,
+    text: Tendril<Bytes, A>,
+    clones: Vec<Tendril<Bytes, A>>,
+    texts: Vec<Tendril<UTF8, A>>,
 }
 
 impl<A: Atomicity> Stream<A> {
     pub fn new(alloc: Global) -> Result<Self, Refusal> {
-        let calls = Rc::new(alloc, Cell::new(Calls::NONE)).map_err(|_| Refusal::Memory)?;
+        let calls = Rc::new(alloc, Cell::new(Calls::NONE))?;
         let recorder = Recorder::new(alloc, calls.clone()?);
         Ok(Stream {
             alloc,
@@ -78,7 +79,7 @@ impl<A: Atomicity> Stream<A> {
             printed: 0,
             calls,
             script: Script::new(alloc),
-            text: ByteTendril::new(alloc),
+            text: Tendril::new(alloc),
             clones: Vec::new(alloc),
             texts: Vec::new(alloc),
         })
@@ -113,7 +114,7 @@ impl<A: Atomicity> Stream<A> {
     fn answer_word(&mut self, verb: &str, reply: &mut Reply) -> Result<(), Refusal> {
         match verb {
             "send" => {
-                let piece = mem::replace(&mut self.text, ByteTendril::new(self.alloc));
+                let piece = mem::replace(&mut self.text, Tendril::new(self.alloc));
                 self.process(piece, reply)
             }
             "error" => self.error(reply),
@@ -146,11 +147,11 @@ impl<A: Atomicity> Stream<A> {
         };
         match verb {
             "piece" => {
-                let piece = slice_to_tendril(self.alloc, bytes.as_slice())?;
+                let piece = Tendril::<Bytes, A>::from_slice(self.alloc, bytes.as_slice())?;
                 self.process(piece, reply)
             }
             "text" => {
-                self.text = slice_to_tendril(self.alloc, bytes.as_slice())?;
+                self.text = Tendril::<Bytes, A>::from_slice(self.alloc, bytes.as_slice())?;
                 reply.item("ok")
             }
             "give" => self.step(Step::Give(bytes), reply),
@@ -174,7 +175,7 @@ impl<A: Atomicity> Stream<A> {
         }
     }
 
-    fn process(&mut self, piece: ByteTendril<A>, reply: &mut Reply) -> Result<(), Refusal> {
+    fn process(&mut self, piece: Tendril<Bytes, A>, reply: &mut Reply) -> Result<(), Refusal> {
         let Some(decoder) = &mut self.decoder else {
             return reply.item("no decoder");
         };
@@ -227,7 +228,7 @@ impl<A: Atomicity> Stream<A> {
         let Some(mut decoder) = self.decoder.take() else {
             return true;
         };
-        let processed = decoder.process(ByteTendril::new(self.alloc));
+        let processed = decoder.process(Tendril::new(self.alloc));
         let passed = decoder.error(CowStr::Borrowed("noise"));
         let ended = decoder.finish().err();
         processed == Err(Refusal::Failed)
@@ -305,8 +306,8 @@ impl<A: Atomicity> Stream<A> {
             let Some(bytes) = read_bytes(self.alloc, word)? else {
                 return reply.item("malformed");
             };
-            let piece: ByteTendril<A> = slice_to_tendril(self.alloc, bytes.as_slice())?;
-            pieces.push(piece).map_err(|_| Refusal::Memory)?;
+            let piece = Tendril::<Bytes, A>::from_slice(self.alloc, bytes.as_slice())?;
+            pieces.push(piece)?;
         }
         match decode_pieces(self.alloc, pieces) {
             Ok(events) => print_events(&events, reply),
@@ -340,7 +341,7 @@ impl<A: Atomicity> Stream<A> {
         self.clones.reserve(count as usize)?;
         for _ in 0..count {
             match self.text.clone() {
-                Ok(clone) => self.clones.push(clone).map_err(|_| Refusal::Memory)?,
+                Ok(clone) => self.clones.push(clone)?,
                 Err(refusal) => return reply.refusal(refusal),
             }
         }
@@ -363,11 +364,11 @@ impl<A: Atomicity> Stream<A> {
 
     fn lossy(&mut self, reply: &mut Reply) -> Result<(), Refusal> {
         self.texts.reserve(TEXTS)?;
-        let text = mem::replace(&mut self.text, ByteTendril::new(self.alloc));
+        let text = mem::replace(&mut self.text, Tendril::new(self.alloc));
         let mut texts = mem::replace(&mut self.texts, Vec::new(self.alloc));
         let before = texts.len();
         let mut is_full = false;
-        let answer = text.decode_utf8_lossy(|text: StrTendril<A>| {
+        let answer = text.decode_utf8_lossy(|text: Tendril<UTF8, A>| {
             is_full = texts.push(text).is_err() || is_full;
         });
         for text in texts.iter().skip(before) {
@@ -381,16 +382,18 @@ impl<A: Atomicity> Stream<A> {
     }
 
     fn lossy_dropping(&mut self, reply: &mut Reply) -> Result<(), Refusal> {
-        let text = mem::replace(&mut self.text, ByteTendril::new(self.alloc));
+        let text = mem::replace(&mut self.text, Tendril::new(self.alloc));
         let mut count = 0u32;
-        let answer = text.decode_utf8_lossy(|_text: StrTendril<A>| count = count.saturating_add(1));
+        let answer = text.decode_utf8_lossy(|_text: Tendril<UTF8, A>| count = count.saturating_add(
+            1,
+        ));
         reply.item(format_args!("{count} texts"))?;
         self.lossy_answer(answer, reply)
     }
 
     fn lossy_answer(
         &mut self,
-        answer: Result<Option<IncompleteUtf8>, (Refusal, ByteTendril<A>)>,
+        answer: Result<Option<IncompleteUtf8>, (Refusal, Tendril<Bytes, A>)>,
         reply: &mut Reply,
     ) -> Result<(), Refusal> {
         match answer {
@@ -428,9 +431,9 @@ impl<A: Atomicity> Stream<A> {
         reply: &mut Reply,
     ) -> Result<(), Refusal> {
         let mut held = held;
-        let piece = slice_to_tendril(self.alloc, input)?;
+        let piece = Tendril::<Bytes, A>::from_slice(self.alloc, input)?;
         let mut outcome = Ok(());
-        let answer = held.try_complete(piece, |text: StrTendril<A>| {
+        let answer = held.try_complete(piece, |text: Tendril<UTF8, A>| {
             outcome = reply.text(&text);
         });
         outcome?;

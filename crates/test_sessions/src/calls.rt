@@ -29,7 +29,8 @@ use std::alloc::Global;
 use std::fmt::Display;
 use tendril_block::{Atomicity, Refusal};
 use tendril_run::{Slot, Table};
-use tendril_text::{ByteSet, ByteTendril, StrTendril};
+use tendril_text::fmt::{Bytes, UTF8};
+use tendril_text::{ByteSet, Tendril};
 
 /// The reply to a line over a call, `None` where it is none. A refusal but that of memory is a reply.
 pub fn reply<A: Atomicity>(
@@ -120,7 +121,7 @@ fn strings_of(alloc: Global, words: &str) -> Result<Vec<&str>, Refusal> {
     Ok(strings)
 }
 
-fn str_text<A: Atomicity>(table: &Table<A>, number: usize) -> Result<&StrTendril<A>, Refusal> {
+fn str_text<A: Atomicity>(table: &Table<A>, number: usize) -> Result<&Tendril<UTF8, A>, Refusal> {
     match table.slot(number) {
         Some(Slot::Utf8(text)) => Ok(text),
         Some(Slot::Gone) | None => Err(Refusal::NoSuchSlot),
@@ -128,7 +129,7 @@ fn str_text<A: Atomicity>(table: &Table<A>, number: usize) -> Result<&StrTendril
     }
 }
 
-fn byte_text<A: Atomicity>(table: &Table<A>, number: usize) -> Result<&ByteTendril<A>, Refusal> {
+fn byte_text<A: Atomicity>(table: &Table<A>, number: usize) -> Result<&Tendril<Bytes, A>, Refusal> {
     match table.slot(number) {
         Some(Slot::Bytes(text)) => Ok(text),
         Some(Slot::Gone) | None => Err(Refusal::NoSuchSlot),

@@ -13,7 +13,8 @@ use rope::{Rope, RopeTable, decode_rope};
 use std::alloc::Global;
 use tendril_block::{Atomicity, Refusal};
 use tendril_lines::{Reply, print_reply};
-use tendril_text::{ByteTendril, slice_to_tendril};
+use tendril_text::Tendril;
+use tendril_text::fmt::Bytes;
 use tendril_words::bytes;
 
 /// The reply to such a line, `None` where it is another one.
@@ -86,11 +87,11 @@ fn split<A: Atomicity>(
 }
 
 fn decode<A: Atomicity>(alloc: Global, words: &str) -> Result<String, Refusal> {
-    let mut given: Vec<ByteTendril<A>> = Vec::new(alloc);
+    let mut given: Vec<Tendril<Bytes, A>> = Vec::new(alloc);
     for word in words.split(' ') {
         let piece = bytes(alloc, word.as_bytes())?.ok_or(Refusal::Invalid)?;
-        let piece = slice_to_tendril(alloc, piece.as_slice())?;
-        given.push(piece).map_err(|_| Refusal::Memory)?;
+        let piece = Tendril::<Bytes, A>::from_slice(alloc, piece.as_slice())?;
+        given.push(piece)?;
     }
     match decode_rope(alloc, given) {
         Ok(rope) => pieces(alloc, &rope),

@@ -3,7 +3,8 @@
 use std::alloc::{AllocError, Global};
 use tendril_block::{Atomicity, Refusal};
 use tendril_run::{Slot, Table};
-use tendril_text::{ByteTendril, Tendril};
+use tendril_text::Tendril;
+use tendril_text::fmt::Bytes;
 
 /// The first letter of a slot's format, `-` for a dropped slot, and its bytes.
 pub fn text_of<A: Atomicity>(slot: &Slot<A>) -> (u8, &[u8]) {
@@ -34,8 +35,8 @@ pub fn filled<A: Atomicity>(
     alloc: Global,
     byte: u8,
     count: u32,
-) -> Result<ByteTendril<A>, Refusal> {
-    let mut text: ByteTendril<A> = Tendril::new(alloc);
+) -> Result<Tendril<Bytes, A>, Refusal> {
+    let mut text: Tendril<Bytes, A> = Tendril::new(alloc);
     text.push_uninitialized(count)?;
     text.bytes_mut(|bytes: &mut [u8]| bytes.fill(byte))?;
     Ok(text)
@@ -59,12 +60,12 @@ pub fn write_slots<A: Atomicity>(table: &Table<A>, notes: &mut Vec<u8>) -> Resul
 /// Makes clones of a text and holds them all. How many of them are equal to it.
 pub fn equal_clones<A: Atomicity>(
     alloc: Global,
-    text: &ByteTendril<A>,
+    text: &Tendril<Bytes, A>,
     count: u32,
 ) -> Result<usize, Refusal> {
     let mut clones = Vec::new(alloc);
     for _ in 0..count {
-        clones.push(text.clone()?).map_err(|_| Refusal::Memory)?;
+        clones.push(text.clone()?)?;
     }
     Ok(clones.iter().filter(|clone| *clone == text).count())
 }

@@ -16,9 +16,7 @@ pub fn split_lines(alloc: Global, mut text: StrTendril) -> Result<Vec<StrTendril
     let mut lines = Vec::new(alloc);
     'lines: while !text.is_empty() {
         let line = pop_line(alloc, &mut text, &feed)?;
-        if lines.push(line).is_err() {
-            return Err(Refusal::Memory);
-        }
+        lines.push(line)?;
     }
     Ok(lines)
 }
@@ -33,6 +31,6 @@ fn pop_line(alloc: Global, text: &mut StrTendril, feed: &ByteSet) -> Result<StrT
         Some(line) => line,
         None => StrTendril::new(alloc),
     };
-    text.strip_prefix("\n");
+    text.skip_prefix("\n");
     Ok(line)
 }

@@ -1,28 +1,26 @@
 //! Reads a file into a rope, and prints how long it is and how it begins.
 #![tactic(auto)]
 
+use anyhow::Context;
 use rope::{Rope, rope_from_file};
 use std::process::ExitCode;
 use std::{env, io};
 
-/// How many characters are printed, where the first line has so many.
+/// How many characters are printed, where the first line has that many.
 const SHOWN: usize = 60;
 
-fn main(rt: HostRuntime) -> io::Result<ExitCode> {
+fn main(rt: HostRuntime) -> anyhow::Result<ExitCode> {
     let Some(path) = env::args(&rt)?.nth(1) else {
         eprintln!(rt; "usage: use_rope FILE")?;
         return Ok(ExitCode::from(2));
     };
-    match rope_from_file(&rt, rt.alloc(), path.as_str(), u64::MAX) {
-        Ok(rope) => describe(&rt, rope),
-        Err(stopped) => {
-            eprintln!(rt; "use_rope: {}", stopped.refusal)?;
-            Ok(ExitCode::FAILURE)
-        }
-    }
+    let path = path.as_str();
+    let rope = rope_from_file(&rt, rt.alloc(), path, u64::MAX).context(path)?;
+    describe(&rt, rope)?;
+    Ok(ExitCode::SUCCESS)
 }
 
-fn describe(rt: &HostRuntime, mut rope: Rope) -> io::Result<ExitCode> {
+fn describe(rt: &HostRuntime, mut rope: Rope) -> io::Result<()> {
     println!(rt; "{} bytes in {} pieces", rope.len64(), rope.piece_count())?;
     let mut line = String::new(rt.alloc());
     for _ in 0..SHOWN {
@@ -32,5 +30,5 @@ fn describe(rt: &HostRuntime, mut rope: Rope) -> io::Result<ExitCode> {
         }
     }
     println!(rt; "{line}")?;
-    Ok(ExitCode::SUCCESS)
+    Ok(())
 }

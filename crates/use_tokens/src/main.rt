@@ -10,9 +10,9 @@ mod token;
 mod tokenize;
 mod tokenizer;
 
+use anyhow::Context;
 use print::print_tokens;
-use std::process::ExitCode;
-use tendril::block::Refusal;
+use std::io::{self, BufWriter, Write};
 use tendril::stream::Counted;
 use token::Token;
 use tokenize::tokenize;
@@ -20,25 +20,14 @@ use tokenize::tokenize;
 /// How many reads are made at most.
 const MOST_READS: u64 = 1_000_000_000;
 
-fn main(rt: HostRuntime) -> ExitCode {
-    match run(&rt) {
-        Ok(()) => ExitCode::SUCCESS,
-        Err(refusal) => {
-            let _ = eprintln!(rt; "use_tokens: refused {refusal}");
-            ExitCode::FAILURE
-        }
-    }
-}
-
-fn run(rt: &HostRuntime) -> Result<(), Refusal> {
-    let tokens: Vec<Token> = Vec::new(rt.alloc());
-    match tokenize(
-        rt.alloc(),
-        tokens,
-        &mut Counted::new(rt.stdin()),
-        MOST_READS,
-    ) {
-        Ok(tokens) => print_tokens(&mut rt.stdout(), tokens.as_slice()).map_err(|_| Refusal::Io),
-        Err(stopped) => Err(stopped.refusal),
-    }
+fn main(rt: HostRuntime) -> anyhow::Result<()> {
+    let alloc = rt.alloc();
+    let tokens: Vec<Token> = Vec::new(alloc);
+    let mut input = Counted::new(rt.stdin());
+    let tokens = tokenize(alloc, tokens, &mut input, MOST_READS).context("standard input")?;
+    // `rt.stdout()` has no buffer: each write to it is a call of the system.
+    let mut out = BufWriter::new(alloc, io::writer(&rt))?;
+    print_tokens(&mut out, tokens.as_slice())?;
+    out.flush()?;
+    Ok(())
 }

@@ -31,7 +31,8 @@ impl TokenSink for Kept {
         if self.tokens.len() >= self.most {
             return Err(Refusal::OutOfBounds);
         }
-        self.tokens.push(token).map_err(|_| Refusal::Memory)
+        self.tokens.push(token)?;
+        Ok(())
     }
 }
 

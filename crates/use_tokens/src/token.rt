@@ -49,6 +49,7 @@ impl TokenSink for Vec<Token> {
     ghost tokens = { λ v. v.items };
 
     fn process_token(&mut self, token: Token) -> Result<(), Refusal> {
-        self.push(token).map_err(|_| Refusal::Memory)
+        self.push(token)?;
+        Ok(())
     }
 }

@@ -182,11 +182,11 @@ impl<K: TokenSink> Tokenizer<K> {
     // The kind of a tag.
     fn tag(&self, source: &StrTendril, self_closing: bool) -> Result<Kind, Refusal> {
         let mut inside = source.clone()?;
-        if inside.strip_prefix("</") {
+        if inside.skip_prefix("</") {
             let name = self.name(inside)?;
             return Ok(Kind::EndTag { name });
         }
-        inside.strip_prefix("<");
+        inside.skip_prefix("<");
         let name = self.name(inside)?;
         Ok(Kind::StartTag { name, self_closing })
     }

@@ -7,7 +7,8 @@ ghost use Rattle.tendril_text.specs.Texts.{Text};
 
 use crate::rope::Rope;
 use std::collections::vec_deque::Iter;
-use tendril_text::{Atomicity, StrTendril};
+use tendril_text::fmt::UTF8;
+use tendril_text::{Atomicity, Tendril};
 
 impl<A: Atomicity> Rope<A> {
     /// Whether there are no bytes, and so no pieces.
@@ -26,7 +27,7 @@ impl<A: Atomicity> Rope<A> {
     }
 
     /// The piece of a number, which is less than `piece_count`.
-    pub fn piece(&self, index: usize) -> &StrTendril<A>
+    pub fn piece(&self, index: usize) -> &Tendril<UTF8, A>
         requires { index < length self.now.pieces }
         ensures { result.now ≡ piece_at self.now.pieces index }
     {
@@ -34,7 +35,7 @@ impl<A: Atomicity> Rope<A> {
     }
 
     /// The pieces, in order, to be written out without a copy.
-    pub fn pieces(&self) -> Iter<'_, StrTendril<A>>
+    pub fn pieces(&self) -> Iter<'_, Tendril<UTF8, A>>
         ensures bytes { bytes_of_all self.now.pieces ≡ self.now.bytes }
         ensures each { All IsPiece self.now.pieces }
         ensures rest { deque_iter_rest result ≡ self.now.pieces }

@@ -7,7 +7,8 @@ ghost use Rattle.rope_text.specs.Ropes.{bytes_of_all, piece_at, IsPiece};
 use crate::rope::Rope;
 use std::collections::VecDeque;
 use tendril_text::block::Refusal;
-use tendril_text::{Atomicity, StrTendril};
+use tendril_text::fmt::UTF8;
+use tendril_text::{Atomicity, Tendril};
 
 impl<A: Atomicity> Rope<A> {
     /// The part of so many bytes from the offset on, where it is there and UTF-8. Its pieces share the bytes of this
@@ -42,7 +43,7 @@ impl<A: Atomicity> Rope<A> {
 
 // The part of so many bytes from a place in a piece on, which is there and UTF-8.
 fn share<A: Atomicity>(
-    pieces: &VecDeque<StrTendril<A>>,
+    pieces: &VecDeque<Tendril<UTF8, A>>,
     first: usize,
     from: u32,
     count: u64,

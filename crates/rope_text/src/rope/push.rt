@@ -6,12 +6,16 @@ ghost use Rattle.rope_text.specs.Growth.{Grows, piece_of, without_back};
 use crate::rope::Rope;
 use std::collections::VecDeque;
 use tendril_text::block::Refusal;
-use tendril_text::{Atomicity, StrTendril};
+use tendril_text::fmt::UTF8;
+use tendril_text::{Atomicity, Tendril};
 
 impl<A: Atomicity> Rope<A> {
     /// Puts a text at the end, in amortized constant time. An empty text adds no piece. Where it is refused the text
     /// comes back.
-    pub fn push_tendril(&mut self, text: StrTendril<A>) -> Result<(), (Refusal, StrTendril<A>)>
+    pub fn push_tendril(
+        &mut self,
+        text: Tendril<UTF8, A>,
+    ) -> Result<(), (Refusal, Tendril<UTF8, A>)>
         ensures grows { Grows text.bytes (piece_of text) self.old (without_back result) self.new }
         ensures back { IfErr result (λ e. e.1 ≡ text) }
     {

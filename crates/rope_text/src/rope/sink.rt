@@ -5,9 +5,10 @@ use crate::rope::Rope;
 use std::borrow::CowStr;
 use tendril_stream::{TendrilSink, Tracks};
 use tendril_text::block::Refusal;
-use tendril_text::{Atomicity, StrTendril};
+use tendril_text::fmt::UTF8;
+use tendril_text::{Atomicity, Tendril};
 
-impl<A: Atomicity> TendrilSink<StrTendril<A>> for Rope<A> {
+impl<A: Atomicity> TendrilSink<Tendril<UTF8, A>> for Rope<A> {
     ghost use Rattle.std.specs.Prelude.{◌≡◌};
     ghost use Rattle.rope_text.specs.Sink.{TakesSent, RefusesSent};
 
@@ -21,7 +22,7 @@ impl<A: Atomicity> TendrilSink<StrTendril<A>> for Rope<A> {
 
     ghost ends = { λ a r. ⊥ };
 
-    fn process(&mut self, text: StrTendril<A>) -> Result<(), Refusal> {
+    fn process(&mut self, text: Tendril<UTF8, A>) -> Result<(), Refusal> {
         match self.push_tendril(text) {
             Ok(()) => Ok(()),
             Err((refusal, _)) => Err(refusal),
@@ -38,7 +39,7 @@ impl<A: Atomicity> TendrilSink<StrTendril<A>> for Rope<A> {
 }
 
 /// A rope that was empty has the characters that it was told, without the marks.
-impl<A: Atomicity> Tracks<StrTendril<A>> for Rope<A> {
+impl<A: Atomicity> Tracks<Tendril<UTF8, A>> for Rope<A> {
     ghost use Rattle.rope_text.specs.Sink.{HasCharacters, goes_on_by};
 
     ghost after = { HasCharacters };

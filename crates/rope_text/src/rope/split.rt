@@ -11,7 +11,8 @@ use crate::rope::Rope;
 use std::alloc::Global;
 use std::collections::VecDeque;
 use tendril_text::block::Refusal;
-use tendril_text::{Atomicity, StrTendril, SubtendrilError};
+use tendril_text::fmt::UTF8;
+use tendril_text::{Atomicity, StrTendril, SubtendrilError, Tendril};
 
 impl<A: Atomicity> Rope<A> {
     /// Takes the first `count` bytes out as a rope, where there are so many and they are UTF-8. Whole pieces move, and
@@ -98,17 +99,17 @@ impl<A: Atomicity> Rope<A> {
 // The first bytes of the piece of a number, or no bytes behind the last piece.
 fn front_at<A: Atomicity>(
     alloc: Global,
-    pieces: &VecDeque<StrTendril<A>>,
+    pieces: &VecDeque<Tendril<UTF8, A>>,
     index: usize,
     count: u32,
-) -> Result<StrTendril<A>, SubtendrilError>
+) -> Result<Tendril<UTF8, A>, SubtendrilError>
     requires within { count ≤ length (piece_at pieces.now.items index).bytes }
     requires valid { IsUtf8 (take count (piece_at pieces.now.items index).bytes) }
     ensures { Slices (piece_at pieces.now.items index).bytes 0 count result }
 {
     match pieces.get(index) {
         Some(piece) => piece.subtendril(0, count),
-        None => Ok(StrTendril::new(alloc)),
+        None => Ok(Tendril::new(alloc)),
     }
 }
 

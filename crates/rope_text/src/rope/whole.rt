@@ -4,14 +4,15 @@ ghost use Rattle.tendril_text.specs.Making.{MakesText};
 
 use crate::rope::Rope;
 use tendril_text::block::{MAX_LEN, Refusal};
-use tendril_text::{Atomicity, StrTendril};
+use tendril_text::fmt::UTF8;
+use tendril_text::{Atomicity, StrTendril, Tendril};
 
 /// A text of so many bytes takes no memory.
 const SHORT: u64 = 8;
 
 impl<A: Atomicity> Rope<A> {
     /// The bytes as one text, where they are at most 4294967295. They are copied once.
-    pub fn to_tendril(&self) -> Result<StrTendril<A>, Refusal>
+    pub fn to_tendril(&self) -> Result<Tendril<UTF8, A>, Refusal>
         ensures { MakesText self.now.bytes result }
     {
         if self.total > MAX_LEN as u64 {
@@ -21,7 +22,7 @@ impl<A: Atomicity> Rope<A> {
             return self.to_short();
         }
         let string = self.to_string_value()?;
-        StrTendril::from_string(*self.pieces.allocator(), string)
+        Tendril::<UTF8, A>::from_string(*self.pieces.allocator(), string)
     }
 
     /// The bytes as a string of its own. They are copied.
@@ -42,7 +43,7 @@ impl<A: Atomicity> Rope<A> {
     }
 
     // A text of few bytes, which stands inline.
-    fn to_short(&self) -> Result<StrTendril<A>, Refusal>
+    fn to_short(&self) -> Result<Tendril<UTF8, A>, Refusal>
         requires { length self.now.bytes ≤ 8 }
         ensures { MakesText self.now.bytes result }
     {
@@ -53,6 +54,9 @@ impl<A: Atomicity> Rope<A> {
             bytes[at..at + rest.len()].copy_from_slice(rest);
             at += rest.len();
         }
-        StrTendril::from_byte_slice_without_validating(*self.pieces.allocator(), &bytes[..at])
+        Tendril::<UTF8, A>::from_byte_slice_without_validating(
+            *self.pieces.allocator(),
+            &bytes[..at],
+        )
     }
 }

@@ -4,8 +4,8 @@ ghost use Rattle.tendril_text.specs.Making.{IsTextOf, MakesText, MakesValidText}
 ghost use Rattle.tendril_text.specs.Parts.{Clones};
 ghost use Rattle.tendril_block.specs.Outcomes.{NoneMust, MemoryMay, Gives};
 
-use crate::tendril::Tendril;
-use std::alloc::Global;
+use crate::tendril::{ByteTendril, StrTendril, Tendril};
+use std::alloc::{AllocError, Global};
 use std::default::MadeWith;
 use std::marker::PhantomData;
 use tendril_block::{Atomicity, MAX_LEN, Refusal};
@@ -65,15 +65,27 @@ impl<F: Format, A: Atomicity> Tendril<F, A> {
         share(&self.storage)
     }
 
-    /// A text of few bytes, with the allocator of this one. It stands inline.
+    // A text of at most 8 bytes, with the allocator of this one.
+    #[inline(always)]
     pub(crate) fn short(&self, text: &str) -> Tendril<UTF8, A>
         requires { length text.now ≤ 8 }
         ensures bytes { result.bytes ≡ text.now }
         ensures copied { result.copied ≡ length text.now }
     {
-        Tendril {
-            storage: Storage::inline(self.storage.allocator(), text.as_bytes()),
-            format: PhantomData,
+        Tendril::from_short_str(self.storage.allocator(), text)
+    }
+}
+
+/// `Tendril::clone` for derives and generic code, which call std's `Clone`. A full count is std's error, as it is of an `Rc`.
+impl<F: Format, A: Atomicity> Clone for Tendril<F, A> {
+    ghost use Rattle.tendril_text.specs.Parts.{IsShareOf};
+
+    ghost is_clone = { λ t copy. IsShareOf t.bytes copy };
+
+    fn clone(&self) -> Result<Self, AllocError> {
+        match Tendril::clone(self) {
+            Ok(text) => Ok(text),
+            Err(_) => Err(AllocError),
         }
     }
 }
@@ -103,6 +115,19 @@ impl<A: Atomicity> Tendril<UTF8, A> {
         Self::from_byte_slice_without_validating(alloc, text.as_bytes())
     }
 
+    /// A text of at most 8 bytes. Never allocates; of a literal it is one word.
+    #[inline(always)]
+    pub fn from_short_str(alloc: Global, text: &str) -> Self
+        requires { length text.now ≤ 8 }
+        ensures bytes { result.bytes ≡ text.now }
+        ensures copied { result.copied ≡ length text.now }
+    {
+        Tendril {
+            storage: Storage::few(alloc, text.as_bytes()),
+            format: PhantomData,
+        }
+    }
+
     /// The text of a string that is handed over. The bytes of a long one stay where they are, and so does the room
     /// behind them.
     pub fn from_string(alloc: Global, string: String) -> Result<Self, Refusal>
@@ -125,21 +150,18 @@ impl<A: Atomicity> Tendril<UTF8, A> {
     }
 }
 
-/// A text of a string, in the atomicity that is asked for.
-pub fn str_to_tendril<A: Atomicity>(alloc: Global, text: &str) -> Result<Tendril<UTF8, A>, Refusal>
+/// A text of a string, over `NonAtomic` blocks.
+pub fn str_to_tendril(alloc: Global, text: &str) -> Result<StrTendril, Refusal>
     ensures { MakesText text.now result }
 {
-    Tendril::<UTF8, A>::from_slice(alloc, text)
+    StrTendril::from_slice(alloc, text)
 }
 
-/// A text of bytes, in the atomicity that is asked for.
-pub fn slice_to_tendril<A: Atomicity>(
-    alloc: Global,
-    bytes: &[u8],
-) -> Result<Tendril<Bytes, A>, Refusal>
+/// A text of bytes, over `NonAtomic` blocks.
+pub fn slice_to_tendril(alloc: Global, bytes: &[u8]) -> Result<ByteTendril, Refusal>
     ensures { MakesText bytes.now result }
 {
-    Tendril::<Bytes, A>::from_slice(alloc, bytes)
+    ByteTendril::from_slice(alloc, bytes)
 }
 
 /// A text of stored bytes, which are valid in the format. Long ones are shared.

@@ -1,5 +1,6 @@
 //! Parts of texts: slices that are given, and pops that leave the rest.
-ghost use Rattle.std.specs.Prelude.{◌≡◌, ◌<◌, ◌≤◌, ◌+◌, ◌-◌, ◌↔◌, [], length, take, drop, IsTrue};
+ghost use Rattle.std.specs.Prelude.{◌≡◌, ◌<◌, ◌≤◌, ◌+◌, ◌-◌, ◌↔◌, ◌++◌, [], length, take, drop, IfOk, IsTrue, IsUtf8};
+ghost use Rattle.tendril_storage.specs.Partings.{TakesFew};
 ghost use Rattle.tendril_text.specs.Parts.{Slices, SlicesValid, PopsValid, Splits, SplitsValid};
 
 use crate::error::SubtendrilError;
@@ -7,7 +8,7 @@ use crate::tendril::Tendril;
 use std::marker::PhantomData;
 use std::mem;
 use tendril_block::{Atomicity, Refusal};
-use tendril_fmt::fmt::Format;
+use tendril_fmt::fmt::{Bytes, Format, UTF8};
 use tendril_storage::Storage;
 
 impl<F: Format, A: Atomicity> Tendril<F, A> {
@@ -117,7 +118,8 @@ impl<F: Format, A: Atomicity> Tendril<F, A> {
     /// Takes the first `count` bytes out of the text, where both parts are valid in the format. Two long parts share the
     /// text's bytes; where either has at most 8 no holder is added.
     pub fn try_split_to(&mut self, count: u32) -> Result<Self, SubtendrilError>
-        ensures { SplitsValid F.valid count self.old result self.new }
+        ensures parts { SplitsValid F.valid count self.old result self.new }
+        ensures joined { IfOk result (λ front. self.old.bytes ≡ front.bytes ++ self.new.bytes) }
     {
         let text = self.as_byte_slice();
         if text.len() < count as usize {
@@ -134,7 +136,8 @@ impl<F: Format, A: Atomicity> Tendril<F, A> {
         requires within { count ≤ length self.old.bytes }
         requires front_valid { F.valid (take count self.old.bytes) }
         requires rest_valid { F.valid (drop count self.old.bytes) }
-        ensures { Splits count self.old result self.new }
+        ensures parts { Splits count self.old result self.new }
+        ensures joined { IfOk result (λ front. self.old.bytes ≡ front.bytes ++ self.new.bytes) }
     {
         match self.take_front(count) {
             Ok(front) => Ok(front),
@@ -161,6 +164,23 @@ impl<F: Format, A: Atomicity> Tendril<F, A> {
     {
         Ok(Tendril {
             storage: self.storage.take_front(count)?,
+            format: PhantomData,
+        })
+    }
+}
+
+impl<A: Atomicity> Tendril<Bytes, A> {
+    // Takes the first bytes, which are text, out of a long text, and drops the `skip` bytes after them: where they are few, and
+    // many are left then. Else it returns `None`, and nothing is changed.
+    #[inline(always)]
+    pub(crate) fn take_few_text(&mut self, count: u32, skip: u32) -> Option<Tendril<UTF8, A>>
+        requires within { count + skip ≤ length self.old.bytes }
+        requires text { IsUtf8 (take count self.old.bytes) }
+        ensures { TakesFew count skip self.old result self.new }
+    {
+        let storage = self.storage.take_few(count, skip)?;
+        Some(Tendril {
+            storage,
             format: PhantomData,
         })
     }

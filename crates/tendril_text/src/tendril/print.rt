@@ -7,7 +7,8 @@ use crate::tendril::Tendril;
 use std::alloc::Global;
 use std::fmt::{self, Debug, Display, Formatter, Write};
 use tendril_block::{Atomicity, Refusal};
-use tendril_fmt::fmt::{Bytes, Format, UTF8};
+use tendril_fmt::fmt::{Bytes, UTF8};
+use tendril_storage::Storage;
 
 impl<A: Atomicity> Display for Tendril<UTF8, A> {
     ghost output = { λ t. Some t.bytes };
@@ -21,25 +22,27 @@ impl<A: Atomicity> Display for Tendril<UTF8, A> {
 
 impl<A: Atomicity> Debug for Tendril<UTF8, A> {
     fn fmt<W: Write>(&self, f: &mut Formatter<W>) -> fmt::Result {
-        self.debug(&self.as_str(), f)
+        debug::<UTF8, A, &str, W>(&self.storage, &self.as_str(), f)
     }
 }
 
 impl<A: Atomicity> Debug for Tendril<Bytes, A> {
     fn fmt<W: Write>(&self, f: &mut Formatter<W>) -> fmt::Result {
-        self.debug(&self.as_byte_slice(), f)
+        debug::<Bytes, A, &[u8], W>(&self.storage, &self.as_byte_slice(), f)
     }
 }
 
-impl<F: Format + Copy + Default + Debug, A: Atomicity> Tendril<F, A> {
-    // Prints the format, where the text stands, and what it is seen as, as `Tendril<UTF8>(inline: "foobar")`.
-    fn debug<T: Debug, W: Write>(&self, text: &T, f: &mut Formatter<W>) -> fmt::Result {
-        let format = F::default();
-        let standing = self.storage.standing();
-        write!(f, "Tendril<{format:?}>({standing}: ")?;
-        text.fmt(f)?;
-        f.write_str(")")
-    }
+/// Prints the format, where the bytes are, and what they are seen as: `Tendril<UTF8>(inline: "foobar")`.
+pub(crate) fn debug<F: Default + Debug + Drop, A: Atomicity, T: Debug, W: Write>(
+    storage: &Storage<A>,
+    text: &T,
+    f: &mut Formatter<W>,
+) -> fmt::Result {
+    let format = F::default();
+    let standing = storage.standing();
+    write!(f, "Tendril<{format:?}>({standing}: ")?;
+    text.fmt(f)?;
+    f.write_str(")")
 }
 
 impl<A: Atomicity> Tendril<UTF8, A> {

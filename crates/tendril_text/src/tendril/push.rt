@@ -46,6 +46,7 @@ impl<F: Format, A: Atomicity> Tendril<F, A> {
     ///
     /// Where both texts are marked shared and the other's bytes stand right behind this one's in its block, which is seen
     /// by comparing them, this text sees them there: no memory is asked for, and nothing is copied.
+    #[inline(always)]
     pub fn push_tendril(&mut self, other: &Tendril<F, A>) -> Result<(), Refusal>
         ensures { Joins F.join other.now.bytes self.old result self.new }
     {
@@ -57,6 +58,7 @@ impl<F: Format, A: Atomicity> Tendril<F, A> {
     }
 
     // Sees bytes behind the text in its block too, where both are long, they equal `more`, and the join changes neither.
+    #[inline(always)]
     fn grows_over(&mut self, more: &[u8]) -> bool
         requires { F.valid more.now }
         ensures bytes { result ≡ true → self.new.bytes ≡ F.join self.old.bytes more.now }

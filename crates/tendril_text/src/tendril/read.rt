@@ -3,6 +3,7 @@ ghost use Rattle.std.specs.Prelude.{◌≡◌, ◌≤◌, ◌↔◌, [], length,
 
 use crate::tendril::Tendril;
 use std::convert::{AsSlice, AsStr};
+use std::ops::{DerefSlice, DerefStr};
 use tendril_block::{Atomicity, MAX_LEN, Refusal};
 use tendril_fmt::fmt::{Bytes, Format, UTF8};
 
@@ -47,7 +48,8 @@ impl<F: Format, A: Atomicity> Tendril<F, A> {
 impl<A: Atomicity> Tendril<UTF8, A> {
     /// The text as a string. It isn't validated.
     pub fn as_str(&self) -> &str
-        ensures { result.now ≡ self.now.bytes }
+        ensures value { result.now ≡ self.now.bytes }
+        ensures short { length self.now.bytes ≤ MAX_LEN }
     {
         unsafe { str::from_utf8_unchecked(self.as_byte_slice()) }
     }
@@ -57,7 +59,7 @@ impl<A: Atomicity> Tendril<UTF8, A> {
         ensures bytes { IfOk result (λ s. string_bytes s ≡ self.now.bytes) }
         ensures refusal { IfErr result (λ r. r ≡ Refusal.Memory) }
     {
-        String::from_str(self.storage.allocator(), self.as_str()).map_err(|_| Refusal::Memory)
+        Ok(String::from_str(self.storage.allocator(), self.as_str())?)
     }
 }
 
@@ -73,6 +75,24 @@ impl<A: Atomicity> AsSlice<u8> for Tendril<Bytes, A> {
     ghost items = { λ t. t.bytes };
 
     fn as_slice(&self) -> &[u8] {
+        Tendril::as_byte_slice(self)
+    }
+}
+
+impl<A: Atomicity> DerefStr for Tendril<UTF8, A> {
+    ghost deref_gives = { λ t text. text ≡ t.bytes };
+
+    fn deref(&self) -> &str {
+        Tendril::as_str(self)
+    }
+}
+
+impl<A: Atomicity> DerefSlice for Tendril<Bytes, A> {
+    type Elem = u8;
+
+    ghost deref_gives = { λ t items. items ≡ t.bytes };
+
+    fn deref(&self) -> &[u8] {
         Tendril::as_byte_slice(self)
     }
 }

@@ -7,7 +7,7 @@ use std::cell::Cell;
 use tendril_block::{Atomicity, Refusal};
 use tendril_fmt::fmt::{Bytes, Format, UTF8};
 use tendril_run::{Slot, Table};
-use tendril_text::{ByteTendril, StrTendril, Tendril};
+use tendril_text::Tendril;
 
 /// A clone of a text that is extended by the call of this name.
 pub fn extend<A: Atomicity>(
@@ -50,7 +50,7 @@ fn texts_of<A: Atomicity>(
     alloc: Global,
     table: &Table<A>,
     words: &str,
-) -> Result<Vec<StrTendril<A>>, Refusal> {
+) -> Result<Vec<Tendril<UTF8, A>>, Refusal> {
     let mut texts = Vec::new(alloc);
     for word in words.split(' ') {
         let text = str_text(table, number_of(word)? as usize)?.clone()?;
@@ -123,7 +123,7 @@ struct StrItems<'a> {
 }
 
 impl<'a, A: Atomicity> Items<UTF8, A> for StrItems<'a> {
-    fn extend(&self, text: &mut StrTendril<A>, taken: &Taken) -> Result<(), Refusal> {
+    fn extend(&self, text: &mut Tendril<UTF8, A>, taken: &Taken) -> Result<(), Refusal> {
         let strings = self.strings.as_slice();
         if self.verb == "extend_strs" {
             return text.extend_strs(strings.iter().map(|item| taken.item(*item, item.len())));
@@ -135,11 +135,11 @@ impl<'a, A: Atomicity> Items<UTF8, A> for StrItems<'a> {
 
 #[derive(Drop)]
 struct TextItems<A: Atomicity> {
-    texts: Vec<StrTendril<A>>,
+    texts: Vec<Tendril<UTF8, A>>,
 }
 
 impl<A: Atomicity> Items<UTF8, A> for TextItems<A> {
-    fn extend(&self, text: &mut StrTendril<A>, _taken: &Taken) -> Result<(), Refusal> {
+    fn extend(&self, text: &mut Tendril<UTF8, A>, _taken: &Taken) -> Result<(), Refusal> {
         text.extend_tendrils(self.texts.iter())
     }
 
@@ -163,7 +163,7 @@ struct ByteItems<'a> {
 }
 
 impl<'a, A: Atomicity> Items<Bytes, A> for ByteItems<'a> {
-    fn extend(&self, text: &mut ByteTendril<A>, taken: &Taken) -> Result<(), Refusal> {
+    fn extend(&self, text: &mut Tendril<Bytes, A>, taken: &Taken) -> Result<(), Refusal> {
         let strings = self.strings.as_slice();
         if self.verb == "extend_slices" {
             return text.extend_slices(

@@ -3,32 +3,36 @@
 use crate::calls::{string_of, strings_of};
 use std::alloc::Global;
 use tendril_block::{Atomicity, Refusal};
-use tendril_text::{ByteTendril, StrTendril, Tendril, slice_to_tendril, str_to_tendril};
+use tendril_text::fmt::{Bytes, Format, UTF8};
+use tendril_text::{Tendril, slice_to_tendril, str_to_tendril};
 
 /// A text of strings or characters, by the call of this name.
 pub fn string<A: Atomicity>(
     alloc: Global,
     verb: &str,
     words: &str,
-) -> Result<Option<StrTendril<A>>, Refusal> {
+) -> Result<Option<Tendril<UTF8, A>>, Refusal> {
     let string = string_of(words);
     let made = match verb {
-        "from_slice" => StrTendril::<A>::from_slice(alloc, string),
-        "from_str" => StrTendril::<A>::from_str(alloc, string),
-        "str_to_tendril" => str_to_tendril(alloc, string),
-        "from_string" => StrTendril::<A>::from_string(alloc, String::from_str(alloc, string)?),
-        "from_chars" => StrTendril::<A>::from_chars(alloc, string.chars()),
-        "from_char" => StrTendril::<A>::from_char(alloc, string.chars().next().unwrap_or('?')),
-        "format" => StrTendril::<A>::format(alloc, &string),
+        "from_slice" => Tendril::<UTF8, A>::from_slice(alloc, string),
+        "from_str" => Tendril::<UTF8, A>::from_str(alloc, string),
+        "str_to_tendril" => sent(str_to_tendril(alloc, string)?),
+        "from_string" => Tendril::<UTF8, A>::from_string(alloc, String::from_str(alloc, string)?),
+        "from_chars" => Tendril::<UTF8, A>::from_chars(alloc, string.chars()),
+        "from_char" => Tendril::<UTF8, A>::from_char(alloc, string.chars().next().unwrap_or('?')),
+        "format" => Tendril::<UTF8, A>::format(alloc, &string),
         "from_strs" => return of_strings(alloc, words),
         _ => return Ok(None),
     };
     Ok(Some(made?))
 }
 
-fn of_strings<A: Atomicity>(alloc: Global, words: &str) -> Result<Option<StrTendril<A>>, Refusal> {
+fn of_strings<A: Atomicity>(
+    alloc: Global,
+    words: &str,
+) -> Result<Option<Tendril<UTF8, A>>, Refusal> {
     let strings = strings_of(alloc, words)?;
-    Ok(Some(StrTendril::<A>::from_strs(alloc, strings.iter().copied())?))
+    Ok(Some(Tendril::<UTF8, A>::from_strs(alloc, strings.iter().copied())?))
 }
 
 /// A text of bytes, by the call of this name.
@@ -36,17 +40,17 @@ pub fn bytes<A: Atomicity>(
     alloc: Global,
     verb: &str,
     words: &str,
-) -> Result<Option<ByteTendril<A>>, Refusal> {
+) -> Result<Option<Tendril<Bytes, A>>, Refusal> {
     let bytes = string_of(words).as_bytes();
     let made = match verb {
-        "slice_to_tendril" => slice_to_tendril(alloc, bytes),
-        "sent" => sent(slice_to_tendril(alloc, bytes)?),
-        "from_byte_slice" => ByteTendril::<A>::from_slice(alloc, bytes),
+        "slice_to_tendril" => sent(slice_to_tendril(alloc, bytes)?),
+        "sent" => sent(Tendril::<Bytes, A>::from_slice(alloc, bytes)?),
+        "from_byte_slice" => Tendril::<Bytes, A>::from_slice(alloc, bytes),
         "from_byte_slice_without_validating" => {
             Tendril::from_byte_slice_without_validating(alloc, bytes)
         }
-        "from_bytes" => ByteTendril::<A>::from_bytes(alloc, bytes.iter().copied()),
-        "from_byte_refs" => ByteTendril::<A>::from_byte_refs(alloc, bytes.iter()),
+        "from_bytes" => Tendril::<Bytes, A>::from_bytes(alloc, bytes.iter().copied()),
+        "from_byte_refs" => Tendril::<Bytes, A>::from_byte_refs(alloc, bytes.iter()),
         "from_slices" => return of_slices(alloc, words),
         _ => return Ok(None),
     };
@@ -54,15 +58,20 @@ pub fn bytes<A: Atomicity>(
 }
 
 // A text that is the only reference to its block goes to another thread and comes from there, which takes no memory.
-fn sent<A: Atomicity>(text: ByteTendril<A>) -> Result<ByteTendril<A>, Refusal> {
+fn sent<F: Format, A: Atomicity, B: Atomicity>(
+    text: Tendril<F, A>,
+) -> Result<Tendril<F, B>, Refusal> {
     match text.into_send() {
         Ok(sent) => Tendril::from_send(sent).map_err(|_| Refusal::Invalid),
         Err(_) => Err(Refusal::Invalid),
     }
 }
 
-fn of_slices<A: Atomicity>(alloc: Global, words: &str) -> Result<Option<ByteTendril<A>>, Refusal> {
+fn of_slices<A: Atomicity>(
+    alloc: Global,
+    words: &str,
+) -> Result<Option<Tendril<Bytes, A>>, Refusal> {
     let strings = strings_of(alloc, words)?;
     let slices = strings.iter().map(|string| string.as_bytes());
-    Ok(Some(ByteTendril::<A>::from_slices(alloc, slices)?))
+    Ok(Some(Tendril::<Bytes, A>::from_slices(alloc, slices)?))
 }

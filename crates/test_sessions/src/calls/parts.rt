@@ -5,9 +5,9 @@ use crate::own::number as number_of;
 use std::fmt::{self, Write};
 use std::io;
 use tendril_block::{Atomicity, Refusal};
-use tendril_fmt::fmt::{ASCII, Bytes};
+use tendril_fmt::fmt::{ASCII, Bytes, UTF8};
 use tendril_run::{Slot, Table};
-use tendril_text::{ByteTendril, SendTendril, StrTendril, Tendril};
+use tendril_text::{SendTendril, Tendril};
 
 /// What the call of this name makes of a clone of a text. A slot that is gone is nothing.
 pub fn part<A: Atomicity>(
@@ -60,7 +60,7 @@ fn string_part<A: Atomicity>(
             text.try_split_to(number_of(words)?)?;
         }
         "strip" => {
-            text.strip_prefix(string);
+            text.skip_prefix(string);
         }
         "take" => return Ok(Some(Slot::Utf8(text.take()))),
         _ => change_string(&mut text, verb, string)?,
@@ -70,14 +70,14 @@ fn string_part<A: Atomicity>(
 
 // What comes before the first byte of a set.
 fn pop_until<A: Atomicity>(
-    text: &mut StrTendril<A>,
+    text: &mut Tendril<UTF8, A>,
     set: &str,
-) -> Result<Option<StrTendril<A>>, Refusal> {
+) -> Result<Option<Tendril<UTF8, A>>, Refusal> {
     text.pop_front_until(&set_of(set.as_bytes())?)
 }
 
 fn change_string<A: Atomicity>(
-    text: &mut StrTendril<A>,
+    text: &mut Tendril<UTF8, A>,
     verb: &str,
     string: &str,
 ) -> Result<(), Refusal> {
@@ -90,7 +90,7 @@ fn change_string<A: Atomicity>(
 }
 
 // A formatter's error has no reason.
-fn write_str<A: Atomicity>(text: &mut StrTendril<A>, string: &str) -> Result<(), Refusal> {
+fn write_str<A: Atomicity>(text: &mut Tendril<UTF8, A>, string: &str) -> Result<(), Refusal> {
     match text.write_str(string) {
         Ok(()) => Ok(()),
         Err(fmt::Error) => Err(Refusal::Memory),
@@ -114,7 +114,7 @@ fn byte_part<A: Atomicity>(
 }
 
 fn push_bytes<A: Atomicity>(
-    text: &mut ByteTendril<A>,
+    text: &mut Tendril<Bytes, A>,
     verb: &str,
     bytes: &[u8],
 ) -> Result<(), Refusal> {
@@ -137,7 +137,7 @@ fn refusal_of(error: io::Error) -> Refusal {
 }
 
 // A call that gets no memory returns the text.
-fn sent<A: Atomicity>(text: ByteTendril<A>) -> Result<SendTendril<Bytes>, Refusal> {
+fn sent<A: Atomicity>(text: Tendril<Bytes, A>) -> Result<SendTendril<Bytes>, Refusal> {
     let before = text.clone()?;
     match text.into_send() {
         Ok(sent) => Ok(sent),
@@ -147,7 +147,7 @@ fn sent<A: Atomicity>(text: ByteTendril<A>) -> Result<SendTendril<Bytes>, Refusa
 }
 
 // A call that gets no memory returns the text, which can be received then.
-fn received<A: Atomicity>(text: SendTendril<Bytes>) -> Result<ByteTendril<A>, Refusal> {
+fn received<A: Atomicity>(text: SendTendril<Bytes>) -> Result<Tendril<Bytes, A>, Refusal> {
     match Tendril::from_send(text) {
         Ok(text) => Ok(text),
         Err((Refusal::Memory, back)) => match Tendril::from_send(back) {

@@ -6,7 +6,7 @@ use std::fmt::Write;
 use tendril_block::{Atomicity, Refusal};
 use tendril_fmt::fmt::UTF8;
 use tendril_run::{Slot, Table};
-use tendril_text::{ByteSet, SetResult, StrTendril};
+use tendril_text::{ByteSet, SetResult, Tendril};
 
 /// What is printed for a line that reads a text.
 pub fn reply<A: Atomicity>(
@@ -102,7 +102,7 @@ fn yes_or_no(alloc: Global, holds: bool) -> Result<Option<String>, Refusal> {
 // Where the first byte of a set is.
 fn find<A: Atomicity>(
     alloc: Global,
-    text: &StrTendril<A>,
+    text: &Tendril<UTF8, A>,
     set: &[u8],
 ) -> Result<Option<String>, Refusal> {
     let found = match set {
@@ -115,7 +115,7 @@ fn find<A: Atomicity>(
 // The items that an iterator gives of a text.
 fn list<A: Atomicity>(
     alloc: Global,
-    text: StrTendril<A>,
+    text: Tendril<UTF8, A>,
     verb: &str,
     set: &str,
 ) -> Result<Option<String>, Refusal> {
@@ -133,7 +133,7 @@ fn gap(reply: &str) -> &'static str {
     if reply.is_empty() { "" } else { " " }
 }
 
-fn list_chars<A: Atomicity>(reply: &mut String, text: StrTendril<A>) -> Result<(), Refusal> {
+fn list_chars<A: Atomicity>(reply: &mut String, text: Tendril<UTF8, A>) -> Result<(), Refusal> {
     for character in text.into_chars() {
         let gap = gap(reply.as_str());
         write!(reply, "{gap}{character:?}")?;
@@ -141,7 +141,7 @@ fn list_chars<A: Atomicity>(reply: &mut String, text: StrTendril<A>) -> Result<(
     Ok(())
 }
 
-fn list_runs<A: Atomicity>(reply: &mut String, text: StrTendril<A>) -> Result<(), Refusal> {
+fn list_runs<A: Atomicity>(reply: &mut String, text: Tendril<UTF8, A>) -> Result<(), Refusal> {
     for run in text.into_char_runs(char::is_whitespace) {
         let (run, is_space) = run?;
         let gap = gap(reply.as_str());
@@ -152,7 +152,7 @@ fn list_runs<A: Atomicity>(reply: &mut String, text: StrTendril<A>) -> Result<()
 
 fn list_parts<A: Atomicity>(
     reply: &mut String,
-    text: StrTendril<A>,
+    text: Tendril<UTF8, A>,
     set: &ByteSet,
 ) -> Result<(), Refusal> {
     for part in text.split_at_any(set) {

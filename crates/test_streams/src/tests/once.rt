@@ -4,10 +4,15 @@ use crate::tests::line::Line;
 use crate::tests::notes::Notes;
 use std::alloc::Global;
 use std::borrow::CowStr;
+use std::fmt::{Debug, InlineText};
 use std::test::Fail;
+use tendril::block::Refusal;
 use tendril::{ByteTendril, IncompleteUtf8, StrTendril, slice_to_tendril};
 use tendril_lossy::{Ending, first_part};
-use tendril_stream::{Counted, LossyDecoder, TendrilSink, decode_pieces, decode_reader, read_once};
+use tendril_stream::{
+    Accumulate, Counted, Event, LossyDecoder, Stopped, TendrilSink, decode_pieces, decode_reader,
+    read_once,
+};
 
 fn piece(alloc: Global, bytes: &[u8]) -> ByteTendril {
     slice_to_tendril(alloc, bytes).unwrap_or(ByteTendril::new(alloc))
@@ -64,5 +69,32 @@ fn calls_of_pieces(rt: HostRuntime) -> Result<(), Fail> {
         "try_complete_with takes the front",
     );
     notes.holds(3, count == 4, "four texts are handed on");
+    notes.end()
+}
+
+// Whether this is what Debug prints.
+fn prints<T: Debug>(value: &T, expected: &str) -> bool {
+    let text: InlineText<200> = InlineText::of(format_args!("{value:?}"));
+    text.as_str() == expected
+}
+
+#[test]
+fn values_in_debug(rt: HostRuntime) -> Result<(), Fail> {
+    let mut notes = Notes::new();
+    let alloc = rt.alloc();
+    let text = StrTendril::from_short_str(alloc, "a");
+    let event: Event = Event::Text(text);
+    let is_text = prints(&event, "Text(Tendril<UTF8>(inline: \"a\"))");
+    notes.holds(0, is_text, "a text that was sent");
+    let fault: Event = Event::Error(CowStr::Borrowed("noise"));
+    notes.holds(1, prints(&fault, "Error(\"noise\")"), "an error");
+    let none: Accumulate = Accumulate::new(alloc);
+    notes.holds(2, prints(&none, "Accumulate { events: [] }"), "a sink");
+    let stopped: Stopped<Accumulate> = Stopped {
+        refusal: Refusal::Io,
+        sink: Some(none),
+    };
+    notes.holds(3, prints(&stopped, "Stopped(Io)"), "where reading stopped");
+    notes.holds(4, Refusal::from(stopped) == Refusal::Io, "why it did");
     notes.end()
 }

@@ -6,16 +6,29 @@ use std::borrow::CowStr;
 use std::test::Fail;
 use tendril_block::{Atomic, AtomicUpTo, Atomicity, NonAtomic, Refusal};
 use tendril_stream::{TendrilSink, Utf8LossyDecoder};
-use tendril_text::{ByteTendril, StrTendril, Tendril, slice_to_tendril, str_to_tendril};
+use tendril_text::Tendril;
+use tendril_text::fmt::{Bytes, UTF8};
 use test_tools::Notes;
 
 /// A text of a string.
-pub(super) fn text<A: Atomicity>(alloc: Global, notes: &mut Notes, string: &str) -> StrTendril<A> {
-    notes.or(0, str_to_tendril(alloc, string), Tendril::new(alloc))
+pub(super) fn text<A: Atomicity>(
+    alloc: Global,
+    notes: &mut Notes,
+    string: &str,
+) -> Tendril<UTF8, A> {
+    notes.or(
+        0,
+        Tendril::<UTF8, A>::from_slice(alloc, string),
+        Tendril::new(alloc),
+    )
 }
 
-fn bytes<A: Atomicity>(alloc: Global, notes: &mut Notes, bytes: &[u8]) -> ByteTendril<A> {
-    notes.or(0, slice_to_tendril(alloc, bytes), Tendril::new(alloc))
+fn bytes<A: Atomicity>(alloc: Global, notes: &mut Notes, bytes: &[u8]) -> Tendril<Bytes, A> {
+    notes.or(
+        0,
+        Tendril::<Bytes, A>::from_slice(alloc, bytes),
+        Tendril::new(alloc),
+    )
 }
 
 /// Notes where a rope has other bytes than a string.
@@ -77,7 +90,7 @@ fn a_rope_takes_the_texts_that_it_is_sent(rt: HostRuntime) -> Result<(), Fail> {
 }
 
 fn decode<A: Atomicity>(alloc: Global, notes: &mut Notes) {
-    let piece: ByteTendril<A> = bytes(alloc, notes, b"0123456789\xFFabcdefgh\xFFabcdefghi");
+    let piece: Tendril<Bytes, A> = bytes(alloc, notes, b"0123456789\xFFabcdefgh\xFFabcdefghi");
     let kept = notes.or(1, piece.clone(), Tendril::new(alloc));
     let rope = notes.or(2, decode_rope(alloc, Some(piece)), Rope::new(alloc));
     notes.same(3, rope.piece_count(), 5);

@@ -8,7 +8,8 @@ use std::test::Fail;
 use std::thread::{self, Threads};
 use tendril_block::{Atomic, Refusal};
 use tendril_run::{Classifier, Slot, Table};
-use tendril_text::{StrTendril, Tendril};
+use tendril_text::Tendril;
+use tendril_text::fmt::UTF8;
 use test_tools::Notes;
 
 const DIGITS: &str = "0123456789abcdef";
@@ -64,7 +65,7 @@ const ROUNDS: usize = 10;
 const LOOKS: usize = 10_000_000;
 
 // A table whose slot 0 and whose rope 0, twice, share the text.
-fn table_over(alloc: Global, notes: &mut Notes, text: &StrTendril<Atomic>) -> RopeTable<Atomic> {
+fn table_over(alloc: Global, notes: &mut Notes, text: &Tendril<UTF8, Atomic>) -> RopeTable<Atomic> {
     let mut slots = Table::new(alloc);
     let shared = notes.or(1, text.clone(), Tendril::new(alloc));
     notes.holds(
@@ -128,7 +129,7 @@ fn check(alloc: Global, notes: &mut Notes, (met, replies): Answer, session: &str
 }
 
 // Both sessions at once, each in a thread of its own.
-fn run_both(rt: &(impl AllocGlobal + Threads), notes: &mut Notes, text: &StrTendril<Atomic>) {
+fn run_both(rt: &(impl AllocGlobal + Threads), notes: &mut Notes, text: &Tendril<UTF8, Atomic>) {
     let alloc = rt.alloc();
     let here = AtomicUsize::new(0);
     let [first, second] = SESSIONS;

@@ -30,7 +30,7 @@ fn letters(len: usize) -> &'static [u8] {
 const LENGTHS: [usize; 9] = [0, 1, 7, 8, 9, 16, 40, 41, 52];
 
 // The text as it comes over another kind of block.
-fn sent<A: Atomicity, B: Atomicity>(text: ByteTendril<A>) -> Option<ByteTendril<B>> {
+fn sent<A: Atomicity, B: Atomicity>(text: Tendril<Bytes, A>) -> Option<Tendril<Bytes, B>> {
     let sent = text.into_send().ok()?;
     Tendril::from_send(sent).ok()
 }
@@ -38,9 +38,9 @@ fn sent<A: Atomicity, B: Atomicity>(text: ByteTendril<A>) -> Option<ByteTendril<
 // Sends texts from one kind of block to another.
 fn send_each_length<A: Atomicity, B: Atomicity>(alloc: Global, notes: &mut Notes) {
     for len in LENGTHS {
-        let text: ByteTendril<A> = notes.or(
+        let text: Tendril<Bytes, A> = notes.or(
             len,
-            slice_to_tendril(alloc, letters(len)),
+            Tendril::<Bytes, A>::from_slice(alloc, letters(len)),
             Tendril::new(alloc),
         );
         match sent::<A, B>(text) {
@@ -50,7 +50,7 @@ fn send_each_length<A: Atomicity, B: Atomicity>(alloc: Global, notes: &mut Notes
     }
 }
 
-fn check_text<A: Atomicity>(notes: &mut Notes, len: usize, text: &ByteTendril<A>) {
+fn check_text<A: Atomicity>(notes: &mut Notes, len: usize, text: &Tendril<Bytes, A>) {
     notes.same(len, text.as_byte_slice(), letters(len));
     notes.holds(len, !text.is_shared(), "a text that was sent isn't shared");
 }
@@ -88,10 +88,9 @@ fn pushed(
 ) -> Result<Vec<SendTendril<Bytes>>, Refusal> {
     let mut pushed = Vec::new(alloc);
     for text in texts {
-        let mut text: ByteTendril = Tendril::from_send(text).map_err(|(refusal, _)| refusal)?;
+        let mut text = ByteTendril::from_send(text)?;
         text.push_slice(&[byte])?;
-        let text = text.into_send().map_err(|(refusal, _)| refusal)?;
-        pushed.push(text).map_err(|_| Refusal::Memory)?;
+        pushed.push(text.into_send()?)?;
     }
     Ok(pushed)
 }
@@ -101,8 +100,7 @@ fn a_thousand(alloc: Global) -> Result<Vec<SendTendril<Bytes>>, Refusal> {
     let mut texts = Vec::new(alloc);
     for number in 0..1000usize {
         let text: ByteTendril = slice_to_tendril(alloc, letters(number % 53))?;
-        let text = text.into_send().map_err(|(refusal, _)| refusal)?;
-        texts.push(text).map_err(|_| Refusal::Memory)?;
+        texts.push(text.into_send()?)?;
     }
     Ok(texts)
 }
@@ -136,13 +134,13 @@ fn a_thousand_texts_pass_four_threads(rt: HostRuntime) -> Result<(), Fail> {
     notes.end()
 }
 
-fn clone_often(text: &ByteTendril<Atomic>) -> bool {
+fn clone_often(text: &Tendril<Bytes, Atomic>) -> bool {
     (0..1000).all(|_| text.clone().is_ok())
 }
 
 #[test]
 fn a_text_over_atomic_blocks_is_cloned_in_two_threads(rt: HostRuntime) -> Result<(), Fail> {
-    let text: ByteTendril<Atomic> = slice_to_tendril(rt.alloc(), LETTERS.as_bytes())?;
+    let text = Tendril::<Bytes, Atomic>::from_slice(rt.alloc(), LETTERS.as_bytes())?;
     let mine = text.clone()?;
     let worker = thread::spawn_with(&rt, Anything, move || clone_often(&mine))?;
     let mut notes = Notes::new();

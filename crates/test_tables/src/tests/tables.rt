@@ -5,7 +5,8 @@ use std::test::Fail;
 use tendril_block::{Atomic, Atomicity, NonAtomic};
 use tendril_lines::{ByteList, one_number, two_slots};
 use tendril_run::{Slot, Table};
-use tendril_text::{ByteTendril, Tendril, slice_to_tendril};
+use tendril_text::Tendril;
+use tendril_text::fmt::Bytes;
 use test_tools::Notes;
 
 const DIGITS: &[u8] = b"0123456789";
@@ -14,7 +15,11 @@ fn push_slots<A: Atomicity>(alloc: Global, notes: &mut Notes) {
     let mut table = Table::<A>::new(alloc);
     notes.done(0, table.reserve_slots(3));
     notes.holds(1, table.room() >= 3, "there is room for three slots");
-    let text: ByteTendril<A> = notes.or(2, slice_to_tendril(alloc, DIGITS), Tendril::new(alloc));
+    let text: Tendril<Bytes, A> = notes.or(
+        2,
+        Tendril::<Bytes, A>::from_slice(alloc, DIGITS),
+        Tendril::new(alloc),
+    );
     notes.holds(3, table.push(Slot::Bytes(text)).is_ok(), "a text is pushed");
     notes.holds(
         4,

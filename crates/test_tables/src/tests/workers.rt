@@ -9,7 +9,8 @@ use std::thread;
 use std::thread::Threads;
 use tendril_lines::{Command, parse_line, print_reply};
 use tendril_run::{Classifier, Gate, Job, Outcome, Slot, Table, run_tables};
-use tendril_text::{Atomic, ByteTendril, Tendril, slice_to_tendril};
+use tendril_text::fmt::Bytes;
+use tendril_text::{Atomic, Tendril};
 use test_tools::Notes;
 
 const DIGITS: &[u8] = b"0123456789abcdef";
@@ -103,7 +104,7 @@ fn add_job<G: Drop>(
     alloc: Global,
     notes: &mut Notes,
     jobs: &mut Vec<Job<KeepsLast, G>>,
-    text: &ByteTendril<Atomic>,
+    text: &Tendril<Bytes, Atomic>,
     (class, gate): (KeepsLast, G),
     (lines, _): Work,
 ) {
@@ -169,7 +170,7 @@ fn work(rt: &(impl AllocGlobal + Threads), works: &[Work]) -> Result<(), Fail> {
     let mut notes = Notes::new();
     let text = notes.or(
         3,
-        slice_to_tendril(rt.alloc(), DIGITS),
+        Tendril::<Bytes, Atomic>::from_slice(rt.alloc(), DIGITS),
         Tendril::new(rt.alloc()),
     );
     let mut jobs = Vec::new(rt.alloc());
@@ -238,7 +239,7 @@ fn two_workers(rt: HostRuntime) -> Result<(), Fail> {
     let mut notes = Notes::new();
     let text = notes.or(
         3,
-        slice_to_tendril(rt.alloc(), DIGITS),
+        Tendril::<Bytes, Atomic>::from_slice(rt.alloc(), DIGITS),
         Tendril::new(rt.alloc()),
     );
     let mut jobs = Vec::new(rt.alloc());
@@ -286,7 +287,7 @@ fn a_gate_is_called_before_each_command(rt: HostRuntime) -> Result<(), Fail> {
     let mut notes = Notes::new();
     let text = notes.or(
         3,
-        slice_to_tendril(rt.alloc(), DIGITS),
+        Tendril::<Bytes, Atomic>::from_slice(rt.alloc(), DIGITS),
         Tendril::new(rt.alloc()),
     );
     let mut jobs = Vec::new(rt.alloc());

@@ -5,7 +5,7 @@ ghost use Rattle.std.specs.Iterator.{at_most};
 use std::alloc::Global;
 use std::test::Fail;
 use tendril::fmt::WTF8;
-use tendril::{Atomic, Atomicity, ByteTendril, NonAtomic, Tendril};
+use tendril::{Atomic, Atomicity, ByteTendril, NonAtomic, StrTendril, Tendril};
 use test_tools::Notes;
 
 fn join_halves<A: Atomicity>(notes: &mut Notes, alloc: Global) {
@@ -62,9 +62,24 @@ impl Iterator for Boastful {
 #[test]
 fn a_hint_decides_nothing(rt: HostRuntime) -> Result<(), Fail> {
     let mut notes = Notes::new();
-    let made = ByteTendril::<NonAtomic>::from_bytes(rt.alloc(), Boastful { left: 3 });
+    let made = ByteTendril::from_bytes(rt.alloc(), Boastful { left: 3 });
     let mut text = notes.or(0, made, Tendril::new(rt.alloc()));
     notes.done(1, text.extend_bytes(Boastful { left: 2 }));
     notes.same(1, text.as_byte_slice(), b"\x02\x01\x00\x01\x00".as_slice());
+    notes.end()
+}
+
+#[test]
+fn texts_by_extend_and_collect(rt: HostRuntime) -> Result<(), Fail> {
+    let mut notes = Notes::new();
+    let alloc = rt.alloc();
+    let collected = "\u{151}a\u{4e2d}".chars().collect::<StrTendril>(alloc);
+    let mut text = notes.or(0, collected, Tendril::new(alloc));
+    notes.done(1, text.extend([" and", " more"]));
+    notes.same(1, text.as_str(), "\u{151}a\u{4e2d} and more");
+    let collected = b"abc".iter().collect::<ByteTendril>(alloc);
+    let mut bytes = notes.or(2, collected, Tendril::new(alloc));
+    notes.done(3, bytes.extend([b"de".as_slice(), b"", b"f"]));
+    notes.same(3, bytes.as_byte_slice(), b"abcdef".as_slice());
     notes.end()
 }

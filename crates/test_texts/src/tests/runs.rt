@@ -4,13 +4,14 @@ use crate::tests::texts::text_of;
 use std::alloc::Global;
 use std::test::Fail;
 use tendril::block::{AtomicUpTo, Refusal};
+use tendril::fmt::UTF8;
 use tendril::{Atomic, Atomicity, ByteSet, NonAtomic, StrTendril, Tendril};
 use test_tools::Notes;
 
 // Takes the first run of one digit, or of other characters than digits.
 fn digit_run<A: Atomicity>(
     notes: &mut Notes,
-    text: &mut StrTendril<A>,
+    text: &mut Tendril<UTF8, A>,
     expected: (&str, Option<u32>),
 ) {
     match text.pop_front_char_run(|c: char| c.to_digit(10)) {
@@ -20,7 +21,7 @@ fn digit_run<A: Atomicity>(
 }
 
 fn take_digits<A: Atomicity>(notes: &mut Notes, alloc: Global) {
-    let mut text: StrTendril<A> = text_of(notes, alloc, "112\u{151}\u{4e2d}3");
+    let mut text: Tendril<UTF8, A> = text_of(notes, alloc, "112\u{151}\u{4e2d}3");
     digit_run(notes, &mut text, ("11", Some(1)));
     digit_run(notes, &mut text, ("2", Some(2)));
     digit_run(notes, &mut text, ("\u{151}\u{4e2d}", None));
@@ -66,7 +67,7 @@ const TWO_LONG_PARTS: &str = "0123456789abcdef           0123456789";
 #[test]
 fn a_run_that_is_refused_ends_the_runs(rt: HostRuntime) -> Result<(), Fail> {
     let mut notes = Notes::new();
-    let text: StrTendril<OneHolder> = text_of(&mut notes, rt.alloc(), TWO_LONG_PARTS);
+    let text: Tendril<UTF8, OneHolder> = text_of(&mut notes, rt.alloc(), TWO_LONG_PARTS);
     let mut runs = text.into_char_runs(char::is_whitespace);
     let refused = runs.next().map(|run| run.err());
     notes.same(1, refused, Some(Some(Refusal::Count)));
@@ -79,7 +80,7 @@ fn a_run_that_is_refused_ends_the_runs(rt: HostRuntime) -> Result<(), Fail> {
 fn a_part_that_is_refused_ends_the_parts(rt: HostRuntime) -> Result<(), Fail> {
     let mut notes = Notes::new();
     let set = ByteSet::new(b" ");
-    let text: StrTendril<OneHolder> = text_of(&mut notes, rt.alloc(), TWO_LONG_PARTS);
+    let text: Tendril<UTF8, OneHolder> = text_of(&mut notes, rt.alloc(), TWO_LONG_PARTS);
     let mut parts = text.split_at_any(&set);
     let refused = parts.next().map(|part| part.err());
     notes.same(1, refused, Some(Some(Refusal::Count)));

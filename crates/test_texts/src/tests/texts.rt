@@ -1,15 +1,17 @@
 //! Calls of texts that no session has: those with a condition, those of traits, and what callers write.
 
-use std::alloc::Global;
+use std::alloc::{AllocError, Global};
 use std::collections::{BTreeMap, HashMap};
 use std::convert::{AsSlice, AsStr};
 use std::default::MadeWith;
+use std::fmt::Debug;
+use std::io::{self, ErrorKind};
 use std::test::Fail;
 use tendril::block::Refusal;
 use tendril::fmt::{ASCII, Bytes, Format, UTF8};
 use tendril::{
-    Atomic, Atomicity, ByteSet, ByteTendril, NonAtomic, StrTendril, SubtendrilError, Tendril,
-    slice_to_tendril,
+    Atomic, Atomicity, ByteSet, ByteTendril, NonAtomic, SetResult, StrTendril, SubtendrilError,
+    Tendril, View,
 };
 use tendril_callers::parts::parts;
 use test_tools::Notes;
@@ -19,17 +21,17 @@ pub(crate) fn text_of<A: Atomicity>(
     notes: &mut Notes,
     alloc: Global,
     string: &str,
-) -> StrTendril<A> {
+) -> Tendril<UTF8, A> {
     notes.or(
         0,
-        StrTendril::<A>::from_slice(alloc, string),
+        Tendril::<UTF8, A>::from_slice(alloc, string),
         Tendril::new(alloc),
     )
 }
 
 // The conditions of these pops are proved here.
-fn popped<A: Atomicity>(alloc: Global) -> Result<ByteTendril<A>, Refusal> {
-    let mut text: ByteTendril<A> = slice_to_tendril(alloc, b"another rather long string")?;
+fn popped<A: Atomicity>(alloc: Global) -> Result<Tendril<Bytes, A>, Refusal> {
+    let mut text = Tendril::<Bytes, A>::from_slice(alloc, b"another rather long string")?;
     if text.len32() != 26 {
         return Err(Refusal::Invalid);
     }
@@ -41,7 +43,7 @@ fn popped<A: Atomicity>(alloc: Global) -> Result<ByteTendril<A>, Refusal> {
 }
 
 fn pop_known<A: Atomicity>(notes: &mut Notes, alloc: Global) {
-    let text: ByteTendril<A> = notes.or(1, popped(alloc), Tendril::new(alloc));
+    let text: Tendril<Bytes, A> = notes.or(1, popped(alloc), Tendril::new(alloc));
     notes.same(2, text.as_byte_slice(), b"rather long ".as_slice());
     notes.same(3, text.is_shared(), true);
 }
@@ -55,7 +57,7 @@ fn pops_whose_condition_holds(rt: HostRuntime) -> Result<(), Fail> {
 }
 
 fn cut_known<A: Atomicity>(notes: &mut Notes, alloc: Global) {
-    let text: StrTendril<A> = text_of(notes, alloc, "0123456789");
+    let text: Tendril<UTF8, A> = text_of(notes, alloc, "0123456789");
     let bytes = text.as_byte_slice();
     if bytes.len() == 10 && UTF8::validate(&bytes[..9]) {
         let slice = notes.or(1, text.subtendril(0, 9), Tendril::new(alloc));
@@ -107,7 +109,7 @@ fn made<T: MadeWith<Global>>(alloc: Global) -> T {
 #[test]
 fn texts_by_the_traits_of_std(rt: HostRuntime) -> Result<(), Fail> {
     let mut notes = Notes::new();
-    let text: StrTendril<Atomic> = text_of(&mut notes, rt.alloc(), "f\u{151}o-");
+    let text: Tendril<UTF8, Atomic> = text_of(&mut notes, rt.alloc(), "f\u{151}o-");
     notes.same(1, length_by_trait(&text), 5);
     notes.same(2, first_by_trait(&text.into_bytes()), Some(b'f'));
     notes.same(3, made::<StrTendril>(rt.alloc()).as_str(), "");
@@ -147,7 +149,7 @@ fn texts_as_keys_of_a_hash_map(rt: HostRuntime) -> Result<(), Fail> {
 #[test]
 fn texts_as_keys_of_a_sorted_map(rt: HostRuntime) -> Result<(), Fail> {
     let mut notes = Notes::new();
-    let mut places: BTreeMap<StrTendril<Atomic>, usize> = BTreeMap::new(rt.alloc());
+    let mut places: BTreeMap<Tendril<UTF8, Atomic>, usize> = BTreeMap::new(rt.alloc());
     for (place, string) in ORDERED.iter().enumerate().rev() {
         let key = text_of(&mut notes, rt.alloc(), string);
         let before = notes.or(place, places.insert(key, place), None);
@@ -191,5 +193,53 @@ fn names_of_refusals(rt: HostRuntime) -> Result<(), Fail> {
         let printed = notes.or(row, format!(in rt.alloc(); "{refusal}"), none);
         notes.same(row, printed.as_str(), *name);
     }
+    notes.end()
+}
+
+#[test]
+fn errors_that_become_refusals(rt: HostRuntime) -> Result<(), Fail> {
+    let mut notes = Notes::new();
+    let text = Tendril::<UTF8, NonAtomic>::new(rt.alloc());
+    notes.same(0, Refusal::from((Refusal::Count, text)), Refusal::Count);
+    notes.same(1, Refusal::from(AllocError), Refusal::Memory);
+    let error = io::Error::from(ErrorKind::OutOfMemory);
+    notes.same(2, Refusal::from(error), Refusal::Memory);
+    let error = io::Error::from(ErrorKind::NotFound);
+    notes.same(3, Refusal::from(error), Refusal::Io);
+    notes.end()
+}
+
+// As each prints a text.
+fn printed<T: Debug>(alloc: Global, notes: &mut Notes, row: usize, value: &T, expected: &str) {
+    let text = StrTendril::format(alloc, &format_args!("{value:?}"));
+    let text = notes.or(row, text, Tendril::new(alloc));
+    notes.same(row, text.as_str(), expected);
+}
+
+#[test]
+fn values_that_have_texts_in_debug(rt: HostRuntime) -> Result<(), Fail> {
+    let mut notes = Notes::new();
+    let alloc = rt.alloc();
+    let text = StrTendril::from_short_str(alloc, "a\n");
+    let inline = "Tendril<UTF8>(inline: \"a\\n\")";
+    printed(alloc, &mut notes, 0, &text, inline);
+    let view: Result<View<UTF8, NonAtomic>, Refusal> = text.try_reinterpret_view();
+    match &view {
+        Ok(view) => printed(alloc, &mut notes, 1, view, inline),
+        Err(refusal) => notes.done(1, Err(*refusal)),
+    }
+    let bytes = "Tendril<Bytes>(inline: [97, 10])";
+    printed(alloc, &mut notes, 2, &text.as_bytes(), bytes);
+    let character: SetResult<UTF8> = SetResult::FromSet('<');
+    printed(alloc, &mut notes, 3, &character, "FromSet('<')");
+    drop(view);
+    let front = SetResult::NotFromSet(text);
+    printed(
+        alloc,
+        &mut notes,
+        4,
+        &front,
+        "NotFromSet(Tendril<UTF8>(inline: \"a\\n\"))",
+    );
     notes.end()
 }

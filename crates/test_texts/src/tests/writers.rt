@@ -4,12 +4,13 @@ use crate::tests::texts::text_of;
 use std::alloc::Global;
 use std::fmt::{self, Display, Formatter, Write};
 use std::test::Fail;
+use tendril::fmt::UTF8;
 use tendril::{Atomic, Atomicity, ByteTendril, NonAtomic, StrTendril, Tendril, format_tendril};
 use tendril_callers::writing::{print_line, set_byte, write_twice};
 use test_tools::Notes;
 
 fn print_values<A: Atomicity>(notes: &mut Notes, alloc: Global) {
-    let mut text: StrTendril<A> = text_of(notes, alloc, "=");
+    let mut text: Tendril<UTF8, A> = text_of(notes, alloc, "=");
     notes.done(1, write!(text, "{:>6}|{:-<5}|{:^7}|", 42, "ab", 'x'));
     notes.done(2, write!(text, "{:04}|{:x}|{:?}", 7, 255, "q\n"));
     notes.done(3, text.write_char('\u{14B}'));
@@ -69,15 +70,15 @@ impl Display for Breaks {
 fn print_broken<A: Atomicity>(notes: &mut Notes, alloc: Global) {
     let text = notes.or(
         0,
-        StrTendril::<A>::format(alloc, &Breaks),
+        Tendril::<UTF8, A>::format(alloc, &Breaks),
         Tendril::new(alloc),
     );
     notes.same(0, text.as_str(), "so far, so good");
-    let (text, answer) = StrTendril::<A>::print(alloc, &Breaks);
+    let (text, answer) = Tendril::<UTF8, A>::print(alloc, &Breaks);
     let text = notes.or(1, text, Tendril::new(alloc));
     notes.same(1, text.as_str(), "so far, so good");
     notes.same(2, answer, Err(fmt::Error));
-    let (_, answer) = StrTendril::<A>::print(alloc, &"all of it");
+    let (_, answer) = Tendril::<UTF8, A>::print(alloc, &"all of it");
     notes.same(3, answer, Ok(()));
 }
 

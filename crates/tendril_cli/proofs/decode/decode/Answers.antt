@@ -1,4 +1,4 @@
-use Rattle.std.proofs.Common.{◌∷◌, ◌∙◌, ◌++◌, [], ap, arith, length-append, refl, subst, sym}
+use Rattle.std.proofs.Common.{◌∷◌, ◌∙◌, ◌++◌, [], arith, length-append, refl, subst, sym}
 use Rattle.std.proofs.lemmas.List.Elements.{All-nil, All-push}
 use Rattle.std.proofs.lemmas.Result.{IfErr-weaker, err_from_is_err_and, on_ok_weaker}
 use Rattle.tendril_cli.proofs.DecodingLemmas.{decoded, end_stops, ready_first}
@@ -14,7 +14,7 @@ loop-made-init g c = (
   refl,
   omega arith,
   MakesReads-none g.R.CountedRead.history g.R.CountedRead.remaining c.args.reader.now,
-  ready_first (g.W.Write.contents c.args.out.now) _ _ _ c.new-decoder.ensures.kept c.new-decoder.ensures.failed (ap (λ s. s.text.bytes) c.new-decoder.ensures.sink ∙ c.new.ensures),
+  ready_first (g.W.Write.contents c.args.out.now) _ _ _ c.new-decoder.ensures.kept c.new-decoder.ensures.failed (c.new-decoder.ensures.sink ∙ c.new.ensures),
 )
 
 pub loop-made-preserved : goal.loop-made-preserved
@@ -57,9 +57,9 @@ returns-then-branch-clause-ok g c =
     let test = c.loop-made-test.true in
     let count = i.2 in
     let e = c.in_ok-decode_read.ensures.ended c.if-branch.true in
-    let ready : IsReady i.0 (g.W.Write.contents c.args.out.now) (g.W.Write.contents c.decode_read.new.out) c.decode_read.new.decoder.kept c.decode_read.new.decoder.failed c.decode_read.new.decoder.inner_sink.text.bytes
-    = subst (λ o. IsReady i.0 (g.W.Write.contents c.args.out.now) (g.W.Write.contents o) c.decode_read.new.decoder.kept c.decode_read.new.decoder.failed c.decode_read.new.decoder.inner_sink.text.bytes) (sym e.3)
-    (subst (λ d. IsReady i.0 (g.W.Write.contents c.args.out.now) (g.W.Write.contents c.loop-made.out) d.kept d.failed d.inner_sink.text.bytes) (sym e.2) i.5) in
+    let ready : IsReady i.0 (g.W.Write.contents c.args.out.now) (g.W.Write.contents c.decode_read.new.out) c.decode_read.new.decoder.kept c.decode_read.new.decoder.failed c.decode_read.new.decoder.inner_sink
+    = subst (λ o. IsReady i.0 (g.W.Write.contents c.args.out.now) (g.W.Write.contents o) c.decode_read.new.decoder.kept c.decode_read.new.decoder.failed c.decode_read.new.decoder.inner_sink) (sym e.3)
+    (subst (λ d. IsReady i.0 (g.W.Write.contents c.args.out.now) (g.W.Write.contents c.loop-made.out) d.kept d.failed d.inner_sink) (sym e.2) i.5) in
     on_ok_weaker c.decode_end.result (λ h. (
       i.0 ++ CameToEnd ∷ [],
       MakesReads-on g.R.CountedRead.history g.R.CountedRead.remaining c.args.reader.now c.loop-made.reader c.decode_read.new.reader i.0 (CameToEnd ∷ []) i.4 e.0,
@@ -73,9 +73,9 @@ returns-then-branch-clause-stops g c =
     let test = c.loop-made-test.true in
     let count = i.2 in
     let e = c.in_ok-decode_read.ensures.ended c.if-branch.true in
-    let ready : IsReady i.0 (g.W.Write.contents c.args.out.now) (g.W.Write.contents c.decode_read.new.out) c.decode_read.new.decoder.kept c.decode_read.new.decoder.failed c.decode_read.new.decoder.inner_sink.text.bytes
-    = subst (λ o. IsReady i.0 (g.W.Write.contents c.args.out.now) (g.W.Write.contents o) c.decode_read.new.decoder.kept c.decode_read.new.decoder.failed c.decode_read.new.decoder.inner_sink.text.bytes) (sym e.3)
-    (subst (λ d. IsReady i.0 (g.W.Write.contents c.args.out.now) (g.W.Write.contents c.loop-made.out) d.kept d.failed d.inner_sink.text.bytes) (sym e.2) i.5) in
+    let ready : IsReady i.0 (g.W.Write.contents c.args.out.now) (g.W.Write.contents c.decode_read.new.out) c.decode_read.new.decoder.kept c.decode_read.new.decoder.failed c.decode_read.new.decoder.inner_sink
+    = subst (λ o. IsReady i.0 (g.W.Write.contents c.args.out.now) (g.W.Write.contents o) c.decode_read.new.decoder.kept c.decode_read.new.decoder.failed c.decode_read.new.decoder.inner_sink) (sym e.3)
+    (subst (λ d. IsReady i.0 (g.W.Write.contents c.args.out.now) (g.W.Write.contents c.loop-made.out) d.kept d.failed d.inner_sink) (sym e.2) i.5) in
     IfErr-weaker c.decode_end.result _ _ (λ r h. (
       i.0 ++ CameToEnd ∷ [],
       MakesReads-on g.R.CountedRead.history g.R.CountedRead.remaining c.args.reader.now c.loop-made.reader c.decode_read.new.reader i.0 (CameToEnd ∷ []) i.4 e.0,

@@ -14,7 +14,7 @@ use Rattle.tendril_cli.proofs.decode.decode_read.Goals as goal
 pub returns-in_err-read_once-clause-stops : goal.returns-in_err-read_once-clause-stops
 returns-in_err-read_once-clause-stops g c = λ before these on some ready.
     let q = err_from_is_err_and c.from_residual.result c.from_residual.ensures.1 in rw (q.1, q.2) (
-    read_stops (λ d. d.inner_sink) (λ d. d.kept) (λ d. d.failed) (λ s. chars s.text.bytes) (λ a e r b. (b.text.bytes ≡ a.text.bytes) × JoinRefused a.text.bytes e r) (λ a r. ⊥)
+    read_stops (λ d. d.inner_sink) (λ d. d.kept) (λ d. d.failed) (λ s. chars s) (λ a e r b. (b ≡ a) × JoinRefused e r) (λ a r. ⊥)
     g.R.CountedRead.history g.R.CountedRead.remaining c.args.reader.now c.read_once.new.reader _ before _ these on some ready.writes c.args.decoder.now c.read_once.new.sink _ c.in_err-read_once.ensures.err ready.goes_on)
 
 pub returns-in_err-write_text-clause-stops : goal.returns-in_err-write_text-clause-stops
@@ -22,10 +22,10 @@ returns-in_err-write_text-clause-stops g c = λ before these on some ready.
     let d = c.args.decoder.now in
     let n = c.read_once.new.sink in
     let once = subst (ReadsOnce g.R.CountedRead.history g.R.CountedRead.remaining c.args.reader.now c.read_once.new.reader d n
-    (λ d e n. (d.failed ≡ false) × (n.failed ≡ false) × Decodes (λ a e b. chars b.text.bytes ≡ chars a.text.bytes ++ characters (told_of e)) d.inner_sink d.kept e n.inner_sink n.kept)) c.if-branch.false c.in_ok-read_once.ensures.ok in
-    let bytes = n.inner_sink.text.bytes in
-    let stands = ready_stands (λ s. chars s.text.bytes) these before _ d.kept d.inner_sink.text.bytes d.failed d.inner_sink ready refl in
-    let m = heard (λ d. d.inner_sink) (λ d. d.kept) (λ d. d.failed) (λ s. chars s.text.bytes) (λ a e r b. (b.text.bytes ≡ a.text.bytes) × JoinRefused a.text.bytes e r) (λ a r. ⊥) (characters (due_open (given these))) (given these) d n once.0 once.3 ready.goes_on stands in
+    (λ d e n. (d.failed ≡ false) × (n.failed ≡ false) × Decodes (λ a e b. chars b ≡ chars a ++ characters (told_of e)) d.inner_sink d.kept e n.inner_sink n.kept)) c.if-branch.false c.in_ok-read_once.ensures.ok in
+    let bytes = n.inner_sink in
+    let stands = ready_stands (λ s. chars s) these before _ d.kept d.inner_sink d.failed d.inner_sink ready refl in
+    let m = heard (λ d. d.inner_sink) (λ d. d.kept) (λ d. d.failed) (λ s. chars s) (λ a e r b. (b ≡ a) × JoinRefused e r) (λ a r. ⊥) (characters (due_open (given these))) (given these) d n once.0 once.3 ready.goes_on stands in
     let tells = m.0.tells ∙ ap (λ l. characters (due_open l)) (sym (given-push these once.0)) in
     let front = subst (λ cs. WritesFrontOfText cs before (g.W.Write.contents c.write_text.new.out)) tells
     (writes_then_front _ _ _ (characters (due_open (given these))) (chars bytes) ready.writes (front_of_text _ _ bytes c.write_text.ensures.utf8 c.in_err-write_text.ensures.err)) in
@@ -36,10 +36,10 @@ returns-clause-read g c = λ before these ready not.
     let d = c.args.decoder.now in
     let n = c.read_once.new.sink in
     let once = subst (ReadsOnce g.R.CountedRead.history g.R.CountedRead.remaining c.args.reader.now c.read_once.new.reader d n
-    (λ d e n. (d.failed ≡ false) × (n.failed ≡ false) × Decodes (λ a e b. chars b.text.bytes ≡ chars a.text.bytes ++ characters (told_of e)) d.inner_sink d.kept e n.inner_sink n.kept)) c.if-branch.false c.in_ok-read_once.ensures.ok in
-    let bytes = n.inner_sink.text.bytes in
-    let stands = ready_stands (λ s. chars s.text.bytes) these before _ d.kept d.inner_sink.text.bytes d.failed d.inner_sink ready refl in
-    let m = heard (λ d. d.inner_sink) (λ d. d.kept) (λ d. d.failed) (λ s. chars s.text.bytes) (λ a e r b. (b.text.bytes ≡ a.text.bytes) × JoinRefused a.text.bytes e r) (λ a r. ⊥) (characters (due_open (given these))) (given these) d n once.0 once.3 ready.goes_on stands in
+    (λ d e n. (d.failed ≡ false) × (n.failed ≡ false) × Decodes (λ a e b. chars b ≡ chars a ++ characters (told_of e)) d.inner_sink d.kept e n.inner_sink n.kept)) c.if-branch.false c.in_ok-read_once.ensures.ok in
+    let bytes = n.inner_sink in
+    let stands = ready_stands (λ s. chars s) these before _ d.kept d.inner_sink d.failed d.inner_sink ready refl in
+    let m = heard (λ d. d.inner_sink) (λ d. d.kept) (λ d. d.failed) (λ s. chars s) (λ a e r b. (b ≡ a) × JoinRefused e r) (λ a r. ⊥) (characters (due_open (given these))) (given these) d n once.0 once.3 ready.goes_on stands in
     let tells = m.0.tells ∙ ap (λ l. characters (due_open l)) (sym (given-push these once.0)) in (
       once.0,
       once.1,
@@ -49,6 +49,6 @@ returns-clause-read g c = λ before these ready not.
             (writes_both _ _ _ (characters (due_open (given these))) (chars bytes) ready.writes (writes_text _ _ bytes c.write_text.ensures.utf8 c.in_ok-write_text.ensures.ok));
         keeps = m.0.keeps ∙ ap kept (sym (given-push these once.0));
         goes_on = m.1;
-        empty = c.clear.ensures.bytes;
+        empty = c.clear.ensures;
       },
     )

@@ -14,8 +14,8 @@ returns-in-Err-clause-err g c = λ piece.
 
 pub returns-clause-err : goal.returns-clause-err
 returns-clause-err g c = λ piece.
-    let t = c.short.result in
-    let is : IsReplacement t = record { bytes = c.short.ensures.bytes; copied = c.short.ensures.copied ∙ sym (ap length c.short.ensures.bytes) } in
+    let t = c.from_short_str.result in
+    let is : IsReplacement t = record { bytes = c.from_short_str.ensures.bytes; copied = c.from_short_str.ensures.copied ∙ sym (ap length c.from_short_str.ensures.bytes) } in
     IfErr-weaker c.send.result _ _ (λ refusal refuses.
     Stops-after g.S.TendrilSink.takes g.S.TendrilSink.refuses piece c.args.sink.now c.error.new.self c.send.new.sink (Mark c.args.words.now ∷ []) (Char 0xFFFD ∷ []) (replaced c.args.words.now) refusal
     (Feeds-one g.S.TendrilSink.takes piece c.args.sink.now (Fault c.args.words.now) c.error.new.self tt c.in_default.ensures.ok)
@@ -24,8 +24,8 @@ returns-clause-err g c = λ piece.
 
 pub returns-clause-ok : goal.returns-clause-ok
 returns-clause-ok g c = λ piece.
-    let t = c.short.result in
-    let is : IsReplacement t = record { bytes = c.short.ensures.bytes; copied = c.short.ensures.copied ∙ sym (ap length c.short.ensures.bytes) } in
+    let t = c.from_short_str.result in
+    let is : IsReplacement t = record { bytes = c.from_short_str.ensures.bytes; copied = c.from_short_str.ensures.copied ∙ sym (ap length c.from_short_str.ensures.bytes) } in
     on_ok_weaker c.send.result (λ takes.
     Feeds-append g.S.TendrilSink.takes piece c.args.sink.now c.error.new.self c.send.new.sink (Mark c.args.words.now ∷ []) (Char 0xFFFD ∷ [])
     (Feeds-one g.S.TendrilSink.takes piece c.args.sink.now (Fault c.args.words.now) c.error.new.self tt c.in_default.ensures.ok)

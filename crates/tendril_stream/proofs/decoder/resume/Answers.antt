@@ -36,14 +36,14 @@ returns-in_err-send-in-Ok-clause-err g c =
     let k = c.args.kept.now in
     let p = c.args.piece.now.bytes in
     let rest = c.complete_from.new.piece.bytes in
-    let t = c.short.result in
+    let t = c.from_short_str.result in
     let held : 0 < length c.kept.result.now = grind (arith, nat_tests) in
     let some : 0 < length k = subst (λ l. 0 < length l) c.kept.ensures.bytes held in
     let h = subst (λ f. MatchResult f (λ t. CompletesTo k p t rest) (λ b. BreaksAt k p b rest)) c.in-Ok.is c.in-Some.ensures.completed in
-    let is : t.bytes ≡ c.in-Ok.text = c.short.ensures.bytes ∙ c.as_str.ensures in
+    let is : t.bytes ≡ c.in-Ok.text = c.from_short_str.ensures.bytes ∙ c.as_str.ensures in
     let whole : CompletesTo k p t.bytes rest = subst (λ l. CompletesTo k p l rest) (sym is) h in
     let a = after_text k p t.bytes rest whole in
-    let fit = short_handed c.args.piece.now t k p rest some whole (c.short.ensures.copied ∙ sym (ap length c.short.ensures.bytes)) in
+    let fit = short_handed c.args.piece.now t k p rest some whole (c.from_short_str.ensures.copied ∙ sym (ap length c.from_short_str.ensures.bytes)) in
     let q = err_from_is_err_and c.from_residual.result c.from_residual.ensures.1 in rw (q.1, q.2) (Stops-call g.S.TendrilSink.takes g.S.TendrilSink.refuses c.args.piece.now c.args.sink.now (Piece t) (due_open rest) (due_open (k ++ p)) _ c.send.new.sink fit (sym a.0) c.in_err-send-in-Ok.ensures.err)
 
 pub returns-in_ok-send-in-Ok-clause-ok : goal.returns-in_ok-send-in-Ok-clause-ok
@@ -51,14 +51,14 @@ returns-in_ok-send-in-Ok-clause-ok g c =
     let k = c.args.kept.now in
     let p = c.args.piece.now.bytes in
     let rest = c.complete_from.new.piece.bytes in
-    let t = c.short.result in
+    let t = c.from_short_str.result in
     let held : 0 < length c.kept.result.now = grind (arith, nat_tests) in
     let some : 0 < length k = subst (λ l. 0 < length l) c.kept.ensures.bytes held in
     let h = subst (λ f. MatchResult f (λ t. CompletesTo k p t rest) (λ b. BreaksAt k p b rest)) c.in-Ok.is c.in-Some.ensures.completed in
-    let is : t.bytes ≡ c.in-Ok.text = c.short.ensures.bytes ∙ c.as_str.ensures in
+    let is : t.bytes ≡ c.in-Ok.text = c.from_short_str.ensures.bytes ∙ c.as_str.ensures in
     let whole : CompletesTo k p t.bytes rest = subst (λ l. CompletesTo k p l rest) (sym is) h in
     let a = after_text k p t.bytes rest whole in
-    let fit = short_handed c.args.piece.now t k p rest some whole (c.short.ensures.copied ∙ sym (ap length c.short.ensures.bytes)) in
+    let fit = short_handed c.args.piece.now t k p rest some whole (c.from_short_str.ensures.copied ∙ sym (ap length c.from_short_str.ensures.bytes)) in
     (map Char (chars t.bytes), Feeds-one g.S.TendrilSink.takes c.args.piece.now c.args.sink.now (Piece t) c.send.new.sink fit c.in_ok-send-in-Ok.ensures.ok, a.0, a.1, c.in-Some.ensures.emptied, rest_kept c.args.piece.now c.complete_from.new.piece c.in-Some.ensures.copied, (length t.bytes - length k, whole.left))
 
 pub returns-in_ok-replace-in-Err-clause-ok : goal.returns-in_ok-replace-in-Err-clause-ok

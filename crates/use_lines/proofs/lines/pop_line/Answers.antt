@@ -9,8 +9,8 @@ pub returns : goal.returns
 returns c =
     let old = c.args.text.now in
     let mid = c.pop_front_until.new.self in
-    let new = c.strip_prefix.new.self in
-    let strip = c.strip_prefix in
+    let new = c.skip_prefix.new.self in
+    let strip = c.skip_prefix in
     elim c.match-branch-2.branch [
       | in-Some w ↦
           let front = subst (λ found. IfSome found (λ line. PartsBefore (has_byte c.args.feed.now) old line mid)) w.in-Some.is c.in_ok-line.ensures.front in

@@ -32,7 +32,7 @@ returns-else-count-eq0 g c =
     let each = subst (λ (r : RopeText). All IsPiece r.pieces) c.self.view_is c.self.invariant.each in
     let cut = cut_behind xs index count each h c.requires.within in
     let all = joined_pieces c.self.inside.pieces.items rope c.self.view_is in
-    let is : c.as_str.result.now ≡ (piece_at xs index).bytes = c.as_str.ensures ∙ ap (λ (t : Text). t.bytes) (get_or_read xs index c.index.result.now h read no_text) in (
+    let is : c.as_str.result.now ≡ (piece_at xs index).bytes = c.as_str.ensures.value ∙ ap (λ (t : Text). t.bytes) (get_or_read xs index c.index.result.now h read no_text) in (
       λ t. subst (λ b. IsCharBoundary b at) (sym all) (cut.0 (subst (λ b. IsCharBoundary b count) is (c.is_char_boundary.ensures.test.0 t))),
       λ b. c.is_char_boundary.ensures.test.1 (subst (λ b. IsCharBoundary b count) (sym is) (cut.1 (subst (λ b. IsCharBoundary b at) all b))),
     )
