@@ -1,6 +1,6 @@
 -- How a call ends: which refusal must come, which may, and what holds otherwise.
 use Rattle.std.specs.Prelude.{ℕ, ◌≡◌, ◌<◌, ◌≤◌, ◌+◌, ◌⊎◌, List, length, take, drop, Option, Some, None, Result, Ok, Err}
-use Rattle.tendril_block.specs.declared.atomicity.TheConstants.{MAX_LEN}
+use Rattle.tendril_block.specs.declared.atomicity.TheConstants.{INLINE_LEN, MAX_LEN}
 use Rattle.tendril_block.specs.declared.refusal.Refusal.{Refusal}
 use Rattle.tendril_block.specs.declared.refusal.Refusal.TheVariants.{
   TooLong,
@@ -54,11 +54,11 @@ PopMust valid b count rest must = CutMust (count ≤ length b) valid rest must
 
 -- no state rules out that memory is wanting where a text would have so many bytes
 abbrev pub MemoryMay : ℕ → Refusal → Type 0
-MemoryMay count r = (r ≡ Memory) × (8 < count)
+MemoryMay count r = (r ≡ Memory) × (INLINE_LEN < count)
 
 -- no state rules out that the count is full where so many bytes would be shared
 abbrev pub CountMay : ℕ → Refusal → Type 0
-CountMay count r = (r ≡ Count) × (8 < count)
+CountMay count r = (r ≡ Count) × (INLINE_LEN < count)
 
 -- no other refusal may come
 abbrev pub NoneMay : Refusal → Type 0

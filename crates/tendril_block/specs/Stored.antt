@@ -8,7 +8,7 @@ abbrev pub stored_bytes : Stored → List ℕ
 stored_bytes (Small few) = few
 stored_bytes (Large bytes) = bytes.items
 
--- so many bytes in all take no memory
+-- the capacity is at least `count` bytes
 abbrev pub HasRoom : Stored → ℕ → Type 0
 HasRoom (Small few) count = count ≤ 40
 HasRoom (Large bytes) count = count ≤ vec_capacity bytes

@@ -1,24 +1,24 @@
-//! Blocks whose holders may be in any threads, and blocks whose holders stay in one.
+//! Blocks whose references may be in any threads, and blocks whose references stay in one.
 
 use crate::atomicity::MAX_HOLDERS;
 use crate::holder::{CountedBy, Holder};
 use crate::node::any_thread::AnyThread;
 use crate::node::one_thread::OneThread;
 
-/// Blocks of at most N holders, in any threads: counted by atomic steps. N is taken as 1 where it is 0, and as
+/// Blocks of at most N references, in any threads: counted by atomic steps. N is taken as 1 where it is 0, and as
 /// `MAX_HOLDERS` where it is more.
 pub type AtomicUpTo<const N: u64> = CountedBy<AnyThread, N>;
 
-/// One holder of such a block.
+/// One reference to a block that may be in any threads.
 pub type SharedBlock<const N: u64> = Holder<AnyThread, N>;
 
-/// Blocks of at most `MAX_HOLDERS` holders, in any threads.
+/// Blocks of at most `MAX_HOLDERS` references, in any threads.
 pub type Atomic = AtomicUpTo<MAX_HOLDERS>;
 
 /// Blocks that stay in one thread: counted by a plain number, up to `MAX_HOLDERS`.
 pub type NonAtomic = CountedBy<OneThread, MAX_HOLDERS>;
 
-/// One holder of a block of one thread.
+/// One reference to a block of one thread.
 pub type LocalBlock = Holder<OneThread, MAX_HOLDERS>;
 
 const _: () = prove!(size_of::<SharedBlock<3>>() == 8);

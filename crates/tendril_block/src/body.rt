@@ -1,15 +1,15 @@
-//! The bytes of a block, as the one holder that may change them sees them.
+//! The bytes of a block, as its only reference sees them, which may change them.
 ghost use Rattle.std.specs.Prelude.{◌≡◌, ◌+◌, ◌<◌, ◌≤◌, ◌++◌, [], length, take, drop, replicate, slice_set, true, false, IfOk, IfErr, OnOk, OnErr};
-ghost use Rattle.tendril_block.specs.Behind.{behind_bytes};
+ghost use Rattle.tendril_block.specs.Tail.{tail_bytes};
 
-use crate::behind::Behind;
 use crate::copied::Copied;
 use crate::refusal::Refusal;
 use crate::stored::Stored;
+use crate::tail::Tail;
 use std::alloc::Global;
 use std::marker::Model;
 
-/// The bytes of a block and how many of them it took: lent to a holder that is alone.
+/// The bytes of a block and how many were copied into it: borrowed by the only reference.
 #[derive(Drop)]
 pub struct Body {
     stored: Stored,
@@ -30,7 +30,7 @@ impl Body {
     ghost use Rattle.tendril_block.specs.contracts.body.Body.{the_row};
     ghost use Rattle.std.specs.Borrow.{Lends, Array, u8, sem};
 
-    /// A body of no bytes. Takes no memory.
+    /// A body of no bytes. Allocates nothing.
     pub(crate) fn empty(alloc: Global) -> Self
         ensures bytes { result.bytes ≡ [] }
         ensures took { result.took ≡ 0 }
@@ -41,7 +41,7 @@ impl Body {
         }
     }
 
-    /// A copy of these bytes with room for so many.
+    /// A copy of these bytes with this capacity.
     pub(crate) fn copy(alloc: Global, bytes: &[u8], capacity: usize) -> Result<Self, Refusal>
         ensures bytes { IfOk result (λ b. b.bytes ≡ bytes.now) }
         ensures took { IfOk result (λ b. b.took ≡ length bytes.now) }
@@ -54,7 +54,7 @@ impl Body {
         })
     }
 
-    /// The bytes count as copied once.
+    /// Counts each byte as copied once.
     pub(crate) fn recount(&mut self)
         ensures bytes { self.new.bytes ≡ self.old.bytes }
         ensures took { self.new.took ≡ length self.old.bytes }
@@ -64,7 +64,7 @@ impl Body {
         self.took = none.plus(&none, &none, len);
     }
 
-    /// These bytes take the place of all.
+    /// Replaces all bytes by these.
     pub(crate) fn adopt(&mut self, bytes: Vec<u8>)
         ensures bytes { self.new.bytes ≡ bytes.items }
         ensures took { self.new.took ≡ self.old.took + length bytes.items }
@@ -89,7 +89,7 @@ impl Body {
         &self.took
     }
 
-    /// Makes room for `more` further bytes.
+    /// Makes spare capacity for `more` bytes.
     pub fn reserve(&mut self, more: usize) -> Result<(), Refusal>
         ensures same { self.new ≡ self.old }
         ensures refusal { IfErr result (λ r. r ≡ Refusal.Memory) }
@@ -102,7 +102,7 @@ impl Body {
         self.stored.make_room(count)
     }
 
-    /// Puts bytes at the end, in amortized time of their number.
+    /// Appends bytes, in amortized time of their number.
     pub fn append(&mut self, more: &[u8]) -> Result<(), Refusal>
         ensures bytes { OnOk result (self.new.bytes ≡ self.old.bytes ++ more.now) }
         ensures took { OnOk result (self.new.took ≡ self.old.took + length more.now) }
@@ -114,8 +114,8 @@ impl Body {
         Ok(())
     }
 
-    /// Puts bytes at the end, where exactly `at` bytes stand, more than 40, and there is room for these; whether it was
-    /// done. Asks for no memory.
+    /// Appends bytes if the block has exactly `at` bytes, more than 40, and the spare capacity; returns whether it did.
+    /// Never allocates.
     #[inline(always)]
     pub fn append_at(&mut self, at: usize, more: &[u8]) -> bool
         ensures bytes { result ≡ true → self.new.bytes ≡ self.old.bytes ++ more.now }
@@ -130,61 +130,63 @@ impl Body {
         true
     }
 
-    /// Puts so many zeros at the end, in amortized time of their number.
+    /// Appends `count` zeros, in amortized time of their number.
     pub fn append_zeros(&mut self, count: usize) -> Result<(), Refusal>
         ensures bytes { OnOk result (self.new.bytes ≡ self.old.bytes ++ replicate count 0) }
         ensures took { OnOk result (self.new.took ≡ self.old.took + count) }
         ensures refusal { IfErr result (λ r. r ≡ Refusal.Memory) }
         ensures err { OnErr result (self.new ≡ self.old) }
     {
-        self.stored.append_zeros(count)?;
-        self.took = self.took.plus(&self.took, &self.took, count);
-        Ok(())
+        let len = self.as_slice().len();
+        self.replace_end(len, Tail::Zeros(count))
     }
 
-    /// Puts bytes in the place of all from `keep` on, in amortized time of their number. Where there is no room for
-    /// them, nothing is cut off.
-    pub fn replace_end(&mut self, keep: usize, middle: &[u8], more: &[u8]) -> Result<(), Refusal>
-        ensures bytes { OnOk result (self.new.bytes ≡ take keep self.old.bytes ++ middle.now ++ more.now) }
-        ensures took { OnOk result (self.new.took ≡ self.old.took + length middle.now + length more.now) }
+    /// Replaces all bytes from `keep` on, in amortized time of the number of new bytes. If this returns an error, nothing is
+    /// cut off.
+    pub fn replace_end(&mut self, keep: usize, tail: Tail) -> Result<(), Refusal>
+        ensures bytes { OnOk result (self.new.bytes ≡ take keep self.old.bytes ++ tail_bytes tail.entry) }
+        ensures took { OnOk result (self.new.took ≡ self.old.took + length (tail_bytes tail.entry)) }
         ensures refusal { IfErr result (λ r. r ≡ Refusal.Memory) }
         ensures err { OnErr result (self.new ≡ self.old) }
     {
         let len = self.as_slice().len();
-        if middle.is_empty() && len <= keep {
-            return self.append(more);
+        match tail {
+            Tail::Parts(middle, more) if middle.is_empty() && len <= keep => {
+                return self.append(more);
+            }
+            _ => {}
         }
-        let extra = middle.len().checked_add(more.len()).ok_or(Refusal::Memory)?;
-        let count = len.min(keep).checked_add(extra).ok_or(Refusal::Memory)?;
+        let kept = len.min(keep);
+        let count = tail.total(kept).ok_or(Refusal::Memory)?;
         self.stored.make_room(count)?;
-        self.stored.replace_end(keep, middle, more);
-        self.took = self.took.plus(&self.took, &self.took, extra);
+        self.stored.replace_end(keep, tail);
+        let added = self.stored.as_slice().len() - kept;
+        self.took = self.took.plus(&self.took, &self.took, added);
         Ok(())
     }
 
-    /// Keeps so many bytes from `start` on, moves them to the front, and puts more behind them: where as many stand before
-    /// them, and there is room for all without a request for memory. Whether it was done. Takes time of the bytes that
-    /// stand there then.
-    pub(crate) fn compact(&mut self, start: usize, keep: usize, behind: Behind) -> bool
+    /// Moves the `keep` bytes from `start` on to the front, and puts a tail after them, if the places don't overlap and the
+    /// capacity is enough; returns whether it did. Takes time of the bytes that the block has then.
+    pub(crate) fn compact(&mut self, start: usize, keep: usize, tail: Tail) -> bool
         requires { start + keep ≤ length self.old.bytes }
         ensures bytes { result ≡ true →
-            self.new.bytes ≡ take keep (drop start self.old.bytes) ++ behind_bytes behind.entry }
+            self.new.bytes ≡ take keep (drop start self.old.bytes) ++ tail_bytes tail.entry }
         ensures took { result ≡ true → self.new.took ≡ self.old.took + length self.new.bytes }
         ensures unchanged { result ≡ false → self.new ≡ self.old }
     {
-        let Some(total) = behind.total(keep) else {
+        let Some(total) = tail.total(keep) else {
             return false;
         };
         if !self.stored.keep_part(start, keep, total) {
             return false;
         }
-        self.stored.put_behind(behind);
+        self.stored.replace_end(keep, tail);
         let len = self.stored.as_slice().len();
         self.took = self.took.plus(&self.took, &self.took, len);
         true
     }
 
-    /// Cuts off all bytes from `len` on. Where there are no more than `len`, nothing is done.
+    /// Cuts off all bytes from `len` on. If there are at most `len`, nothing is done.
     pub fn truncate(&mut self, len: usize)
         ensures bytes { self.new.bytes ≡ take len self.old.bytes }
         ensures took { self.new.took ≡ self.old.took }
@@ -201,7 +203,7 @@ impl Body {
         self.bytes_mut()[index] = byte;
     }
 
-    /// The bytes, to be written over in place.
+    /// The bytes, to write over in place.
     pub fn bytes_mut(&mut self) -> &mut [u8]
         ensures* lends { sem 𝓛 (Lends the_row (Array u8 0) self.entry result (overwritten self.old)) }
         ensures bytes { result.now ≡ self.old.bytes }

@@ -1,15 +1,19 @@
 //! Few bytes, in the value itself, with their number in one byte.
 ghost use Rattle.std.specs.Prelude.{◌≡◌, ◌+◌, ◌≤◌, ◌++◌, [], length, take, drop};
 ghost use Rattle.std.specs.List.{refill};
+ghost use Rattle.tendril_block.specs.Tail.{tail_bytes, tail_room};
 ghost use Rattle.std.specs.Borrow.{Lends, Array, u8 as byte, sem};
 
+use crate::tail::Tail;
 use std::alloc::Global;
 use std::marker::Model;
 
-/// The most bytes that stand in the counted node itself, so that it and they are one request for memory.
-pub const FEW: usize = 40;
+/// The most bytes that are stored in the counted node itself, so that one allocation holds both.
+pub const NODE_CAPACITY: usize = 40;
 
-/// At most `FEW` bytes. What the array holds behind them is nobody's.
+/// At most `NODE_CAPACITY` bytes. What the array holds after them belongs to no text.
+// An array with its length in one byte makes a node of 56 bytes. With the length in a word it has 64, for which `malloc` takes
+// 80.
 #[derive(Drop)]
 pub(crate) struct Few {
     len: u8,
@@ -27,7 +31,7 @@ impl Model for Few {
     ghost invariant = { λ f. (f.len ≤ 40) × (length f.cells.bytes ≡ 40) };
 }
 
-// An array in a struct of its own, so that a contract can say what a loan of its first bytes leaves.
+// An array in a struct of its own, so that a contract can say what a borrow of its first bytes leaves.
 #[derive(Drop)]
 struct Cells {
     bytes: [u8; 40],
@@ -56,8 +60,8 @@ impl Cells {
     }
 }
 
-// Writes at most 40 bytes over as many others. Of 8 and more, five words, which may overlap, are all of them: a call of std's
-// copy costs more, and guesses by the length, where here no branch depends on it.
+// Writes at most 40 bytes over as many others. Five words, which may overlap, cover 8 bytes and more: a call of std's copy
+// costs more, and branches on the length, where here no branch depends on it.
 #[inline(always)]
 fn put_words(place: &mut [u8], bytes: &[u8])
     requires few { length bytes.now ≤ 40 }
@@ -126,7 +130,7 @@ impl Few {
         self.cells.front_mut(self.len as usize)
     }
 
-    /// Puts bytes at the end.
+    /// Appends bytes.
     pub(crate) fn push(&mut self, more: &[u8])
         requires { length self.old + length more.now ≤ 40 }
         ensures { self.new ≡ self.old ++ more.now }
@@ -134,6 +138,21 @@ impl Few {
         let len = self.len as usize;
         self.cells.write(len, more);
         self.len = (len + more.len()) as u8;
+    }
+
+    /// Appends a tail.
+    pub(crate) fn push_tail(&mut self, tail: Tail)
+        requires { length self.old + tail_room tail ≤ 40 }
+        ensures { self.new ≡ self.old ++ tail_bytes tail.entry }
+    {
+        match tail {
+            Tail::Parts(middle, more) => {
+                self.push(middle);
+                self.push(more);
+            }
+            Tail::Zeros(count) => self.push(&[0; NODE_CAPACITY][..count]),
+            Tail::Room(_) => {}
+        }
     }
 
     pub(crate) fn truncate(&mut self, len: usize)
@@ -144,7 +163,7 @@ impl Few {
         }
     }
 
-    /// Keeps so many bytes from `start` on, at the front.
+    /// Moves the `len` bytes from `start` on to the front, and drops the others.
     pub(crate) fn keep_part(&mut self, start: usize, len: usize)
         requires { start + len ≤ length self.old }
         ensures { self.new ≡ take len (drop start self.old) }

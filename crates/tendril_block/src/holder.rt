@@ -1,30 +1,30 @@
-//! What the holders of a block have in common, whatever counts them.
+//! What the references to a block have in common, however they are counted.
 ghost use Rattle.std.specs.Prelude.{◌≡◌, ℕ, ◌+◌, ◌-◌, ◌⊎◌, length, IfOk, IfErr, IfSome};
 ghost use Rattle.std.specs.Borrow.{LendsSo, sem};
 ghost use Rattle.tendril_block.specs.contracts.body.Body.{the_row as body_row};
 
 use crate::atomicity::Atomicity;
-use crate::behind::Behind;
 use crate::body::Body;
 use crate::copied::Copied;
 use crate::node::kind::Kind;
 use crate::pointer::Pointer;
 use crate::refusal::Refusal;
 use crate::sole::Sole;
+use crate::tail::Tail;
 use std::alloc::Global;
 use std::marker::PhantomData;
 
-/// Blocks of at most N holders, taken as 1 where N is 0 and as `MAX_HOLDERS` where N is more. Their kind says in which threads
-/// the holders may be.
+/// Blocks of at most N references, taken as 1 where N is 0 and as `MAX_HOLDERS` where N is more. Their kind says in which
+/// threads the references may be.
 pub struct CountedBy<K, const N: u64> {
     kind: PhantomData<K>,
 }
 
-/// One holder of a block.
+/// One reference to a block.
 #[derive(Drop)]
 pub struct Holder<K: Kind, const N: u64> {
     pointer: Pointer<K, N>,
-    // What the body had taken when this holder was made or last alone, and what this holder had taken by then.
+    // What the body had taken when this reference was made or last the only one, and what this one had taken by then.
     since: Copied,
     before: Copied,
 }
@@ -41,7 +41,7 @@ impl<K: Kind, const N: u64> Atomicity for CountedBy<K, N> {
         let Ok(mut pointer) = Pointer::make(alloc, Body::empty(alloc)) else {
             return Err((Refusal::Memory, bytes));
         };
-        // The vector goes in once the node is there, so that it can be handed back where it isn't.
+        // The vector goes in once the node is allocated, so that it can be returned if that fails.
         match pointer.alone_mut() {
             Some(body) => body.adopt(bytes),
             None => return Err((Refusal::Memory, bytes)),
@@ -84,16 +84,16 @@ impl<K: Kind, const N: u64> Atomicity for CountedBy<K, N> {
         }
     }
 
-    fn compact(block: &mut Holder<K, N>, start: usize, keep: usize, behind: Behind) -> bool {
+    fn compact(block: &mut Holder<K, N>, start: usize, keep: usize, tail: Tail) -> bool {
         let none = Copied::zero();
         let since = none.plus(&none, block.pointer.body().took(), 0);
         let Some(body) = block.pointer.alone_mut() else {
             return false;
         };
-        if !body.compact(start, keep, behind) {
+        if !body.compact(start, keep, tail) {
             return false;
         }
-        // As in a new block: what was copied for this holder before doesn't count any more.
+        // As in a new block: what was copied for this reference before doesn't count any more.
         block.since = since;
         block.before = none;
         true
@@ -121,7 +121,7 @@ impl<K: Kind, const N: u64> Atomicity for CountedBy<K, N> {
 }
 
 impl<K: Kind, const N: u64> Holder<K, N> {
-    // The only holder of a block.
+    // The only reference to a block.
     fn new(pointer: Pointer<K, N>) -> Self
         ensures pointer { result.pointer ≡ pointer }
         ensures since { result.since.bytes ≡ 0 }
@@ -134,7 +134,7 @@ impl<K: Kind, const N: u64> Holder<K, N> {
         }
     }
 
-    // Counts from here on what the body takes, and keeps what it took before.
+    // Counts what the body takes from here on, and keeps what it took before.
     fn settle(&mut self)
         ensures pointer { self.new.pointer ≡ self.old.pointer }
         ensures since { self.new.since.bytes ≡ self.old.pointer.node.inner.took }
@@ -150,7 +150,7 @@ impl<K: Kind, const N: u64> Holder<K, N> {
         self.since = since;
     }
 
-    // Where others hold the block, a copy takes its place.
+    // If there are other references, a copy of the block takes its place.
     fn own(&mut self) -> Result<(), Refusal>
         ensures bytes { self.new.pointer.node.inner.bytes ≡ self.old.pointer.node.inner.bytes }
         ensures copied { (self.new ≡ self.old)

@@ -1,12 +1,11 @@
-//! Blocks of bytes that several holders share: what long texts stand in.
+//! Blocks of bytes that several references share: where long texts are stored.
 //!
-//! A block is seen by contracts as a list of bytes and the number `copied` of bytes that were copied for this holder.
-//! Only a holder that is alone may change the bytes, so what one holder does is never seen by another.
+//! Contracts see a block as a list of bytes and the number `copied` of bytes that were copied for this reference. Only a
+//! sole reference may change the bytes, so what is done through one is never seen by another.
 #![tactic(auto)]
 
 mod atomic;
 mod atomicity;
-mod behind;
 mod body;
 mod copied;
 mod few;
@@ -16,13 +15,14 @@ mod pointer;
 mod refusal;
 mod sole;
 mod stored;
+mod tail;
 
 pub use atomic::{Atomic, AtomicUpTo, LocalBlock, NonAtomic, SharedBlock};
-pub use atomicity::{Atomicity, MAX_HOLDERS, MAX_LEN, MIN_CAP};
-pub use behind::Behind;
+pub use atomicity::{Atomicity, INLINE_LEN, MAX_HOLDERS, MAX_LEN, MIN_CAP};
 pub use body::Body;
-pub use few::FEW;
+pub use few::NODE_CAPACITY;
 pub use holder::{CountedBy, Holder};
 pub use refusal::Refusal;
 pub use sole::Sole;
+pub use tail::Tail;
 pub use tendril_count::interleavings;

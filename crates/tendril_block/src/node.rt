@@ -1,6 +1,6 @@
-//! The node of a block: one piece of the heap with the word that counts its holders, and the body.
+//! The node of a block: one allocation with the word that counts its references, and the body.
 //!
-//! All functions with a raw pointer stand here. What a holder owns is said in `specs/Owned`, by the machine of
+//! All functions with a raw pointer are here. What a reference owns is said in `specs/Owned`, by the machine of
 //! `tendril_count` and the rule in which a node's word is kept.
 
 pub(crate) mod any_thread;

@@ -21,7 +21,7 @@ pub(crate) struct Pointer<K: Kind, const N: u64> {
 impl<K: Kind, const N: u64> Pointer<K, N> {
     ghost use Rattle.tendril_block.specs.contracts.pointer.Pointer.{the_row};
 
-    /// The only pointer to a body, or the body back where memory is refused.
+    /// The only pointer to a body, or the body back if its allocation fails.
     pub(crate) fn make(alloc: Global, body: Body) -> Result<Self, Body>
         ensures inner { IfOk result (λ p. p.node.inner ≡ body) }
         ensures back { IfErr result (λ b. b ≡ body) }
@@ -30,7 +30,7 @@ impl<K: Kind, const N: u64> Pointer<K, N> {
         Ok(Pointer { node })
     }
 
-    /// One more pointer, unless there are as many as there can be.
+    /// Adds a pointer, unless there are as many as there can be.
     pub(crate) fn share(&self) -> Option<Self>
         ensures { IfSome result (λ p. p.node.inner ≡ self.now.node.inner) }
     {
@@ -44,12 +44,12 @@ impl<K: Kind, const N: u64> Pointer<K, N> {
         self.node.body()
     }
 
-    /// Whether there was no other pointer a moment ago.
+    /// Whether this was the only pointer when the word was loaded. It may be stale.
     pub(crate) fn is_alone(&self) -> bool {
         self.node.is_alone()
     }
 
-    /// The body, to change it, where there is no other pointer.
+    /// The body, to change it, if this is the only pointer.
     pub(crate) fn alone_mut(&mut self) -> Option<&mut Body>
         ensures* lends { sem 𝓛 (LendsSo (the_row K.row N.row K.Kind) body_row self.entry result
             (λ n w. n.node.inner ≡ w)
@@ -59,7 +59,7 @@ impl<K: Kind, const N: u64> Pointer<K, N> {
         self.node.alone_mut()
     }
 
-    /// The bytes alone, or the pointer back where there are others.
+    /// The bytes out of the block, or the pointer back if there are others.
     pub(crate) fn into_sole(self) -> Result<Sole, Self>
         ensures bytes { IfOk result (λ s. s ≡ self.node.inner.bytes) }
         ensures back { IfErr result (λ p. p ≡ self) }
@@ -81,7 +81,7 @@ impl<K: Kind, const N: u64> Pointer<K, N> {
     }
 }
 
-// The number of holders that N stands for.
+// The limit of references that N means.
 fn most<const N: u64>() -> u64
     ensures { result ≡ limit N }
 {

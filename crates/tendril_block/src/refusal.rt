@@ -1,4 +1,4 @@
-//! Why a call is refused: one list of reasons for the whole repository.
+//! Why a call returns an error: one list of reasons for the whole repository.
 ghost use Rattle.std.specs.Prelude.{◌≡◌, ◌++◌, Some, codes, decimal};
 ghost use Rattle.tendril_block.specs.Refusals.{number_of, name_of};
 
@@ -6,22 +6,22 @@ use std::alloc::{AllocError, AllocFailed};
 use std::error::Error;
 use std::{fmt, io};
 
-/// Why a call was refused. The numbers and names are part of the product: programs print them.
+/// Why a call failed: the error of every call here. The numbers and names are part of the product: programs print them.
 ///
-/// Where several apply, the first of this order is answered: 13, 14, 5, 6, 4, 7, 1, 3, 2.
+/// Where several apply, the first of this order is returned: 13, 14, 5, 6, 4, 7, 1, 3, 2.
 #[derive(Clone, Copy, Debug, PartialEq, Eq, Hash)]
 pub enum Refusal {
     /// The resulting text would have more than 4294967295 bytes.
     TooLong = 1,
-    /// There was no memory for a growth.
+    /// An allocation failed.
     Memory = 2,
-    /// The block has as many holders as it can have.
+    /// The block has as many references as it can have.
     Count = 3,
     /// The bytes aren't valid in the format.
     Invalid = 4,
     /// An offset, a length or an index past the text.
     OutOfBounds = 5,
-    /// The text that would be cut out isn't valid in the format.
+    /// The slice isn't valid in the format.
     ValidationFailed = 6,
     /// The format can't represent the character.
     NotInFormat = 7,
@@ -29,15 +29,15 @@ pub enum Refusal {
     TooManyReads = 8,
     /// A read, an open or a write failed.
     Io = 9,
-    /// The inner sink refused.
+    /// The inner sink returned an error.
     SinkRefused = 10,
-    /// This decoder refused before.
+    /// This decoder returned an error before.
     Failed = 11,
     /// A worker couldn't be started.
     NotStarted = 12,
     /// No such slot, or it is gone.
     NoSuchSlot = 13,
-    /// The command isn't there for the slot's format.
+    /// The slot's format doesn't have the command.
     WrongFormat = 14,
 }
 

@@ -7,7 +7,7 @@ use crate::refusal::Refusal;
 use std::alloc::Global;
 use std::marker::Model;
 
-/// The bytes of a block that had one holder, in its node, which may become a block of another atomicity.
+/// The bytes of a block that had one reference, in its node, which may become a block of another atomicity.
 #[derive(Drop)]
 pub struct Sole {
     node: Box<Node>,
@@ -20,7 +20,7 @@ impl Model for Sole {
 
     ghost view = { λ s. s.node.value.body.bytes };
 
-    // As the first holder of the node wants it.
+    // As the first reference to the node needs it.
     ghost invariant = { λ s. s.node.value.count ≡ 1 };
 }
 
@@ -32,7 +32,7 @@ impl Sole {
         Sole { node }
     }
 
-    /// A copy of bytes. Few take one request for memory, more take two.
+    /// A copy of bytes. Few take one allocation, more take two.
     pub fn copy(alloc: Global, bytes: &[u8]) -> Result<Self, Refusal>
         ensures bytes { IfOk result (λ s. s ≡ bytes.now) }
         ensures refusal { IfErr result (λ r. r ≡ Refusal.Memory) }

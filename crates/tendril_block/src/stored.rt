@@ -1,11 +1,11 @@
-//! Where the bytes of a block stand: few in the counted node itself, more in a vector.
-ghost use Rattle.std.specs.Prelude.{◌≡◌, ◌+◌, ◌≤◌, ◌++◌, length, take, drop, replicate, min, true, false, IfOk, IfErr, OnOk, OnErr, vec_len, vec_capacity};
-ghost use Rattle.tendril_block.specs.Behind.{behind_bytes, behind_room};
+//! Where the bytes of a block are stored: few in the counted node itself, more in a vector.
+ghost use Rattle.std.specs.Prelude.{◌≡◌, ◌+◌, ◌≤◌, ◌++◌, length, take, drop, min, true, false, IfOk, IfErr, OnOk, OnErr, vec_len, vec_capacity};
+ghost use Rattle.tendril_block.specs.Tail.{tail_bytes, tail_room};
 ghost use Rattle.tendril_block.specs.Stored.{stored_bytes, HasRoom};
 
-use crate::behind::Behind;
-use crate::few::{FEW, Few};
+use crate::few::{Few, NODE_CAPACITY};
 use crate::refusal::Refusal;
+use crate::tail::Tail;
 use std::alloc::Global;
 
 #[derive(Drop)]
@@ -27,13 +27,13 @@ impl Stored {
         Stored::Small(few)
     }
 
-    /// A copy of these bytes with room for so many.
+    /// A copy of these bytes with this capacity.
     pub(crate) fn copy(alloc: Global, bytes: &[u8], capacity: usize) -> Result<Self, Refusal>
         ensures bytes { IfOk result (λ s. stored_bytes s ≡ bytes.now) }
         ensures refusal { IfErr result (λ r. r ≡ Refusal.Memory) }
     {
         let capacity = capacity.max(bytes.len());
-        if capacity <= FEW {
+        if capacity <= NODE_CAPACITY {
             return Ok(Stored::small(alloc, bytes));
         }
         let mut copy = Vec::with_capacity(alloc, capacity)?;
@@ -57,14 +57,14 @@ impl Stored {
         }
     }
 
-    /// Makes room for so many bytes in all.
+    /// Makes the capacity at least `count` bytes.
     pub(crate) fn make_room(&mut self, count: usize) -> Result<(), Refusal>
         ensures bytes { stored_bytes self.new ≡ stored_bytes self.old }
         ensures ok { OnOk result (HasRoom self.new count) }
         ensures refusal { IfErr result (λ r. r ≡ Refusal.Memory) }
     {
         match self {
-            Stored::Small(_) if count <= FEW => {}
+            Stored::Small(_) if count <= NODE_CAPACITY => {}
             Stored::Small(few) => {
                 let bytes = spilled(few, count)?;
                 *self = Stored::Large(bytes);
@@ -74,14 +74,14 @@ impl Stored {
         Ok(())
     }
 
-    /// Puts bytes at the end.
+    /// Appends bytes.
     pub(crate) fn append(&mut self, more: &[u8]) -> Result<(), Refusal>
         ensures bytes { OnOk result (stored_bytes self.new ≡ stored_bytes self.old ++ more.now) }
         ensures refusal { IfErr result (λ r. r ≡ Refusal.Memory) }
         ensures err { OnErr result (stored_bytes self.new ≡ stored_bytes self.old) }
     {
         match self {
-            Stored::Small(few) if more.len() <= FEW - few.len() => few.push(more),
+            Stored::Small(few) if more.len() <= NODE_CAPACITY - few.len() => few.push(more),
             Stored::Small(few) => {
                 let count = few.len().checked_add(more.len()).ok_or(Refusal::Memory)?;
                 let mut bytes = spilled(few, count)?;
@@ -93,7 +93,7 @@ impl Stored {
         Ok(())
     }
 
-    /// Puts bytes at the end, where exactly `at` bytes stand, in a vector that has room for these; whether it was done.
+    /// Appends bytes if the block has exactly `at` bytes, in a vector with the spare capacity; returns whether it did.
     #[inline(always)]
     pub(crate) fn append_at(&mut self, at: usize, more: &[u8]) -> bool
         ensures bytes { result ≡ true → stored_bytes self.new ≡ stored_bytes self.old ++ more.now }
@@ -109,37 +109,19 @@ impl Stored {
         }
     }
 
-    /// Puts so many zeros at the end.
-    pub(crate) fn append_zeros(&mut self, count: usize) -> Result<(), Refusal>
-        ensures bytes { OnOk result (stored_bytes self.new ≡ stored_bytes self.old ++ replicate count 0) }
-        ensures refusal { IfErr result (λ r. r ≡ Refusal.Memory) }
-        ensures err { OnErr result (stored_bytes self.new ≡ stored_bytes self.old) }
-    {
-        let len = self
-            .as_slice()
-            .len()
-            .checked_add(count)
-            .ok_or(Refusal::Memory)?;
-        self.make_room(len)?;
-        self.fill(count);
-        Ok(())
-    }
-
-    /// Puts bytes in the place of all from `keep` on, where there is room for them.
-    pub(crate) fn replace_end(&mut self, keep: usize, middle: &[u8], more: &[u8])
-        requires { HasRoom self.old (min keep (length (stored_bytes self.old)) + length middle.now + length more.now) }
-        ensures { stored_bytes self.new ≡ take keep (stored_bytes self.old) ++ middle.now ++ more.now }
+    /// Replaces all bytes from `keep` on, where there is capacity for the new ones.
+    pub(crate) fn replace_end(&mut self, keep: usize, tail: Tail)
+        requires { HasRoom self.old (min keep (length (stored_bytes self.old)) + tail_room tail) }
+        ensures { stored_bytes self.new ≡ take keep (stored_bytes self.old) ++ tail_bytes tail.entry }
     {
         match self {
             Stored::Small(few) => {
                 few.truncate(keep);
-                few.push(middle);
-                few.push(more);
+                few.push_tail(tail);
             }
             Stored::Large(bytes) => {
                 bytes.truncate(keep);
-                append_reserved(bytes, middle);
-                append_reserved(bytes, more);
+                append_tail(bytes, tail);
             }
         }
     }
@@ -153,8 +135,8 @@ impl Stored {
         }
     }
 
-    /// Keeps so many bytes from `start` on, at the front, where as many stand before them, and there is room for `room`
-    /// bytes in all; whether it is so.
+    /// Moves the `len` bytes from `start` on to the front and drops the others, if they don't overlap the place that they
+    /// are moved to and the capacity is at least `room`; returns whether it did.
     pub(crate) fn keep_part(&mut self, start: usize, len: usize, room: usize) -> bool
         requires { start + len ≤ length (stored_bytes self.old) }
         ensures bytes { result ≡ true → stored_bytes self.new ≡ take len (drop start (stored_bytes self.old)) }
@@ -165,47 +147,18 @@ impl Stored {
             return false;
         }
         match self {
-            Stored::Small(few) if room <= FEW => few.keep_part(start, len),
+            Stored::Small(few) if room <= NODE_CAPACITY => few.keep_part(start, len),
             Stored::Large(bytes) if room <= bytes.capacity() => keep_range(bytes, start, len),
             _ => return false,
         }
         true
     }
-
-    /// Puts these bytes at the end, where there is room for them.
-    pub(crate) fn put_behind(&mut self, behind: Behind)
-        requires { HasRoom self.old (length (stored_bytes self.old) + behind_room behind) }
-        ensures { stored_bytes self.new ≡ stored_bytes self.old ++ behind_bytes behind.entry }
-    {
-        match behind {
-            Behind::Parts(middle, more) => {
-                let len = self.as_slice().len();
-                self.replace_end(len, middle, more);
-            }
-            Behind::Zeros(count) => self.fill(count),
-            Behind::Room(_) => {}
-        }
-    }
-
-    // Puts so many zeros at the end, where there is room for them.
-    fn fill(&mut self, count: usize)
-        requires { HasRoom self.old (length (stored_bytes self.old) + count) }
-        ensures { stored_bytes self.new ≡ stored_bytes self.old ++ replicate count 0 }
-    {
-        match self {
-            Stored::Small(few) => few.push(&[0; FEW][..count]),
-            Stored::Large(bytes) => {
-                let filled = bytes.resize(bytes.len() + count, 0);
-                prove!(filled.is_ok());
-            }
-        }
-    }
 }
 
-// Keeps so many bytes from `start` on, at the front.
+// Moves the `len` bytes from `start` on to the front, and drops the others.
 fn keep_range(bytes: &mut Vec<u8>, start: usize, len: usize)
     requires within { start + len ≤ length bytes.old.items }
-    requires apart { len ≤ start }
+    requires disjoint { len ≤ start }
     ensures items { bytes.new.items ≡ take len (drop start bytes.old.items) }
     ensures capacity { vec_capacity bytes.new ≡ vec_capacity bytes.old }
 {
@@ -213,27 +166,45 @@ fn keep_range(bytes: &mut Vec<u8>, start: usize, len: usize)
     bytes.truncate(len);
 }
 
-// Writes so many bytes from `start` on over the first ones. The two parts stand apart, so it is one plain copy.
+// Copies the `len` bytes from `start` on over the first ones. The two ranges are disjoint, so it is one plain copy.
 fn copy_to_front(bytes: &mut [u8], start: usize, len: usize)
     requires within { start + len ≤ length bytes.old }
-    requires apart { len ≤ start }
+    requires disjoint { len ≤ start }
     ensures { take len bytes.new ≡ take len (drop start bytes.old) }
 {
     let (front, back) = bytes.split_at_mut(start);
     front[..len].copy_from_slice(&back[..len]);
 }
 
-// A vector of few bytes with room for so many.
+// A vector with these few bytes and a capacity of at least `count`.
 fn spilled(few: &Few, count: usize) -> Result<Vec<u8>, Refusal>
     ensures bytes { IfOk result (λ v. (v.items ≡ few.now) × (count ≤ vec_capacity v)) }
     ensures refusal { IfErr result (λ r. r ≡ Refusal.Memory) }
 {
-    let mut bytes = Vec::with_capacity(few.allocator(), count.max(2 * FEW))?;
+    let mut bytes = Vec::with_capacity(few.allocator(), count.max(2 * NODE_CAPACITY))?;
     append_reserved(&mut bytes, few.as_slice());
     Ok(bytes)
 }
 
-// Puts bytes where there is room for them.
+// Appends a tail to a vector that has the capacity for it.
+fn append_tail(bytes: &mut Vec<u8>, tail: Tail)
+    requires { vec_len bytes.old + tail_room tail ≤ vec_capacity bytes.old }
+    ensures { bytes.new.items ≡ bytes.old.items ++ tail_bytes tail.entry }
+{
+    match tail {
+        Tail::Parts(middle, more) => {
+            append_reserved(bytes, middle);
+            append_reserved(bytes, more);
+        }
+        Tail::Zeros(count) => {
+            let filled = bytes.resize(bytes.len() + count, 0);
+            prove!(filled.is_ok());
+        }
+        Tail::Room(_) => {}
+    }
+}
+
+// Appends bytes to a vector that has the capacity for them.
 fn append_reserved(bytes: &mut Vec<u8>, more: &[u8])
     requires { vec_len bytes.old + length more.now ≤ vec_capacity bytes.old }
     ensures items { bytes.new.items ≡ bytes.old.items ++ more.now }

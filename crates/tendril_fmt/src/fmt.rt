@@ -1,6 +1,6 @@
 //! What it means for bytes to be valid in a format.
 //!
-//! A `Format` is seen by contracts as two ghost members: `valid`, the lists of bytes that are valid in it, and `join`,
+//! Contracts see a `Format` as two ghost members: `valid`, the lists of bytes that are valid in it, and `join`,
 //! two valid lists as one. Code above is generic in the format and proved once, from the laws of the trait alone.
 
 mod ascii;

@@ -1,7 +1,7 @@
-//! Which UTF-8 sequence stands round a byte.
+//! Which UTF-8 sequence a byte is part of.
 //!
-//! The look is local: from a byte back to the start of its sequence, three bytes at most, and on to the sequence's
-//! end. So it serves to ask whether a text may be cut at a place without reading all of it.
+//! It looks from a byte back to the start of its sequence, three bytes at most, and on to the sequence's end. So it tells
+//! whether a text may be cut at a place without reading all of it.
 ghost use Rattle.std.specs.Prelude.{ℕ, ◌+◌, ◌-◌, ◌<◌, ◌≤◌, length, IfSome, IfNone, MatchOption, slice_index};
 ghost use Rattle.tendril_fmt.specs.Classify.{IsSequenceRound, NoneStands};
 ghost use Rattle.tendril_fmt.specs.CodePoints.{IsContinuation, AreContinuations};
@@ -13,7 +13,7 @@ use decode::{is_continuation, sequence_len_of};
 
 /// What a sequence of bytes means, whole or in part.
 ///
-/// Not all is checked: of a `Prefix` or a `Suffix` there may be no completion that is valid.
+/// Not all is checked: a `Prefix` or a `Suffix` may have no valid completion.
 #[derive(Clone, Copy, Debug, PartialEq, Eq, PartialOrd, Ord, Hash)]
 pub enum Meaning {
     /// A whole character.
@@ -27,20 +27,20 @@ pub enum Meaning {
     /// The second half of a surrogate pair, in its three bytes: the unit less 0xDC00.
     TrailSurrogate(u16),
 
-    /// The front of a sequence that goes on past the end of the bytes, and how many bytes it lacks.
+    /// The first bytes of a sequence that continues past the end of the bytes, and how many bytes it lacks.
     Prefix(usize),
 
     /// The end of a sequence that began before the bytes, as far as the byte that was asked for.
     Suffix,
 }
 
-/// The sequence round a byte.
+/// The sequence that a byte is part of.
 #[derive(Clone, Copy, Debug, PartialEq, Eq, PartialOrd, Ord, Hash)]
 pub struct Codepoint<'a> {
     /// The bytes of the sequence. Those of a `Suffix` end at the byte that was asked for.
     pub bytes: &'a [u8],
 
-    /// How many of them stand before the byte that was asked for.
+    /// How many of them are before the byte that was asked for.
     pub rewind: usize,
 
     /// What they mean.
@@ -65,7 +65,7 @@ fn start_before(buf: &[u8], idx: usize) -> Option<usize>
     None
 }
 
-// The sequence that the byte at `start` starts, if it goes on as far as `idx`.
+// The sequence that the byte at `start` starts, if it reaches `idx`.
 fn sequence_at(buf: &[u8], start: usize, idx: usize) -> Option<Codepoint<'_>>
     requires within { (start ≤ idx) × (idx < length buf.now) }
     requires start { ¬ (IsContinuation (slice_index buf.now start)) }
@@ -95,9 +95,9 @@ fn sequence_at(buf: &[u8], start: usize, idx: usize) -> Option<Codepoint<'_>>
     })
 }
 
-/// The sequence round the byte at `idx`.
+/// The sequence that the byte at `idx` is part of.
 ///
-/// None if `idx` is past the bytes, or if they are not well formed round it, as Unicode's table 3-7 has it; the
+/// `None` if `idx` is past the bytes, or if they are not well formed there, as Unicode's table 3-7 has it; the
 /// surrogates, which the table leaves out, are told apart. Reads four bytes at most. The bytes of a `Prefix` past
 /// `idx` are not looked at.
 pub fn classify(buf: &[u8], idx: usize) -> Option<Codepoint<'_>>

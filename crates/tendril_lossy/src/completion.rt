@@ -7,7 +7,7 @@ use crate::search::{Ending, first_part};
 use std::marker::Model;
 use tendril_fmt::fmt::Encoded;
 
-/// A text of at most four bytes.
+/// A text of at most four bytes: an `Encoded` whose bytes are UTF-8, as its invariant says.
 #[derive(Clone, Copy, Debug)]
 pub struct ShortText {
     bytes: Encoded,
@@ -46,18 +46,20 @@ impl ShortText {
 }
 
 /// What becomes of kept bytes that are filled to at most four from the input.
+///
+/// Values, not borrows of the kept bytes as in the Rust crate: no contract could say what these are during the borrow.
 #[derive(Clone, Copy, Debug)]
 pub enum Completion {
-    /// The longest text at their front.
+    /// The longest text that they begin with.
     Text(ShortText),
-    /// The maximal subpart, where no character begins them.
+    /// The maximal subpart, if they begin with no character.
     Broken(Encoded),
     /// They still begin a character, with all of the input.
     Open(Encoded),
 }
 
 /// Completes kept bytes from the input, of which it reads at most four bytes. What a text or a maximal subpart has beyond
-/// the kept bytes is the front of the input.
+/// the kept bytes are the first bytes of the input.
 pub fn complete(kept: &[u8], input: &[u8]) -> Completion
     requires { IsOpen kept.now }
     ensures { Completes kept.now input.now result }

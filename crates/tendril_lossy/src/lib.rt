@@ -1,4 +1,4 @@
-//! Lossy decoding of UTF-8: what is due of a stream of bytes, and the search for what breaks it.
+//! Lossy decoding of UTF-8: what a stream of bytes decodes to, and the search for broken sequences.
 #![tactic(auto)]
 
 mod completion;

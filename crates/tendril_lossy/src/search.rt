@@ -1,4 +1,4 @@
-//! The search for what breaks a stream of UTF-8.
+//! The search for broken sequences in a stream of UTF-8.
 ghost use Rattle.std.specs.Prelude.{◌≡◌, ℕ, ◌+◌, ◌<◌, ◌≤◌, ◌++◌, ◌&&◌, length, map, take, slice_index, chars, IsUtf8, IfSome, IfOk, IfErr, OnErr};
 ghost use Rattle.std.specs.Int.{is_in_range, from_le_bytes, w64};
 ghost use Rattle.std.specs.Str.{StartsWithNoChar};
@@ -6,7 +6,7 @@ ghost use Rattle.std.specs.Str.Lossy.{second_byte_min, second_byte_max, utf8_err
 ghost use Rattle.tendril_lossy.specs.AfterText.{EndsWithin, items_after};
 ghost use Rattle.tendril_lossy.specs.Lossy.{Keep, lossy};
 
-/// What follows a valid front: nothing, a broken sequence of some bytes, or a character that is cut off.
+/// What follows the longest valid prefix: nothing, a broken sequence of some bytes, or a character that is cut off.
 #[derive(Clone, Copy, Debug, PartialEq, Eq)]
 pub enum Ending {
     Whole,
@@ -20,7 +20,7 @@ const WINDOW: usize = 128;
 // Fewer bytes than these are read one character after another, if a fault is expected among them.
 const NEAR: usize = 64;
 
-/// The longest valid front, and what follows it.
+/// The longest valid prefix, and what follows it.
 pub fn first_part(bytes: &[u8]) -> (&str, Ending)
     ensures front { result.0.now ≡ take (length result.0.now) bytes.now }
     ensures items { lossy bytes.now ≡ map Keep (chars result.0.now) ++ items_after bytes.now (length result.0.now) result.1 }
@@ -29,7 +29,7 @@ pub fn first_part(bytes: &[u8]) -> (&str, Ending)
     first_part_by(bytes, WINDOW)
 }
 
-/// The same, where so many bytes are looked at first: few where a fault is likely near.
+/// The longest valid prefix, and what follows it. Begins with a window of `first` bytes: few, if a fault is likely near.
 pub fn first_part_by(bytes: &[u8], first: usize) -> (&str, Ending)
     requires { 4 ≤ first }
     ensures front { result.0.now ≡ take (length result.0.now) bytes.now }
@@ -49,7 +49,7 @@ pub fn first_part_by(bytes: &[u8], first: usize) -> (&str, Ending)
     }
 }
 
-// The same, where all is text up to a place: behind it one window is read after another, each twice as long as the last.
+// The same, if all is text up to a place: after it one window is read after another, each twice as long as the last.
 fn by_windows(bytes: &[u8], mut at: usize, mut window: usize) -> (&str, Ending)
     requires within { at ≤ length bytes.now }
     requires text { IsUtf8 (take at bytes.now) }
@@ -89,7 +89,7 @@ fn by_windows(bytes: &[u8], mut at: usize, mut window: usize) -> (&str, Ending)
     }
 }
 
-// What ends the text at the front, if it ends among the first `count` bytes or soon after; else a place up to which all is
+// What ends the text, if it ends among the first `count` bytes or soon after; else a place up to which all is
 // text. One character is read after another: a call that validates a window costs more than a few of them.
 #[inline]
 fn near(bytes: &[u8], count: usize) -> (usize, Option<Ending>)
@@ -99,7 +99,7 @@ fn near(bytes: &[u8], count: usize) -> (usize, Option<Ending>)
 {
     let mut at = 0;
     while at < count {
-        // What is read below: eight bytes, and a character of at most four behind them.
+        // What is read below: eight bytes, and a character of at most four after them.
         if bytes.len() - at < 12 {
             let (end, ending) = near_end(bytes, at);
             return (end, Some(ending));
@@ -113,7 +113,7 @@ fn near(bytes: &[u8], count: usize) -> (usize, Option<Ending>)
     (at, None)
 }
 
-// What ends the text, where all is text up to a place and few bytes are left behind it. A call, which comes once in a text.
+// What ends the text, if all is text up to a place and few bytes follow it. A call, which comes once in a text.
 #[inline(never)]
 fn near_end(bytes: &[u8], at: usize) -> (usize, Ending)
     requires within { at ≤ length bytes.now }
@@ -134,7 +134,7 @@ fn near_end(bytes: &[u8], at: usize) -> (usize, Ending)
     }
 }
 
-// How many of eight bytes stand before the first that isn't ASCII. As a word they say it without a branch.
+// How many of eight bytes are before the first that isn't ASCII. Read as a word, they tell it without a branch.
 #[inline(always)]
 fn ascii_front(bytes: &[u8]) -> usize
     requires { 8 ≤ length bytes.now }
@@ -157,7 +157,7 @@ fn word_of_eight(bytes: &[u8]) -> u64
     }
 }
 
-// How many bytes the first character has, or else the broken sequence that stands in its place.
+// How many bytes the first character has, or else the broken sequence in its place.
 #[inline(always)]
 fn first_char_len(bytes: &[u8]) -> Result<usize, usize>
     requires { 4 ≤ length bytes.now }
@@ -189,7 +189,7 @@ fn first_char_len(bytes: &[u8]) -> Result<usize, usize>
 }
 
 // Whether two bytes begin a character that isn't ASCII. Most faults are found here, so the tests that they pass are counted:
-// joined by `&` each test becomes a branch, and of random bytes no branch is foreseen.
+// joined by `&` each test becomes a branch, and with random bytes no branch is predicted.
 #[inline(always)]
 fn begin_char(first: u8, second: u8) -> bool
     ensures { result ≡ (is_in_range 0xC2 0xF4 first && is_in_range (second_byte_min first) (second_byte_max first) second) }
@@ -229,7 +229,7 @@ fn greatest_second(first: u8) -> u8
     }
 }
 
-// Whether the byte goes on with a character.
+// Whether the byte continues a character.
 #[inline(always)]
 fn goes_on(byte: u8) -> bool
     ensures { result ≡ is_in_range 0x80 0xBF byte }
@@ -237,7 +237,7 @@ fn goes_on(byte: u8) -> bool
     byte & 0xC0 == 0x80
 }
 
-// The start of the last character, where it has more than one byte and all before it is text; else the place itself.
+// The start of the last character, if it has more than one byte and all before it is text; else the place itself.
 // To find where bytes are cut off takes longer than to see that they are text.
 fn last_start(bytes: &[u8], at: usize) -> usize
     requires within { at ≤ length bytes.now }
@@ -263,7 +263,7 @@ fn char_start(bytes: &[u8], at: usize) -> usize
     back_in_char(bytes, back_in_char(bytes, back_in_char(bytes, at)))
 }
 
-// One place back, where a character can't begin at this one.
+// One place back, if a character can't begin at this one.
 fn back_in_char(bytes: &[u8], at: usize) -> usize
     requires { (0 < at) × (at < length bytes.now) }
     ensures { (result ≤ at) × (at ≤ result + 1) }

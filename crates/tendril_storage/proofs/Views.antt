@@ -1,8 +1,8 @@
-use Rattle.std.proofs.Common.{◌≡◌, ℕ, ◌+◌, ◌-◌, ◌≤◌, List, ◌++◌, length, take, drop, replicate, ap, sym, ◌∙◌, arith, append_assoc, length-append, take-add}
-use Rattle.std.proofs.lemmas.List.{drop-take, drop-drop, take-take, drop-append-le, length-drop, length-replicate, length-take-le}
+use Rattle.std.proofs.Common.{◌≡◌, ℕ, ◌+◌, ◌-◌, ◌≤◌, List, ◌++◌, length, take, drop, ap, sym, ◌∙◌, arith, append_assoc, length-append, take-add}
+use Rattle.std.proofs.lemmas.List.{drop-take, drop-drop, take-take, drop-append-le, length-drop, length-take-le}
 use Rattle.std.proofs.Math.Seq.{take-length}
 
--- so many bytes stand inline as it says
+-- inline bytes are as many as it says
 pub inline_length : (l : ℕ) (buffer : List ℕ) → l ≤ 8 → length buffer ≡ 8 → length (take l buffer) ≡ l
 inline_length l buffer h e = length-take-le l buffer (omega arith)
 
@@ -16,13 +16,13 @@ view_part o l s c xs h =
     let e : l ≡ s + (l - s) = omega arith in
     ap (λ n. take c (drop s (take n (drop o xs)))) e ∙ ap (take c) (drop-take s (l - s) (drop o xs)) ∙ take-take c (l - s) (drop s (drop o xs)) (omega arith) ∙ ap (take c) (drop-drop s o xs)
 
--- what is left of a view behind its first bytes is a view
+-- what is left of a view after its first bytes is a view
 pub view_rest : (o l c : ℕ) (xs : List ℕ) → c ≤ l → take (l - c) (drop (o + c) xs) ≡ drop c (take l (drop o xs))
 view_rest o l c xs h =
     let e : c + (l - c) ≡ l = omega arith in
     ap (take (l - c)) (sym (drop-drop c o xs)) ∙ sym (drop-take c (l - c) (drop o xs)) ∙ ap (λ n. drop c (take n (drop o xs))) e
 
--- a view of a block whose end was replaced behind the first `keep` bytes of the view
+-- a view of a block whose end was replaced after the first `keep` bytes of the view
 pub view_replaced : (o l keep : ℕ) (xs ys : List ℕ) → o + l ≤ length xs → keep ≤ l → take (keep + length ys) (drop o (take (o + keep) xs ++ ys)) ≡ take keep (take l (drop o xs)) ++ ys
 view_replaced o l keep xs ys h k =
     let short : length (take (o + keep) xs) ≡ o + keep = length-take-le (o + keep) xs (omega arith) in
@@ -30,19 +30,7 @@ view_replaced o l keep xs ys h k =
     let long : length (take keep (drop o xs) ++ ys) ≡ keep + length ys = length-append (take keep (drop o xs)) ys ∙ ap (λ n. n + length ys) (view_length o keep xs (omega arith)) in
     ap (take (keep + length ys)) split ∙ ap (λ n. take n (take keep (drop o xs) ++ ys)) (sym long) ∙ take-length (take keep (drop o xs) ++ ys) ∙ ap (λ v. v ++ ys) (sym (take-take keep l (drop o xs) k))
 
--- a view of a block whose bytes up to the view's end are kept
-pub view_kept : (o l : ℕ) (xs ys : List ℕ) → take (o + l) xs ≡ take (o + l) ys → take l (drop o xs) ≡ take l (drop o ys)
-view_kept o l xs ys e =
-    let cut : (zs : List ℕ) → take l (drop o (take (o + l) zs)) ≡ take l (drop o zs) = λ zs. ap (take l) (drop-take o l zs) ∙ take-take l l (drop o zs) (omega arith) in
-    sym (cut xs) ∙ ap (λ zs. take l (drop o zs)) e ∙ cut ys
-
--- a view of a block to which equal bytes were added behind it
-pub view_filled : (o l n x : ℕ) (xs : List ℕ) → o + l ≤ length xs → take (l + n) (drop o (take (o + l) xs ++ replicate n x)) ≡ take l (drop o xs) ++ replicate n x
-view_filled o l n x xs h =
-    let ys : List ℕ = replicate n x in
-    ap (λ k. take (l + k) (drop o (take (o + l) xs ++ ys))) (sym (length-replicate n x)) ∙ view_replaced o l l xs ys h (omega arith) ∙ ap (λ v. v ++ ys) (take-take l l (drop o xs) (omega arith))
-
--- a view and the bytes right behind it
+-- a view and the bytes right after it
 pub view_grown : (o l n : ℕ) (xs : List ℕ) → take (l + n) (drop o xs) ≡ take l (drop o xs) ++ take n (drop (o + l) xs)
 view_grown o l n xs = take-add l n (drop o xs) ∙ ap (λ v. take l (drop o xs) ++ take n v) (drop-drop l o xs)
 
@@ -51,5 +39,3 @@ pub ruleset grows = (inline_length, view_length, view_grown)
 pub ruleset slices = (inline_length, view_length, view_part, view_rest)
 
 pub ruleset replaces = (inline_length, view_length, view_replaced, length-append, append_assoc)
-
-pub ruleset fills = (inline_length, view_length, view_kept, view_filled)

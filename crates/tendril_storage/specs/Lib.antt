@@ -1,5 +1,5 @@
 -- The words of the contracts on stored bytes.
-pub mod Aparts
+pub mod Detached
 pub mod Texts
 pub mod Partings
 pub mod Storages

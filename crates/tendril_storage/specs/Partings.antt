@@ -1,15 +1,16 @@
--- A text parted in two.
+-- A text split in two.
 use Rattle.std.specs.Prelude.{ℕ, ◌≡◌, ◌<◌, ◌≤◌, ◌+◌, length, take, drop, Result, Option, MatchOption}
+use Rattle.tendril_block.specs.declared.atomicity.TheConstants.{INLINE_LEN}
 use Rattle.tendril_block.specs.declared.refusal.Refusal.{Refusal}
 use Rattle.tendril_block.specs.declared.refusal.Refusal.TheVariants.{Count}
 use Rattle.tendril_block.specs.Outcomes.{NoneMust, Outcome}
 use Rattle.tendril_storage.specs.Texts.{Text, Parts}
 
--- no state rules out that the count is full where both parts of a text of so many bytes have more than 8
+-- no state rules out that the count is full where both parts of a text of `total` bytes have more than 8
 abbrev pub BothLong : ℕ → ℕ → Refusal → Type 0
-BothLong count total r = (r ≡ Count) × (8 < count) × (8 + count < total)
+BothLong count total r = (r ≡ Count) × (INLINE_LEN < count) × (INLINE_LEN + count < total)
 
--- the first so many bytes of a text are given as a text, and the others are left
+-- the first `count` bytes of a text are given as a text, and the others are left
 pub record IsParted (count : ℕ) (old front rest : Text) : Type 0 where
   pub front_bytes : front.bytes ≡ take count old.bytes
   pub rest_bytes : rest.bytes ≡ drop count old.bytes
@@ -19,15 +20,15 @@ abbrev pub TakesFront : ℕ → Text → Result Text Refusal → Text → Type 0
 TakesFront count old result new =
     Outcome NoneMust (BothLong count (length old.bytes)) (IsParted count old) old result new
 
--- the first few bytes of a text are given as a text, so many bytes behind them are let go of, and many are left
+-- the first few bytes of a text are given as a text, the next `skip` bytes are dropped, and many are left
 pub record IsFewTaken (count skip : ℕ) (old front rest : Text) : Type 0 where
-  pub few : count ≤ 8
-  pub many : 8 + (count + skip) < length old.bytes
+  pub few : count ≤ INLINE_LEN
+  pub many : INLINE_LEN + (count + skip) < length old.bytes
   pub front_bytes : front.bytes ≡ take count old.bytes
   pub rest_bytes : rest.bytes ≡ drop (count + skip) old.bytes
   pub front_copied : front.copied ≡ count
   pub rest_copied : rest.copied ≡ old.copied
 
--- where nothing is answered, the text is as it was
+-- where `None` is returned, the text is as it was
 abbrev pub TakesFew : ℕ → ℕ → Text → Option Text → Text → Type 0
 TakesFew count skip old result new = MatchOption result (new ≡ old) (λ front. IsFewTaken count skip old front new)

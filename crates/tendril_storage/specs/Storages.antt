@@ -1,5 +1,7 @@
 -- Bytes that are held inline or in a view of a block.
 use Rattle.std.specs.Prelude.{◌≡◌, ℕ, List, ◌+◌, ◌≤◌, ◌<◌, ◌^◌, length, take, drop}
+use Rattle.tendril_block.specs.declared.atomicity.TheConstants.{INLINE_LEN}
+use Rattle.tendril_storage.specs.declared.storage.BlockView.{BlockView}
 use Rattle.tendril_storage.specs.declared.storage.Held.{Held}
 use Rattle.tendril_storage.specs.declared.storage.Held.TheVariants.{Inline, View}
 
@@ -16,10 +18,10 @@ module _ {B : Type 0} where
 
   -- inline bytes lie in their buffer, those of a view in its block
   abbrev pub IsHeld : (B → List ℕ) → Held B → Type 0
-  IsHeld bytes_of (Inline len buffer) = len ≤ 8
+  IsHeld bytes_of (Inline len buffer) = len ≤ INLINE_LEN
   IsHeld bytes_of (View shared block offset len) = (offset + len ≤ length (bytes_of block)) × (offset + len < 2 ^ 32)
 
-  -- the block, the offset and the length of a view
-  abbrev pub IsView : {C : Type 0} → Held B → C × B × ℕ × ℕ → Type 0
+  -- the bytes that are held are this view
+  abbrev pub IsView : Held B → BlockView B → Type 0
   IsView (Inline len buffer) v = ⊥
-  IsView (View shared block offset len) v = (v.1 ≡ block) × (v.2 ≡ offset) × (v.3 ≡ len)
+  IsView (View shared block offset len) v = (v.block ≡ block) × (v.offset ≡ offset) × (v.len ≡ len)

@@ -1,29 +1,30 @@
-//! Where a text's bytes stand: inline, or in a view of a block.
+//! Where a text's bytes are stored: inline, or in a view of a block.
 ghost use Rattle.std.specs.Prelude.{◌≡◌, ◌≤◌, ◌+◌, ◌++◌, [], length, take};
 ghost use Rattle.std.specs.Int.{w64, to_le_bytes};
+ghost use Rattle.tendril_block.specs.Tail.{tail_bytes};
 
-mod grow;
+mod clear;
+mod compact;
+mod grow_over;
 mod make;
 mod over;
 mod part;
-mod zeros;
+mod replace;
+mod reserve;
 
 use std::alloc::Global;
 use std::cell::Cell;
 use std::marker::Model;
-use tendril_block::{Atomicity, LocalBlock, MAX_LEN};
+use tendril_block::{Atomicity, INLINE_LEN, LocalBlock, MAX_LEN, Tail};
 
-/// The greatest number of bytes that stand inline.
-pub(crate) const INLINE: usize = 8;
-
-// Three words: the inline bytes begin on a border of 8, so that a copy moves whole words.
+// Three words: the inline bytes are aligned to 8, so that a copy moves whole words.
 pub(crate) enum Held<B> {
     Inline {
         len: u64,
         buffer: [u8; 8],
     },
     View {
-        // Whether a clone or a slice of these bytes was made. No clause speaks of it.
+        // Whether a clone or a slice of these bytes was made. No contract mentions it.
         shared: Cell<bool>,
         block: B,
         offset: u32,
@@ -31,7 +32,16 @@ pub(crate) enum Held<B> {
     },
 }
 
-// By hand, so that each place that lets go of a text has one call, and not a way for each variant.
+/// A view of a block, as `Held::View` has it.
+#[derive(Drop)]
+pub(crate) struct BlockView<B> {
+    pub(crate) shared: Cell<bool>,
+    pub(crate) block: B,
+    pub(crate) offset: u32,
+    pub(crate) len: u32,
+}
+
+// By hand, so that each place that drops a text has one call, and not a branch for each variant.
 impl<B: Drop> Drop for Held<B> {
     #[inline]
     fn drop(self) {
@@ -51,8 +61,8 @@ impl<B: Drop> Held<B> {
     ghost use Rattle.std.specs.Prelude.{MatchResult};
     ghost use Rattle.tendril_storage.specs.Storages.{IsView};
 
-    // What a view has, or inline bytes as they were.
-    pub(crate) fn into_view(self) -> Result<(Cell<bool>, B, u32, u32), Self>
+    // The view, or inline bytes as they were.
+    pub(crate) fn into_view(self) -> Result<BlockView<B>, Self>
         ensures { MatchResult result (IsView self) (λ h. h ≡ self) }
     {
         match self {
@@ -61,7 +71,12 @@ impl<B: Drop> Held<B> {
                 block,
                 offset,
                 len,
-            } => Ok((shared, block, offset, len)),
+            } => Ok(BlockView {
+                shared,
+                block,
+                offset,
+                len,
+            }),
             Held::Inline { len, buffer } => Err(Held::Inline { len, buffer }),
         }
     }
@@ -71,7 +86,7 @@ const _: () = prove!(size_of::<Held<LocalBlock>>() == 24);
 
 const _: () = prove!(align_of::<Held<LocalBlock>>() == 8);
 
-/// The bytes of a text, of whatever format.
+/// The bytes of a text, of any format.
 #[derive(Drop)]
 pub struct Storage<A: Atomicity> {
     pub(crate) held: Held<A::Block>,
@@ -140,8 +155,8 @@ impl<A: Atomicity> Storage<A> {
         }
     }
 
-    /// Where the bytes stand, in a word: `inline`, or in a block that is `shared` or `owned`.
-    pub fn standing(&self) -> &'static str {
+    /// Where the bytes are stored, in a word: `inline`, or in a block that is `shared` or `owned`.
+    pub fn storage_kind(&self) -> &'static str {
         match &self.held {
             Held::Inline { .. } => "inline",
             Held::View { shared, .. } if shared.get() => "shared",
@@ -149,17 +164,17 @@ impl<A: Atomicity> Storage<A> {
         }
     }
 
-    /// What new blocks are made with.
+    /// The allocator of new blocks.
     pub fn allocator(&self) -> Global {
         self.alloc
     }
 }
 
-// Few bytes as the lowest ones of a word. Each number of bytes has loads of its own, so that nothing reads as a word what
-// was just written in pieces: the processor would wait for that.
+// Few bytes as the lowest ones of a word. Each number of bytes has loads of its own, so that nothing reads as one word what
+// was just written in pieces: the processor would stall.
 #[inline(always)]
 pub(crate) fn word_of(bytes: &[u8]) -> u64
-    requires { length bytes.now ≤ 8 }
+    requires { length bytes.now ≤ INLINE_LEN }
     ensures { take (length bytes.now) (to_le_bytes w64 result) ≡ bytes.now }
 {
     match bytes {
@@ -175,10 +190,10 @@ pub(crate) fn word_of(bytes: &[u8]) -> u64
     }
 }
 
-// The same as a call: in line it would keep the making of long texts from being inlined.
+// The same as a call: inlined, it would keep the constructors of long texts from being inlined.
 #[inline(never)]
 fn call_word_of(bytes: &[u8]) -> u64
-    requires { length bytes.now ≤ 8 }
+    requires { length bytes.now ≤ INLINE_LEN }
     ensures { take (length bytes.now) (to_le_bytes w64 result) ≡ bytes.now }
 {
     word_of(bytes)
@@ -186,8 +201,23 @@ fn call_word_of(bytes: &[u8]) -> u64
 
 // Copies bytes to a place in a buffer.
 fn put(buffer: &mut [u8; 8], at: usize, bytes: &[u8])
-    requires { at + length bytes.now ≤ 8 }
+    requires { at + length bytes.now ≤ INLINE_LEN }
     ensures { take (at + length bytes.now) buffer.new ≡ take at buffer.old ++ bytes.now }
 {
     buffer[at..at + bytes.len()].copy_from_slice(bytes);
+}
+
+// Copies a tail to a place in a buffer.
+fn put_tail(buffer: &mut [u8; 8], at: usize, tail: Tail)
+    requires { at + length (tail_bytes tail) ≤ INLINE_LEN }
+    ensures { take (at + length (tail_bytes tail.entry)) buffer.new ≡ take at buffer.old ++ tail_bytes tail.entry }
+{
+    match tail {
+        Tail::Parts(middle, more) => {
+            put(buffer, at, middle);
+            put(buffer, at + middle.len(), more);
+        }
+        Tail::Zeros(count) => put(buffer, at, &[0; INLINE_LEN][..count]),
+        Tail::Room(_) => {}
+    }
 }

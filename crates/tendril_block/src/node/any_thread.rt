@@ -1,4 +1,4 @@
-//! Holders in any threads: the rule is kept by atomic steps on the node's word.
+//! References in any threads: the rule is kept by atomic steps on the node's word.
 ghost use Rattle.std.specs.Prelude.{true, refl};
 
 use crate::node::kind::Kind;
@@ -7,7 +7,7 @@ use std::marker::Brand;
 use std::sync::atomic::Ordering::SeqCst;
 use std::sync::atomic::raw;
 
-/// Holders in any threads.
+/// References in any threads.
 pub struct AnyThread;
 
 impl Kind for AnyThread {

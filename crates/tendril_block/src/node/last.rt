@@ -1,4 +1,4 @@
-//! The node of a block that has no holder any more.
+//! The node of a block to which there is no reference any more.
 ghost use Rattle.std.specs.Prelude.{◌≡◌, ℕ};
 ghost use Rattle.std.specs.Borrow.{sem};
 ghost use Rattle.tendril_block.specs.Owned.{BodyIn, Id, body_coded, freed, last_owns};
@@ -9,7 +9,7 @@ use crate::node::loose::Loose;
 use std::alloc::Global;
 use std::marker::Model;
 
-/// A node that its last holder gave up, with the duty to free it. It can't be let go otherwise.
+/// A node that its last reference gave up, with the duty to free it. It can't be dropped otherwise.
 pub(crate) struct Last {
     pub(crate) node: *mut Node,
     pub(crate) alloc: Global,
@@ -24,7 +24,7 @@ impl Model for Last {
 }
 
 impl Last {
-    /// The machine's free: the node is the heap's to take back.
+    /// The machine's free: gives the node back to the heap.
     pub(crate) fn free(self) -> Loose<Node, Global>
         ensures node { (result.value.count ≡ self.count) × (result.value.body ≡ self.inner) }
         ensures* freed { sem 𝓛 (fex Id (freed self.limit)) }

@@ -1,4 +1,4 @@
-//! Holders that stay in one thread: the same rule, kept for that thread, on a plain word.
+//! References that stay in one thread: the same rule, kept for that thread, on a plain word.
 ghost use Rattle.std.specs.Prelude.{false, []};
 ghost use base.Fml.{ftok};
 ghost use base.Mask.{every};
@@ -6,13 +6,13 @@ ghost use base.Mask.{every};
 use crate::node::kind::Kind;
 use std::marker::{Model, PhantomData};
 
-/// Holders that stay in one thread.
+/// References that stay in one thread.
 pub struct OneThread {
     // A raw pointer is not `Send`.
     stays: PhantomData<*const u8>,
 }
 
-// A value would own its thread's token, which no thread can give away. So the type crosses no threads.
+// A value would own its thread's token, which no thread can give away. So the type can't go to another thread.
 impl Model for OneThread {
     ghost also_owns = { λ _. ftok every };
 }

@@ -1,4 +1,5 @@
--- Where the bytes of code points may be cut: before a byte that goes on with none, so before each byte of ASCII.
+-- Where the bytes of code points may be cut: before a byte that goes on with none, so before each byte of ASCII. What
+-- follows such a byte is cut off too.
 use Rattle.std.proofs.Common.{
   ◌≡◌,
   ◌⊎◌,
@@ -17,6 +18,7 @@ use Rattle.std.proofs.Common.{
   refl,
   sym,
   ap,
+  add-one,
   subst,
   ◌∙◌,
   arith,
@@ -36,6 +38,7 @@ use Rattle.std.specs.Str.{encode_utf8_all}
 use Rattle.std.proofs.lemmas.Bool.{cases_lt}
 use Rattle.std.proofs.lemmas.Bool.Decides.{nat_tests}
 use Rattle.std.proofs.lemmas.List.{nil_from_length, get_or_append_left, take-append-le, drop-append-le}
+use Rattle.std.proofs.Math.Seq.{drop-cons}
 use Rattle.tendril_fmt.specs.CodePoints.{IsCodePoint, IsContinuation, sequence_len}
 use Rattle.tendril_fmt.specs.Wtf8.{IsWtf8}
 use Rattle.tendril_fmt.specs.Proved.Encodings.{Shape, of1, of2, of3, of4, point_shape}
@@ -146,3 +149,32 @@ IsWtf8-ascii_cut bytes n v within ascii =
       subst IsWtf8 k.before (IsWtf8-from_points k.front (AreUnpaired-front k.front k.back apart)),
       subst IsWtf8 k.after (IsWtf8-from_points k.back (AreUnpaired-end k.front k.back apart)),
     )
+
+-- what follows a byte of ASCII that comes first
+after_first : (cs : List ℕ) (x : ℕ) (ys : List ℕ) → AreUnpaired cs → encode_utf8_all cs ≡ x ∷ ys → x < 128 → IsWtf8 ys
+after_first [] x ys apart e ascii = cc
+after_first (c ∷ cs) x ys apart e ascii =
+    let is = IsStart-encode c (AreUnpaired-points (c ∷ cs) apart).0 in
+    let starts = is.0 in
+    let some : 0 < length (encode_utf8 c) = (point_some c (point_shape c (AreUnpaired-points (c ∷ cs) apart).0)) in
+    let first : slice_index (encode_utf8 c) 0 ≡ x =
+    sym (get_or_append_left (encode_utf8 c) (encode_utf8_all cs) 0 0 some) ∙ ap (λ l. slice_index l 0) e in
+    let one : length (encode_utf8 c) ≡ 1 = sym starts ∙ ap sequence_len first ∙ one_byte x ascii in
+    subst IsWtf8 (sym (drop_at (encode_utf8 c) (encode_utf8_all cs) 1 one) ∙ ap (drop 1) e)
+    (IsWtf8-from_points cs (AreUnpaired-end (c ∷ []) cs apart))
+  where
+    one_byte : (b : ℕ) → b < 128 → sequence_len b ≡ 1
+    one_byte b h = grind (arith, nat_tests)
+
+    point_some : (d : ℕ) → Shape d → 0 < length (encode_utf8 d)
+    point_some d (of1 h e) = omega (arith, ap length e)
+    point_some d (of2 a b l h f t e) = omega (arith, ap length e)
+    point_some d (of3 a b v l h f g t m e) = omega (arith, ap length e)
+    point_some d (of4 a b v w l h f g j t m e) = omega (arith, ap length e)
+
+-- WTF-8 may be cut after a byte of ASCII
+pub IsWtf8-after_ascii : (bytes : List ℕ) (n : ℕ) → IsWtf8 bytes → n < length bytes → slice_index bytes n < 128
+    → IsWtf8 (drop (n + 1) bytes)
+IsWtf8-after_ascii bytes n v within ascii =
+    let points = points_of (drop n bytes) (IsWtf8-ascii_cut bytes n v within ascii).1 in
+    rw add-one (after_first points.0 _ _ points.1 (points.2 ∙ drop-cons bytes n 0 within) ascii)

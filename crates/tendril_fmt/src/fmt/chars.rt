@@ -3,12 +3,12 @@
 use crate::fmt::format::Format;
 use std::marker::Model;
 
-/// The encoding of one character: four bytes, and how many of them are meant.
+/// The encoding of one character: four bytes, and how many of them are used.
 ///
-/// Contracts see the list of those that are meant.
+/// Contracts see the list of those that are used.
 #[derive(Clone, Copy, Debug)]
 pub struct Encoded {
-    // Those that are not meant are zeros.
+    // Those that are not used are zeros.
     bytes: [u8; 4],
     len: u8,
 }
@@ -51,7 +51,7 @@ impl Encoded {
         Encoded { bytes, len }
     }
 
-    /// The bytes that are meant.
+    /// The bytes that are used.
     pub fn as_slice(&self) -> &[u8]
         ensures bytes { result.now ≡ self.now }
         ensures len { length result.now ≤ 4 }
@@ -68,7 +68,7 @@ pub trait CharFormat: Format {
     ghost use Rattle.std.specs.Prelude.{◌≡◌, ◌≤◌, ℕ, List, [], ◌++◌, length, All, IfSome, IfNone};
     ghost use Rattle.tendril_fmt.specs.Chars.{encodings, IsFirstChar, AreTextsOf};
 
-    /// The characters of valid bytes, from the front on.
+    /// The characters of valid bytes, in order.
     ghost chars: { List ℕ → List ℕ };
 
     /// The characters that have an encoding.
@@ -85,7 +85,7 @@ pub trait CharFormat: Format {
             IsFirstChar Self.valid chars encodes encoding bytes.now found.0 found.1) }
         ensures none { IfNone result (bytes.now ≡ []) };
 
-    /// The encoding of a character, or None where the format can't represent it. Takes no memory.
+    /// The encoding of a character, or `None` if the format can't represent it. Allocates nothing.
     fn encode_char(character: char) -> Option<Encoded>
         ensures encoded { IfSome result (λ found. encodes character × (found ≡ encoding character)) }
         ensures none { IfNone result (¬ (encodes character)) };
@@ -99,7 +99,7 @@ pub trait CharFormat: Format {
     /// Each character of a text has an encoding.
     ghost chars_encode: { (bytes : List ℕ) → Self.valid bytes → All encodes (chars bytes) };
 
-    /// A text may be cut between any two of its characters, and each part keeps its own.
+    /// A text may be cut between any two of its characters, and each side keeps its own.
     ghost cut: { (bytes cs ds : List ℕ) → Self.valid bytes → chars bytes ≡ cs ++ ds
         → AreTextsOf Self.valid chars encoding cs ds };
 

@@ -4,8 +4,8 @@ use crate::fmt::fixup::Fixup;
 
 /// A set of lists of bytes, and how two of them join.
 ///
-/// The three tests of parts may be asked of any bytes. They need not read all of them: what they promise has the
-/// condition that the bytes are a front, an end or a slice of valid ones.
+/// The three tests of a prefix, a suffix and a slice accept any bytes, and need not read all of them: what they promise has
+/// the condition that the bytes are a prefix, a suffix or a slice of valid ones.
 pub trait Format {
     ghost use Rattle.std.specs.Prelude.{◌≡◌, ◌≤◌, ℕ, List, [], length, IsTrue, ◌↔◌};
     ghost use Rattle.tendril_fmt.specs.Bytes.{AreBytes};
@@ -22,7 +22,7 @@ pub trait Format {
     fn validate(bytes: &[u8]) -> bool
         ensures { IsTrue result ↔ valid bytes.now };
 
-    /// Whether a front of valid bytes is valid.
+    /// Whether a prefix of valid bytes is valid.
     fn validate_prefix(front: &[u8]) -> bool
         ensures { (whole : List ℕ) → valid whole → IsFrontOf front.now whole
             → (IsTrue result ↔ valid front.now) }
@@ -30,7 +30,7 @@ pub trait Format {
         Self::validate(front)
     }
 
-    /// Whether an end of valid bytes is valid.
+    /// Whether a suffix of valid bytes is valid.
     fn validate_suffix(end: &[u8]) -> bool
         ensures { (whole : List ℕ) → valid whole → IsEndOf end.now whole → (IsTrue result ↔ valid end.now) }
     {
@@ -45,7 +45,8 @@ pub trait Format {
         Self::validate(slice)
     }
 
-    /// What the join of two valid texts changes at their seam. A format whose texts join as they are answers
+    // No default body: a default is proved once, for a `join` that isn't known there.
+    /// What the join of two valid texts changes at their seam. A format whose texts join as they are returns
     /// `Fixup::default()`.
     fn fixup(left: &[u8], right: &[u8]) -> Fixup
         requires left_valid { valid left.now }
@@ -61,6 +62,6 @@ pub trait Format {
     /// Valid texts join to a valid one.
     ghost join_valid: { (l r : List ℕ) → valid l → valid r → valid (join l r) };
 
-    /// What is valid are bytes: each is below 256.
+    /// Each number of a valid list is below 256: a byte.
     ghost are_bytes: { (bytes : List ℕ) → valid bytes → AreBytes bytes };
 }

@@ -1,4 +1,4 @@
-//! Tests of a part of a text that read its ends alone.
+//! Tests of a slice of a text that read only its ends.
 ghost use Rattle.std.specs.Prelude.{◌≡◌, ◌≤◌, ◌↔◌, ℕ, List, length, IsTrue, IsUtf8};
 ghost use Rattle.tendril_fmt.specs.Local.{IsWhole, IsWholeOrSurrogate, StandsAccepted, PassesAsFront, PassesAsEnd, first_four as first_four_of, last_four as last_four_of};
 ghost use Rattle.tendril_fmt.specs.Parts.{IsSliceOf};
@@ -37,7 +37,7 @@ fn is_whole_or_surrogate(meaning: Meaning) -> bool
     )
 }
 
-// Whether a whole character stands round the byte.
+// Whether the byte is part of a whole character.
 fn stands_whole(bytes: &[u8], index: usize) -> bool
     ensures { IsTrue result ↔ StandsAccepted IsWhole bytes.now index }
 {
@@ -47,7 +47,7 @@ fn stands_whole(bytes: &[u8], index: usize) -> bool
     }
 }
 
-// Whether a whole character or a surrogate stands round the byte.
+// Whether the byte is part of a whole character or a surrogate.
 fn stands_whole_or_surrogate(bytes: &[u8], index: usize) -> bool
     ensures { IsTrue result ↔ StandsAccepted IsWholeOrSurrogate bytes.now index }
 {
@@ -86,7 +86,7 @@ fn ends_with_code_point(bytes: &[u8]) -> bool
 }
 
 /// Whether a slice of UTF-8 with these first and last four bytes is UTF-8: whether a character begins at the first
-/// byte, and one ends at the last. An empty side isn't asked.
+/// byte, and one ends at the last. An empty side isn't tested.
 ///
 /// A slice of fewer than four bytes is both sides whole. Calls `classify` twice at most and reads no other byte.
 pub fn utf8_ends(first: &[u8], last: &[u8]) -> bool
@@ -99,7 +99,7 @@ pub fn utf8_ends(first: &[u8], last: &[u8]) -> bool
     begins_with_character(first) && ends_with_character(last)
 }
 
-/// As `utf8_ends`, of a slice of WTF-8: surrogates are accepted too.
+/// Whether a slice of WTF-8 with these first and last four bytes is WTF-8. As `utf8_ends`, but surrogates are accepted.
 pub fn wtf8_ends(first: &[u8], last: &[u8]) -> bool
     requires first_short { length first.now ≤ 4 }
     requires last_short { length last.now ≤ 4 }

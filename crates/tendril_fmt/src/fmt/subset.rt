@@ -1,8 +1,8 @@
-//! Formats of which one is part of another.
+//! Formats whose valid bytes are valid in another format too.
 
 use crate::fmt::format::Format;
 
-/// A format whose valid bytes are all valid in `Super` too, so that a text changes its format and keeps its bytes.
+/// A format whose valid bytes are all valid in `Super` too, so that a text can change its format and keep its bytes.
 pub trait SubsetOf<Super: Format>: Format {
     ghost use Rattle.std.specs.Prelude.{ℕ, List, IsTrue, ◌↔◌};
 

@@ -1,4 +1,4 @@
-//! What holds of the formats, beside what their functions answer.
+//! Laws of the formats, beside the contracts of their functions.
 ghost use Rattle.std.specs.Prelude.{IsUtf8};
 ghost use Rattle.tendril_fmt.specs.Classify.{OneStands};
 ghost use Rattle.tendril_fmt.specs.Laws.{JoinLaws, UnitsRoundTrip, TextRoundTrip, JoinAppendsUnits, SpellText, PlaceIsLengthBefore};
@@ -13,7 +13,7 @@ use crate::fmt::latin1::Latin1;
 use crate::fmt::utf8::UTF8;
 use crate::fmt::wtf8::WTF8;
 
-/// Does nothing. Its contract holds laws of the formats, which a proof that needs one gets by a call.
+/// Does nothing. Its contract has laws of the formats: a proof that needs one gets it by a call.
 pub fn laws()
     ensures bytes_join { JoinLaws ⟦<Bytes as Format>⟧.valid ⟦<Bytes as Format>⟧.join }
     ensures ascii_join { JoinLaws ⟦<ASCII as Format>⟧.valid ⟦<ASCII as Format>⟧.join }
@@ -35,10 +35,10 @@ pub fn laws()
         ⟦<UTF8 as CharFormat>⟧.encodes ⟦<UTF8 as CharFormat>⟧.encoding }
     ensures place_is_length_before { PlaceIsLengthBefore }
 
-    // the sequence round a byte is one
+    // a byte is part of one sequence
     ensures one_stands { OneStands }
 
-    // the local tests of parts
+    // the local tests of slices
     ensures utf8_front { FrontTestIsWhole IsUtf8 IsWhole }
     ensures utf8_end { EndTestIsWhole IsUtf8 IsWhole }
     ensures utf8_slice { SliceTestIsWhole IsUtf8 IsWhole }

@@ -72,7 +72,7 @@ impl<'a> Iterator for Wtf8Units<'a> {
 
 impl<'a> FusedIterator for Wtf8Units<'a> {}
 
-/// Puts the units of valid WTF-8 behind those of a vector, which has room for one for each byte.
+/// Appends the units of valid WTF-8 to a vector, which has spare capacity for one for each byte.
 pub fn decode_wtf8(bytes: &[u8], units: Vec<u16>) -> Vec<u16>
     requires valid { IsWtf8 bytes.now }
     requires room { vec_len units + length bytes.now ≤ vec_capacity units }
@@ -88,7 +88,7 @@ pub fn decode_wtf8(bytes: &[u8], units: Vec<u16>) -> Vec<u16>
     all
 }
 
-// Puts the one or two units of a code point behind others.
+// Appends the one or two units of a code point.
 #[inline]
 fn push_units(units: &mut Vec<u16>, code: u32)
     requires point { IsCodePoint code }
@@ -125,7 +125,7 @@ pub fn wtf8_len(units: &[u16]) -> usize
     len
 }
 
-// How many bytes the first units have behind the one before them; the last of them, and the units after it.
+// How many bytes the first units have after the one before them; the last of them, and the units after it.
 #[inline]
 fn count_piece(before: u16, units: &[u16]) -> (u16, u16, &[u16])
     requires some { 0 < length units.now }
@@ -142,7 +142,7 @@ fn count_piece(before: u16, units: &[u16]) -> (u16, u16, &[u16])
     (len, last, after)
 }
 
-// How many bytes a unit has behind another: a trail makes four of the three bytes of a lead. Without a branch, so that
+// How many bytes a unit has after another: a trail makes four of the three bytes of a lead. Without a branch, so that
 // several are counted at once.
 #[inline]
 fn len_behind(last: u16, unit: u16) -> u16
@@ -194,7 +194,7 @@ pub fn encode_wtf8(units: &[u16], bytes: &mut [u8])
 // How many units of ASCII are written at once.
 const RUN: usize = 16;
 
-// So many units of ASCII at the front, and those after them. Where the first isn't one, the others aren't read.
+// The first `RUN` units, if all are ASCII, and those after them. If the first isn't one, the others aren't read.
 #[inline]
 fn split_ascii(units: &[u16]) -> Option<(&[u16], &[u16])>
     ensures { IfSome result (λ p. AllByRecursion (λ u. u < 0x80) p.0.now
@@ -223,7 +223,7 @@ fn are_ascii(units: &[u16]) -> bool
     all
 }
 
-// Writes units of ASCII at a place, and answers the place behind them.
+// Writes units of ASCII at a place, and returns the place after them.
 #[inline]
 fn put_ascii(bytes: &mut [u8], at: usize, units: &[u16]) -> usize
     requires ascii { AllByRecursion (λ u. u < 0x80) units.now }
@@ -268,7 +268,7 @@ fn is_trail(unit: u16) -> bool
     0xDC00 <= unit && unit < 0xE000
 }
 
-// Writes the bytes of a code point at a place, and answers the place behind them.
+// Writes the bytes of a code point at a place, and returns the place after them.
 #[inline]
 fn put_code_point(bytes: &mut [u8], at: usize, code: u32) -> usize
     requires point { IsCodePoint code }
@@ -296,7 +296,7 @@ fn put_code_point(bytes: &mut [u8], at: usize, code: u32) -> usize
     put(bytes, at, last)
 }
 
-// Writes a byte at a place, and answers the place behind it.
+// Writes a byte at a place, and returns the place after it.
 #[inline]
 fn put(bytes: &mut [u8], at: usize, byte: u8) -> usize
     requires { at < length bytes.old }

@@ -74,7 +74,7 @@ impl CharFormat for UTF8 {
 
     fn first_char(bytes: &[u8]) -> Option<(char, usize)> {
         let first = *bytes.first()?;
-        // Most text is ASCII, so its one test stands here.
+        // Most text is ASCII, so its one test comes first.
         if first < 0x80 {
             return Some((first as char, 1));
         }

@@ -12,7 +12,7 @@ use crate::futf::{Meaning, decode, split_code_point};
 /// (<https://simonsapin.github.io/wtf-8/>).
 ///
 /// The three bytes of a lead surrogate right before those of a trail aren't valid: the two units have the four bytes
-/// of their character. So where the one ends a text and the other begins the next, a join puts these in their place.
+/// of their character. So if one ends a text and the other begins the next, a join replaces them by these four.
 #[derive(Clone, Copy, Debug, Default)]
 pub struct WTF8;
 

@@ -1,34 +1,35 @@
 //! Bytes that get a place of their own: inline, or in a new block.
 ghost use Rattle.std.specs.Prelude.{◌≡◌, ◌<◌, ◌≤◌, ◌+◌, ◌++◌, [], length, IfOk, IfErr};
 ghost use Rattle.tendril_block.specs.Outcomes.{MemoryMay};
+ghost use Rattle.tendril_block.specs.Tail.{tail_bytes};
 
-use crate::storage::grow::replaces_alone;
-use crate::storage::{Held, INLINE, Storage, call_word_of, put};
+use crate::storage::replace::try_replace_in_block;
+use crate::storage::{Held, Storage, call_word_of, put, put_tail};
 use std::alloc::Global;
 use std::cell::Cell;
-use tendril_block::{Atomicity, FEW, MAX_LEN, Refusal};
+use tendril_block::{Atomicity, INLINE_LEN, MAX_LEN, NODE_CAPACITY, Refusal, Tail};
 
 impl<A: Atomicity> Storage<A> {
-    /// No bytes, and room for so many.
+    /// No bytes, and a capacity of `capacity` bytes.
     pub fn with_capacity(alloc: Global, capacity: u32) -> Result<Self, Refusal>
         ensures bytes { IfOk result (λ s. s.bytes ≡ []) }
         ensures copied { IfOk result (λ s. s.copied ≡ 0) }
         ensures refusal { IfErr result (MemoryMay capacity) }
     {
-        if capacity as usize <= INLINE {
+        if capacity as usize <= INLINE_LEN {
             return Ok(Self::new(alloc));
         }
         Self::copied(alloc, &[], capacity as usize)
     }
 
-    /// The bytes of a vector. Many stay where they are, with the room behind them; few are copied inline.
+    /// The bytes of a vector. Many stay where they are, with their spare capacity; few are copied inline.
     pub fn from_vec(alloc: Global, bytes: Vec<u8>) -> Result<Self, Refusal>
         requires fits { length bytes.items ≤ MAX_LEN }
         ensures bytes { IfOk result (λ s. s.bytes ≡ bytes.items) }
         ensures copied { IfOk result (λ s. s.copied ≡ length bytes.items) }
         ensures refusal { IfErr result (MemoryMay (length bytes.items)) }
     {
-        if bytes.len() <= INLINE {
+        if bytes.len() <= INLINE_LEN {
             return Ok(Self::inline(alloc, bytes.as_slice()));
         }
         Self::in_block(alloc, bytes)
@@ -41,15 +42,15 @@ impl<A: Atomicity> Storage<A> {
         ensures copied { IfOk result (λ s. s.copied ≡ length bytes.now) }
         ensures refusal { IfErr result (MemoryMay (length bytes.now)) }
     {
-        if bytes.len() <= INLINE {
+        if bytes.len() <= INLINE_LEN {
             return Ok(Self::inline(alloc, bytes));
         }
         Self::copied(alloc, bytes, bytes.len())
     }
 
-    /// A copy of few bytes. Takes no memory.
+    /// A copy of few bytes, inline. Allocates nothing.
     pub fn inline(alloc: Global, bytes: &[u8]) -> Self
-        requires fits { length bytes.now ≤ 8 }
+        requires fits { length bytes.now ≤ INLINE_LEN }
         ensures bytes { result.bytes ≡ bytes.now }
         ensures copied { result.copied ≡ length bytes.now }
     {
@@ -62,27 +63,21 @@ impl<A: Atomicity> Storage<A> {
         }
     }
 
-    /// A copy of three parts, one behind the other.
-    pub fn from_parts(
-        alloc: Global,
-        left: &[u8],
-        middle: &[u8],
-        right: &[u8],
-    ) -> Result<Self, Refusal>
-        requires fits { length left.now + length middle.now + length right.now ≤ MAX_LEN }
-        ensures bytes { IfOk result (λ s. s.bytes ≡ left.now ++ middle.now ++ right.now) }
-        ensures copied { IfOk result (λ s. s.copied ≡ length left.now + length middle.now + length right.now) }
-        ensures refusal { IfErr result (MemoryMay (length left.now + length middle.now + length right.now)) }
+    /// A copy of bytes, with a tail after them.
+    pub fn with_tail(alloc: Global, left: &[u8], tail: Tail) -> Result<Self, Refusal>
+        requires fits { length left.now + length (tail_bytes tail) ≤ MAX_LEN }
+        ensures bytes { IfOk result (λ s. s.bytes ≡ left.now ++ tail_bytes tail.entry) }
+        ensures copied { IfOk result (λ s. s.copied ≡ length left.now + length (tail_bytes tail.entry)) }
+        ensures refusal { IfErr result (MemoryMay (length left.now + length (tail_bytes tail.entry))) }
     {
-        let len = left.len() + middle.len() + right.len();
-        if len > INLINE {
-            let block = joined::<A>(alloc, left, middle, right)?;
+        let len = left.len() + tail.len();
+        if len > INLINE_LEN {
+            let block = joined::<A>(alloc, left, tail)?;
             return Ok(Self::viewed(alloc, block));
         }
         let mut buffer = [0; 8];
         put(&mut buffer, 0, left);
-        put(&mut buffer, left.len(), middle);
-        put(&mut buffer, left.len() + middle.len(), right);
+        put_tail(&mut buffer, left.len(), tail);
         Ok(Storage {
             held: Held::Inline {
                 len: len as u64,
@@ -105,7 +100,7 @@ impl<A: Atomicity> Storage<A> {
         }
     }
 
-    /// A copy of bytes in a new block with room for so many.
+    /// A copy of bytes in a new block of this capacity.
     pub(super) fn copied(alloc: Global, bytes: &[u8], capacity: usize) -> Result<Self, Refusal>
         requires fits { length bytes.now ≤ MAX_LEN }
         ensures bytes { IfOk result (λ s. s.bytes ≡ bytes.now) }
@@ -116,7 +111,7 @@ impl<A: Atomicity> Storage<A> {
         Ok(Self::viewed(alloc, block))
     }
 
-    /// The bytes of a block that no other holds.
+    /// All bytes of a block, of which this is the only reference.
     pub(crate) fn viewed(alloc: Global, block: A::Block) -> Self
         requires { length (A.bytes_of block) ≤ MAX_LEN }
         ensures bytes { result.bytes ≡ A.bytes_of block }
@@ -135,23 +130,27 @@ impl<A: Atomicity> Storage<A> {
     }
 }
 
-// Three parts in a new block. Where they are many, it has room for as many again.
-fn joined<A: Atomicity>(
-    alloc: Global,
-    left: &[u8],
-    middle: &[u8],
-    right: &[u8],
-) -> Result<A::Block, Refusal>
-    requires fits { length left.now + length middle.now + length right.now ≤ MAX_LEN }
-    ensures bytes { IfOk result (λ b. A.bytes_of b ≡ left.now ++ middle.now ++ right.now) }
-    ensures copied { IfOk result (λ b. A.copied b ≡ length left.now + length middle.now + length right.now) }
+// Bytes and a tail in a new block.
+fn joined<A: Atomicity>(alloc: Global, left: &[u8], tail: Tail) -> Result<A::Block, Refusal>
+    requires fits { length left.now + length (tail_bytes tail) ≤ MAX_LEN }
+    ensures bytes { IfOk result (λ b. A.bytes_of b ≡ left.now ++ tail_bytes tail.entry) }
+    ensures copied { IfOk result (λ b. A.copied b ≡ length left.now + length (tail_bytes tail.entry)) }
     ensures refusal { IfErr result (λ r. r ≡ Refusal.Memory) }
 {
-    let len = left.len() + middle.len() + right.len();
-    let room = if len <= FEW { len } else { len + len };
-    let mut block = A::copy(alloc, left, room)?;
-    if !replaces_alone::<A>(&mut block, left.len(), middle, right) {
+    let mut block = A::copy(alloc, left, new_capacity(left.len() + tail.len(), &tail))?;
+    if !try_replace_in_block::<A>(&mut block, left.len(), tail) {
         return Err(Refusal::Memory);
     }
     Ok(block)
+}
+
+// The capacity of a new block of `len` bytes. Many bytes that were pushed get as much again, since more may follow; zeros don't:
+// they are a buffer of the size that its user wants.
+fn new_capacity(len: usize, tail: &Tail) -> usize
+    requires { len ≤ MAX_LEN }
+{
+    match tail {
+        Tail::Parts(..) if len > NODE_CAPACITY => len + len,
+        _ => len,
+    }
 }

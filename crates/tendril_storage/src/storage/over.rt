@@ -1,14 +1,15 @@
-//! Stored bytes that are written over where they stand.
+//! Stored bytes that are written over.
 ghost use Rattle.std.specs.Prelude.{◌≡◌, ◌<◌, ◌≤◌, ◌+◌, ℕ, slice_index, length, take, drop, max, IfOk, IfErr, OnOk, OnErr, IfSome, OnSome, IfNone};
 ghost use Rattle.std.specs.Fn.{CalledAtMut};
 ghost use Rattle.tendril_block.specs.Outcomes.{MemoryMay};
 ghost use Rattle.tendril_storage.specs.Edits.{TakesAtMut};
 
-use crate::storage::{Held, INLINE, Storage, put};
-use tendril_block::{Atomicity, Refusal};
+use crate::storage::{Held, Storage, put};
+use tendril_block::{Atomicity, INLINE_LEN, Refusal};
 
 impl<A: Atomicity> Storage<A> {
-    /// Lends the bytes to `edit`: where they stand, if no other holds the block, else in a copy. Refused, `edit` isn't called.
+    /// Passes the bytes to `edit`: in place, if this is the block's only reference, else in a copy. On an error, `edit` isn't
+    /// called.
     pub fn write_over<R, E: FnMut(&mut [u8]) -> R>(&mut self, edit: &mut E) -> Result<R, Refusal>
         requires { TakesAtMut E.FnMut edit.old self.old.bytes }
         ensures bytes { IfOk result (λ r. CalledAtMut E.FnMut edit.old self.old.bytes r edit.new self.new.bytes) }
@@ -18,17 +19,17 @@ impl<A: Atomicity> Storage<A> {
         ensures refusal { IfErr result (MemoryMay (length self.old.bytes)) }
         ensures err { OnErr result ((self.new ≡ self.old) × (edit.new ≡ edit.old)) }
     {
-        if let Some(answer) = self.writes_in_block(edit) {
+        if let Some(answer) = self.try_write_in_place(edit) {
             return Ok(answer);
         }
-        if self.as_slice().len() <= INLINE {
+        if self.as_slice().len() <= INLINE_LEN {
             return Ok(self.write_inline(edit));
         }
-        self.writes_in_copy(edit).ok_or(Refusal::Memory)
+        self.try_write_in_copy(edit).ok_or(Refusal::Memory)
     }
 
-    // The same in a new block, where there is memory for one; else doesn't call `edit`.
-    fn writes_in_copy<R, E: FnMut(&mut [u8]) -> R>(&mut self, edit: &mut E) -> Option<R>
+    // The same in a new block, if there is memory for one; else doesn't call `edit`.
+    fn try_write_in_copy<R, E: FnMut(&mut [u8]) -> R>(&mut self, edit: &mut E) -> Option<R>
         requires { TakesAtMut E.FnMut edit.old self.old.bytes }
         ensures bytes { IfSome result (λ r. CalledAtMut E.FnMut edit.old self.old.bytes r edit.new self.new.bytes) }
         ensures are_bytes { OnSome result ((i : ℕ) → slice_index self.new.bytes i < 256) }
@@ -39,13 +40,13 @@ impl<A: Atomicity> Storage<A> {
         let Ok(mut copy) = Self::from_slice(self.alloc, self.as_slice()) else {
             return None;
         };
-        let answer = copy.writes_in_block(edit)?;
+        let answer = copy.try_write_in_place(edit)?;
         *self = copy;
         Some(answer)
     }
 
-    // The same where the bytes stand in a block that no other holds; else doesn't call `edit`.
-    fn writes_in_block<R, E: FnMut(&mut [u8]) -> R>(&mut self, edit: &mut E) -> Option<R>
+    // The same in place, if this is the only reference of a block; else doesn't call `edit`.
+    fn try_write_in_place<R, E: FnMut(&mut [u8]) -> R>(&mut self, edit: &mut E) -> Option<R>
         requires { TakesAtMut E.FnMut edit.old self.old.bytes }
         ensures bytes { IfSome result (λ r. CalledAtMut E.FnMut edit.old self.old.bytes r edit.new self.new.bytes) }
         ensures are_bytes { OnSome result ((i : ℕ) → slice_index self.new.bytes i < 256) }
@@ -62,24 +63,24 @@ impl<A: Atomicity> Storage<A> {
                 len,
             } => {
                 let start = *offset as usize;
-                let answer = writes_alone::<A, R, E>(block, start, *len as usize, edit)?;
+                let answer = try_write_in_block::<A, R, E>(block, start, *len as usize, edit)?;
                 shared.set(false);
                 Some(answer)
             }
         }
     }
 
-    // The same for few bytes, which stand inline from then on.
+    // Writes at most 8 bytes in a copy, so that short texts whose block is shared need no case of their own. They are inline then.
     fn write_inline<R, E: FnMut(&mut [u8]) -> R>(&mut self, edit: &mut E) -> R
         requires callable { TakesAtMut E.FnMut edit.old self.old.bytes }
-        requires short { length self.old.bytes ≤ 8 }
+        requires short { length self.old.bytes ≤ INLINE_LEN }
         ensures bytes { CalledAtMut E.FnMut edit.old self.old.bytes result edit.new self.new.bytes }
         ensures are_bytes { (i : ℕ) → slice_index self.new.bytes i < 256 }
         ensures len { length self.new.bytes ≡ length self.old.bytes }
         ensures copied { self.new.copied ≡ length self.old.bytes }
     {
         let len = self.as_slice().len();
-        let mut buffer = [0; INLINE];
+        let mut buffer = [0; INLINE_LEN];
         put(&mut buffer, 0, self.as_slice());
         let answer = lend(&mut buffer[..len], edit);
         self.held = Held::Inline {
@@ -90,8 +91,8 @@ impl<A: Atomicity> Storage<A> {
     }
 }
 
-// Lends so many bytes of a block from `start` on to `edit`, where no other holds the block; else doesn't call `edit`.
-fn writes_alone<A: Atomicity, R, E: FnMut(&mut [u8]) -> R>(
+// Passes the `len` bytes of a block from `start` on to `edit`, if this is its only reference; else doesn't call `edit`.
+fn try_write_in_block<A: Atomicity, R, E: FnMut(&mut [u8]) -> R>(
     block: &mut A::Block,
     start: usize,
     len: usize,
@@ -115,7 +116,7 @@ fn writes_alone<A: Atomicity, R, E: FnMut(&mut [u8]) -> R>(
     }
 }
 
-// Lends bytes to `edit`. What it leaves there are bytes, by their type.
+// Passes bytes to `edit`. What it leaves there are bytes, by their type.
 fn lend<R, E: FnMut(&mut [u8]) -> R>(bytes: &mut [u8], edit: &mut E) -> R
     requires { TakesAtMut E.FnMut edit.old bytes.old }
     ensures bytes { CalledAtMut E.FnMut edit.old bytes.old result edit.new bytes.new }

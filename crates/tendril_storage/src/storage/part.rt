@@ -1,18 +1,18 @@
-//! Parts of stored bytes: few are copied inline, many are seen in the same block.
+//! Slices of stored bytes: few are copied inline, many are a view of the same block.
 ghost use Rattle.std.specs.Prelude.{◌≡◌, ◌<◌, ◌≤◌, ◌+◌, length, take, drop, IfOk, IfErr, IfSome, OnSome};
 ghost use Rattle.tendril_block.specs.Outcomes.{CountMay};
 ghost use Rattle.tendril_storage.specs.Partings.{TakesFew, TakesFront};
 
-use crate::storage::{Held, INLINE, Storage, word_of};
+use crate::storage::{Held, Storage, word_of};
 use std::alloc::Global;
 use std::cell::Cell;
 use std::mem;
-use tendril_block::{Atomicity, MAX_LEN, Refusal};
+use tendril_block::{Atomicity, INLINE_LEN, MAX_LEN, Refusal};
 
 impl<A: Atomicity> Storage<A> {
     ghost use Rattle.tendril_storage.specs.Texts.{Parts, Shares};
 
-    /// All bytes once more: inline ones as they stand, the others as one more view of the same block.
+    /// A clone: inline bytes are copied, others are one more view of the same block.
     #[inline(always)]
     pub fn whole(&self) -> Result<Self, Refusal>
         ensures bytes { IfOk result (λ s. s.bytes ≡ self.now.bytes) }
@@ -31,7 +31,7 @@ impl<A: Atomicity> Storage<A> {
         }
     }
 
-    /// The bytes from the offset on: copied where they are few, else a view of the same block.
+    /// The `count` bytes from the offset on: copied inline if they are few, else a view of the same block.
     #[inline(always)]
     pub fn part(&self, offset: u32, count: u32) -> Result<Self, Refusal>
         requires { offset + count ≤ length self.now.bytes }
@@ -39,7 +39,7 @@ impl<A: Atomicity> Storage<A> {
         ensures copied { IfOk result Shares }
         ensures refusal { IfErr result (CountMay count) }
     {
-        if count as usize <= INLINE {
+        if count as usize <= INLINE_LEN {
             return Ok(self.inline_part(offset, count));
         }
         self.view_part(offset, count)
@@ -48,7 +48,7 @@ impl<A: Atomicity> Storage<A> {
     #[inline(always)]
     fn inline_part(&self, offset: u32, count: u32) -> Self
         requires within { offset + count ≤ length self.now.bytes }
-        requires short { count ≤ 8 }
+        requires short { count ≤ INLINE_LEN }
         ensures bytes { result.bytes ≡ take count (drop offset self.now.bytes) }
         ensures copied { result.copied ≡ count }
     {
@@ -57,10 +57,10 @@ impl<A: Atomicity> Storage<A> {
         Self::few(self.alloc, &self.as_slice()[start..end])
     }
 
-    /// The same as `inline`, made where it is called for: bytes that are known there are one word, with no call.
+    /// As `inline`, but inlined into the caller: constant bytes are one word there, with no call.
     #[inline(always)]
     pub fn few(alloc: Global, bytes: &[u8]) -> Self
-        requires { length bytes.now ≤ 8 }
+        requires { length bytes.now ≤ INLINE_LEN }
         ensures bytes { result.bytes ≡ bytes.now }
         ensures copied { result.copied ≡ length bytes.now }
     {
@@ -77,7 +77,7 @@ impl<A: Atomicity> Storage<A> {
     #[inline(always)]
     fn view_part(&self, offset: u32, count: u32) -> Result<Self, Refusal>
         requires within { offset + count ≤ length self.now.bytes }
-        requires long { 8 < count }
+        requires long { INLINE_LEN < count }
         ensures bytes { IfOk result (λ s. s.bytes ≡ take count (drop offset self.now.bytes)) }
         ensures copied { IfOk result (λ s. s.copied ≡ 0) }
         ensures refusal { IfErr result (λ r. r ≡ Refusal.Count) }
@@ -105,15 +105,15 @@ impl<A: Atomicity> Storage<A> {
         }
     }
 
-    /// Keeps the bytes from the offset on alone: few inline, many in the same view.
+    /// Keeps the `count` bytes from the offset on and drops the others: few are copied inline, many stay in the view.
     #[inline(always)]
     pub fn keep_part(&mut self, offset: u32, count: u32)
         requires { offset + count ≤ length self.old.bytes }
         ensures bytes { self.new.bytes ≡ take count (drop offset self.old.bytes) }
-        ensures short { count ≤ 8 → self.new.copied ≤ 8 }
-        ensures long { 8 < count → self.new.copied ≡ self.old.copied }
+        ensures short { count ≤ INLINE_LEN → self.new.copied ≤ INLINE_LEN }
+        ensures long { INLINE_LEN < count → self.new.copied ≡ self.old.copied }
     {
-        if count as usize <= INLINE {
+        if count as usize <= INLINE_LEN {
             let part = self.inline_part(offset, count);
             *self = part;
             return;
@@ -125,7 +125,7 @@ impl<A: Atomicity> Storage<A> {
     #[inline(always)]
     fn keep_view(&mut self, offset: u32, count: u32)
         requires within { offset + count ≤ length self.old.bytes }
-        requires long { 8 < count }
+        requires long { INLINE_LEN < count }
         ensures bytes { self.new.bytes ≡ take count (drop offset self.old.bytes) }
         ensures copied { self.new.copied ≡ self.old.copied }
     {
@@ -146,17 +146,17 @@ impl<A: Atomicity> Storage<A> {
         }
     }
 
-    /// Takes the first bytes out, and keeps the others. Only where both parts are many bytes do they share a block.
+    /// Takes the first `count` bytes out, and keeps the others. They share a block only if both are many bytes.
     pub fn take_front(&mut self, count: u32) -> Result<Self, Refusal>
         requires { count ≤ length self.old.bytes }
         ensures { TakesFront count self.old result self.new }
     {
-        // What most pops of characters and runs find.
+        // Most pops of characters and runs end here.
         if let Some(front) = self.take_few(count, 0) {
             return Ok(front);
         }
         let rest = self.len32() - count;
-        if count as usize <= INLINE {
+        if count as usize <= INLINE_LEN {
             let front = self.inline_part(0, count);
             self.keep_part(count, rest);
             return Ok(front);
@@ -167,9 +167,9 @@ impl<A: Atomicity> Storage<A> {
         Ok(front)
     }
 
-    /// Takes the first bytes of a view out, where they are few, and lets go of the `skip` bytes behind them, where many are left
-    /// then. Else it answers nothing, and nothing is changed. Most pops of characters, of runs and of broken bytes find few
-    /// bytes before many, so it is made where it is called for.
+    /// Takes the first `count` bytes of a view out and drops the next `skip`, if `count` is few and many are left then. Else
+    /// returns `None` and changes nothing. Most pops of characters, of runs and of broken bytes take few bytes off many, so
+    /// this is inlined into the caller.
     #[inline(always)]
     pub fn take_few(&mut self, count: u32, skip: u32) -> Option<Self>
         requires { count + skip ≤ length self.old.bytes }
@@ -180,15 +180,15 @@ impl<A: Atomicity> Storage<A> {
         Some(front)
     }
 
-    // The first few bytes of a view that has many behind them and what is skipped.
+    // The first few bytes of a view that has many after them and the skipped ones.
     #[tactic(auto, using(crate::proofs::Views::slices))]
     #[inline(always)]
     fn few_before_many(&self, count: u32, skip: u32) -> Option<Self>
         requires { count + skip ≤ length self.now.bytes }
         ensures bytes { IfSome result (λ front. front.bytes ≡ take count self.now.bytes) }
         ensures copied { IfSome result (λ front. front.copied ≡ count) }
-        ensures few { OnSome result (count ≤ 8) }
-        ensures many { OnSome result (8 + (count + skip) < length self.now.bytes) }
+        ensures few { OnSome result (count ≤ INLINE_LEN) }
+        ensures many { OnSome result (INLINE_LEN + (count + skip) < length self.now.bytes) }
         ensures short { OnSome result (length self.now.bytes ≤ MAX_LEN) }
     {
         match &self.held {
@@ -199,13 +199,13 @@ impl<A: Atomicity> Storage<A> {
                 len,
                 ..
             } => {
-                if count as usize > INLINE || (*len - count - skip) as usize <= INLINE {
+                if count as usize > INLINE_LEN || (*len - count - skip) as usize <= INLINE_LEN {
                     return None;
                 }
-                // More than eight bytes stand here, so one load has the few, however many they are: a jump by their number
-                // is often guessed wrong. What the buffer has behind them belongs to no text.
+                // The view has more than eight bytes, so one load reads the few, whatever their number: a jump by it is
+                // often mispredicted. What the buffer has after them belongs to no text.
                 let start = *offset as usize;
-                let word = word_of(&A::bytes(block)[start..start + INLINE]);
+                let word = word_of(&A::bytes(block)[start..start + INLINE_LEN]);
                 Some(Storage {
                     held: Held::Inline {
                         len: u64::from(count),
@@ -217,11 +217,11 @@ impl<A: Atomicity> Storage<A> {
         }
     }
 
-    // Lets go of the first bytes of a view, where many are left.
+    // Drops the first bytes of a view, if many are left.
     #[tactic(auto, using(crate::proofs::Views::slices))]
     #[inline(always)]
     fn skip_in_view(&mut self, count: u32)
-        requires { 8 + count < length self.old.bytes }
+        requires { INLINE_LEN + count < length self.old.bytes }
         ensures bytes { self.new.bytes ≡ drop count self.old.bytes }
         ensures copied { self.new.copied ≡ self.old.copied }
     {

@@ -1,0 +1,15 @@
+-- Stored bytes that no other text shares.
+use Rattle.std.specs.Prelude.{ℕ, List, ◌<◌, ◌≤◌, length, take}
+use Rattle.tendril_block.specs.declared.atomicity.TheConstants.{INLINE_LEN, MAX_LEN}
+use Rattle.tendril_storage.specs.declared.detached.Kept.{Kept}
+use Rattle.tendril_storage.specs.declared.detached.Kept.TheVariants.{Inline, Alone}
+
+-- the bytes that are kept
+abbrev pub kept_bytes : Kept → List ℕ
+kept_bytes (Inline len buffer) = take len buffer
+kept_bytes (Alone sole) = sole
+
+-- inline bytes lie in their buffer, others are more than stand inline
+abbrev pub IsKept : Kept → Type 0
+IsKept (Inline len buffer) = len ≤ INLINE_LEN
+IsKept (Alone sole) = (INLINE_LEN < length sole) × (length sole ≤ MAX_LEN)

@@ -1,0 +1,187 @@
+//! Bytes that share nothing, so that they may go to another thread: inline, or out of their block.
+ghost use Rattle.std.specs.Prelude.{◌≡◌, ◌<◌, ◌≤◌, ◌+◌, ◌^◌, IfOk, IfErr, length, take, drop};
+ghost use Rattle.tendril_block.specs.Outcomes.{MemoryMay};
+
+use crate::storage::{BlockView, Held, Storage, word_of};
+use std::alloc::Global;
+use std::marker::Model;
+use tendril_block::{Atomicity, INLINE_LEN, MAX_LEN, Refusal, Sole};
+
+#[derive(Drop)]
+enum Kept {
+    Inline { len: u64, buffer: [u8; 8] },
+    Alone(Sole),
+}
+
+/// The bytes of a text, shared with no other. Up to 8 are stored inline.
+#[derive(Drop)]
+pub struct Detached {
+    kept: Kept,
+    alloc: Global,
+}
+
+impl Model for Detached {
+    ghost use Rattle.std.specs.Prelude.{ℕ, List};
+    ghost use Rattle.tendril_storage.specs.Detached.{kept_bytes, IsKept};
+
+    ghost Value = { List ℕ };
+
+    ghost view = { λ a. kept_bytes a.kept };
+
+    ghost invariant = { λ a. IsKept a.kept };
+}
+
+impl Detached {
+    /// The bytes.
+    pub fn as_slice(&self) -> &[u8]
+        ensures value { result.now ≡ self.now }
+        ensures short { length self.now ≤ MAX_LEN }
+    {
+        match &self.kept {
+            Kept::Inline { len, buffer } => &buffer[..*len as usize],
+            Kept::Alone(sole) => sole.as_slice(),
+        }
+    }
+
+    /// A copy.
+    pub fn copy(&self) -> Result<Self, Refusal>
+        ensures bytes { IfOk result (λ a. a ≡ self.now) }
+        ensures refusal { IfErr result (MemoryMay (length self.now)) }
+    {
+        let kept = match &self.kept {
+            Kept::Inline { len, buffer } => Kept::Inline {
+                len: *len,
+                buffer: *buffer,
+            },
+            Kept::Alone(sole) => Kept::Alone(Sole::copy(self.alloc, sole.as_slice())?),
+        };
+        Ok(Detached {
+            kept,
+            alloc: self.alloc,
+        })
+    }
+
+    fn short(alloc: Global, bytes: &[u8]) -> Self
+        requires { length bytes.now ≤ INLINE_LEN }
+        ensures { result ≡ bytes.now }
+    {
+        Detached {
+            kept: Kept::Inline {
+                len: bytes.len() as u64,
+                buffer: word_of(bytes).to_le_bytes(),
+            },
+            alloc,
+        }
+    }
+
+    fn long(alloc: Global, sole: Sole) -> Self
+        requires long { INLINE_LEN < length sole }
+        requires fits { length sole ≤ MAX_LEN }
+        ensures { result ≡ sole }
+    {
+        Detached {
+            kept: Kept::Alone(sole),
+            alloc,
+        }
+    }
+}
+
+impl<A: Atomicity> Storage<A> {
+    /// Detaches the bytes from their block. They are moved out of it where this is the only reference and they are all of
+    /// its bytes; else they are copied.
+    pub fn into_detached(self) -> Result<Detached, (Refusal, Self)>
+        ensures bytes { IfOk result (λ a. a ≡ self.bytes) }
+        ensures refusal { IfErr result (λ e. MemoryMay (length self.bytes) e.0) }
+        ensures back { IfErr result (λ e. e.1 ≡ self) }
+    {
+        if self.as_slice().len() <= INLINE_LEN {
+            return Ok(Detached::short(self.alloc, self.as_slice()));
+        }
+        let text = match self.into_whole() {
+            Ok(detached) => return Ok(detached),
+            Err(text) => text,
+        };
+        match Sole::copy(text.alloc, text.as_slice()) {
+            Ok(sole) => Ok(Detached::long(text.alloc, sole)),
+            Err(refusal) => Err((refusal, text)),
+        }
+    }
+
+    // Moves the bytes out of their block, where they are all of it and this is the only reference.
+    fn into_whole(self) -> Result<Detached, Self>
+        requires { INLINE_LEN < length self.bytes }
+        ensures bytes { IfOk result (λ a. a ≡ self.bytes) }
+        ensures back { IfErr result (λ s. s ≡ self) }
+    {
+        let Storage { held, alloc } = self;
+        let view = match held.into_view() {
+            Ok(view) => view,
+            Err(held) => return Err(Storage { held, alloc }),
+        };
+        if view.offset != 0 || view.len as usize != A::bytes(&view.block).len() {
+            return Err(Self::from_view(alloc, view));
+        }
+        let BlockView {
+            shared,
+            block,
+            offset,
+            len,
+        } = view;
+        match A::into_sole(block) {
+            Ok(sole) => Ok(Detached::long(alloc, sole)),
+            Err(block) => Err(Self::from_view(
+                alloc,
+                BlockView {
+                    shared,
+                    block,
+                    offset,
+                    len,
+                },
+            )),
+        }
+    }
+
+    fn from_view(alloc: Global, view: BlockView<A::Block>) -> Self
+        requires within { view.offset + view.len ≤ length (A.bytes_of view.block) }
+        requires fits { view.offset + view.len < 2 ^ 32 }
+        ensures bytes { result.bytes ≡ take view.len (drop view.offset (A.bytes_of view.block)) }
+        ensures copied { result.copied ≡ A.copied view.block }
+    {
+        let BlockView {
+            shared,
+            block,
+            offset,
+            len,
+        } = view;
+        Storage {
+            held: Held::View {
+                shared,
+                block,
+                offset,
+                len,
+            },
+            alloc,
+        }
+    }
+
+    /// Stores the bytes in a block of this kind, or inline. With the kinds of `tendril_block` it allocates nothing, and
+    /// returns no error.
+    pub fn from_detached(detached: Detached) -> Result<Self, (Refusal, Detached)>
+        ensures bytes { IfOk result (λ s. s.bytes ≡ detached) }
+        ensures copied { IfOk result (λ s. s.copied ≡ length detached) }
+        ensures refusal { IfErr result (λ e. MemoryMay (length detached) e.0) }
+        ensures back { IfErr result (λ e. e.1 ≡ detached) }
+    {
+        let Detached { kept, alloc } = detached;
+        match kept {
+            Kept::Inline { len, buffer } => Ok(Storage {
+                held: Held::Inline { len, buffer },
+                alloc,
+            }),
+            Kept::Alone(sole) => match A::from_sole(sole) {
+                Ok(block) => Ok(Self::viewed(alloc, block)),
+                Err((refusal, sole)) => Err((refusal, Detached::long(alloc, sole))),
+            },
+        }
+    }
+}
