@@ -19,6 +19,7 @@ use Rattle.std.specs.Prelude.{
   IsUtf8,
   Result,
 }
+use Rattle.tendril_block.specs.declared.atomicity.TheConstants.{INLINE_LEN}
 use Rattle.tendril_block.specs.declared.refusal.Refusal.{Refusal}
 use Rattle.tendril_block.specs.declared.refusal.Refusal.TheVariants.{Count}
 use Rattle.tendril_block.specs.Outcomes.{NoneMust, SliceMust, Gives}
@@ -43,7 +44,7 @@ pub record HasLongShare (pieces : List Text) (offset count : ℕ) : Type 0 where
   pub parts : pieces ≡ before ++ (piece ∷ after)
   pub from : ℕ
   pub long : ℕ
-  pub is_long : 8 < long
+  pub is_long : INLINE_LEN < long
   pub within : from + long ≤ length piece.bytes
   pub begins : offset ≤ length (bytes_of_all before) + from
   pub ends : length (bytes_of_all before) + from + long ≤ offset + count

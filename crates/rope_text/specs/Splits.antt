@@ -1,5 +1,6 @@
 -- Ropes that are cut in two.
 use Rattle.std.specs.Prelude.{◌≡◌, ℕ, ◌<◌, ◌≤◌, ◌+◌, ◌⊎◌, List, [], ◌∷◌, ◌++◌, length, take, drop, IsUtf8, Result}
+use Rattle.tendril_block.specs.declared.atomicity.TheConstants.{INLINE_LEN}
 use Rattle.tendril_block.specs.declared.refusal.Refusal.{Refusal}
 use Rattle.tendril_block.specs.declared.refusal.Refusal.TheVariants.{Count}
 use Rattle.tendril_block.specs.Outcomes.{CutMust, Outcome}
@@ -33,7 +34,7 @@ pub record HasLongFront (pieces : List Text) (count : ℕ) : Type 0 where
   pub piece : Text
   pub after : List Text
   pub parts : pieces ≡ before ++ (piece ∷ after)
-  pub is_long : length (bytes_of_all before) + 8 < count
+  pub is_long : length (bytes_of_all before) + INLINE_LEN < count
   pub within : count < length (bytes_of_all before) + length piece.bytes
 
 -- no state rules out that the count of the piece that is cut is full, or that memory is wanting for the list of pieces

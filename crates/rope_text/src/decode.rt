@@ -1,4 +1,4 @@
-//! Ropes of decoded streams.
+//! Decoding of streams into ropes.
 ghost use Rattle.std.specs.Prelude.{◌≡◌, ◌≤◌, ◌⊎◌, List, [], None, Some, false, flat_map, length, chars, IfOk, IfErr};
 ghost use Rattle.std.specs.Io.KnownBytes.{IsAtEnd};
 ghost use Rattle.std.specs.Iterator.{IsFiniteIterable, YieldsThen};
@@ -20,8 +20,16 @@ use tendril_text::block::Refusal;
 use tendril_text::fmt::{Bytes, UTF8};
 use tendril_text::{Atomicity, Tendril};
 
-/// Decodes pieces of bytes to a rope, which shares them. It has the characters that are due of the joined bytes, with
-/// U+FFFD for what isn't UTF-8.
+/// Decodes pieces of bytes to a rope that shares them, with U+FFFD for each broken sequence.
+///
+/// A sequence is broken as Unicode's maximal subparts say; characters cut between two pieces are completed. Returns
+/// `SinkRefused` if an allocation fails, or the rope would have more than 18446744073709551615 bytes, or `Count` if a piece's
+/// block has as many references as it can have.
+///
+/// ```
+/// let pieces = [ByteTendril::from_slice(alloc, b"caf\xC3")?, ByteTendril::from_slice(alloc, b"\xA9\xFF")?];
+/// assert_eq!(rt; decode_rope(alloc, pieces)?.to_tendril()?.as_str(), "café\u{FFFD}");
+/// ```
 pub fn decode_rope<A: Atomicity, I: IntoIterator<Item = Tendril<Bytes, A>>>(
     alloc: Global,
     pieces: I,
@@ -37,53 +45,65 @@ pub fn decode_rope<A: Atomicity, I: IntoIterator<Item = Tendril<Bytes, A>>>(
     decode_pieces_into(alloc, Rope::new(alloc), pieces)
 }
 
-/// Reads to the end, and decodes what it reads to a rope, with U+FFFD for what isn't UTF-8. At most `most` reads are
-/// made, of up to 4096 bytes each.
+/// Reads to the end, and decodes the bytes to a rope, with U+FFFD for each broken sequence.
 ///
-/// Where reading itself stops, the decoder comes back and stands at the bytes that were read. Where the decoder refuses
-/// a piece it comes back failed; where it refuses the end it is gone.
+/// Makes at most `max_reads` reads of at most 4096 bytes. Returns `Io` if a read fails, `TooManyReads` if the end wasn't
+/// reached within `max_reads` reads, `Memory` if a piece can't be allocated, and else what `decode_rope` returns. If reading
+/// itself stops, the decoder is returned with all that was read so far decoded, and reading may go on with it. If the decoder
+/// returns an error for a piece it is returned failed, and if it does for the end it is gone.
+///
+/// ```
+/// let rope = read_rope::<NonAtomic, _>(alloc, &mut Counted::new(b"a\xFFb".as_slice()), 10)?;
+/// assert_eq!(rt; rope.to_tendril()?.as_str(), "a\u{FFFD}b");
+/// ```
 pub fn read_rope<A: Atomicity, R: CountedRead>(
     alloc: Global,
     reader: &mut R,
-    most: u64,
+    max_reads: u64,
 ) -> Result<Rope<A>, Stopped<Utf8LossyDecoder<Rope<A>, A>>>
     ensures ok { IfOk result (λ rope. (these : List OneRead) × MakesReads R.history R.remaining reader.old these reader.new
         × IsAtEnd (R.remaining reader.new) × (chars rope.bytes ≡ characters (due (given these)))
-        × StopsWith CameToEnd these × (length these ≤ most)) }
+        × StopsWith CameToEnd these × (length these ≤ max_reads)) }
     ensures stopped { IfErr result (λ s. (these : List OneRead) × MakesReads R.history R.remaining reader.old these reader.new
-        × (IsOfReading s.refusal → StopsBetween most these s.refusal
+        × (IsOfReading s.refusal → StopsBetween max_reads these s.refusal
         × ((d : _) × (s.sink ≡ Some d) × (d.failed ≡ false)
         × StandsAt HasCharacters d.inner_sink d.kept (given these)))
         × (IsOfReading s.refusal ⊎ StreamStops ⟦<Rope<A> as TendrilSink<Tendril<UTF8, A>>>⟧.takes
         ⟦<Rope<A> as TendrilSink<Tendril<UTF8, A>>>⟧.refuses ⟦<Rope<A> as TendrilSink<Tendril<UTF8, A>>>⟧.ends
-        HasCharacters (λ d. d.inner_sink) (λ d. d.failed) most these s.refusal s.sink)) }
+        HasCharacters (λ d. d.inner_sink) (λ d. d.failed) max_reads these s.refusal s.sink)) }
 {
     let decoder = Utf8LossyDecoder::new(alloc, Rope::new(alloc));
-    read_decoded(alloc, decoder, reader, most)
+    read_decoded(alloc, decoder, reader, max_reads)
 }
 
-/// Reads a file to its end into a rope, as `read_rope` does.
+/// Reads a file to its end, and decodes the bytes to a rope, with U+FFFD for each broken sequence.
 ///
-/// A file that can't be opened is refused as Io, with a new decoder, as is a folder, of which no read succeeds.
+/// Returns `Io` with a new decoder if the file can't be opened, and else what `read_rope` returns: a directory is `Io` too,
+/// since no read of it succeeds.
+///
+/// ```
+/// let stopped = rope_from_file::<NonAtomic, _>(&rt, alloc, "no/such/file", 10).err();
+/// assert_eq!(rt; stopped.is_some_and(|stopped| stopped.refusal == Refusal::Io), true);
+/// ```
 pub fn rope_from_file<A: Atomicity, F: Files>(
     files: &F,
     alloc: Global,
     path: &str,
-    most: u64,
+    max_reads: u64,
 ) -> Result<Rope<A>, Stopped<Utf8LossyDecoder<Rope<A>, A>>>
     ensures ok { IfOk result (λ rope. (these : List OneRead) × (chars rope.bytes ≡ characters (due (given these)))
-        × StopsWith CameToEnd these × (length these ≤ most)) }
+        × StopsWith CameToEnd these × (length these ≤ max_reads)) }
     ensures stopped { IfErr result (λ s. ((s.refusal ≡ Refusal.Io)
         × ((d : _) × (s.sink ≡ Some d) × (d.failed ≡ false) × StandsAt HasCharacters d.inner_sink d.kept []))
-        ⊎ ((these : List OneRead) × (IsOfReading s.refusal → StopsBetween most these s.refusal
+        ⊎ ((these : List OneRead) × (IsOfReading s.refusal → StopsBetween max_reads these s.refusal
         × ((d : _) × (s.sink ≡ Some d) × (d.failed ≡ false)
         × StandsAt HasCharacters d.inner_sink d.kept (given these)))
         × (IsOfReading s.refusal ⊎ StreamStops ⟦<Rope<A> as TendrilSink<Tendril<UTF8, A>>>⟧.takes
         ⟦<Rope<A> as TendrilSink<Tendril<UTF8, A>>>⟧.refuses ⟦<Rope<A> as TendrilSink<Tendril<UTF8, A>>>⟧.ends
-        HasCharacters (λ d. d.inner_sink) (λ d. d.failed) most these s.refusal s.sink))) }
+        HasCharacters (λ d. d.inner_sink) (λ d. d.failed) max_reads these s.refusal s.sink))) }
 {
     match fs::open(files, path) {
-        Ok(file) => read_rope(alloc, &mut Counted::new(file), most),
+        Ok(file) => read_rope(alloc, &mut Counted::new(file), max_reads),
         Err(_) => Err(Stopped {
             refusal: Refusal::Io,
             sink: Some(Utf8LossyDecoder::new(alloc, Rope::new(alloc))),

@@ -1,4 +1,4 @@
-//! Ropes: UTF-8 of up to 18446744073709551615 bytes, in texts that are shared.
+//! Ropes: UTF-8 of up to 18446744073709551615 bytes, in shared texts.
 #![tactic(auto)]
 
 mod decode;

@@ -1,6 +1,7 @@
 //! Ropes.
 //!
-//! A `Rope<A>` is seen by contracts as its bytes and the texts that have them, its pieces. None of them is empty.
+//! Contracts see a `Rope<A>` as its bytes and its pieces: the texts, none of them empty, that have these bytes. The pieces
+//! are part of its value: of the bytes alone no contract could say that a slice copies nothing, or how many pieces it has.
 ghost use Rattle.std.specs.Prelude.{◌≡◌, [], length};
 
 mod compare;
@@ -20,15 +21,21 @@ use std::marker::Model;
 use tendril_text::fmt::UTF8;
 use tendril_text::{Atomicity, NonAtomic, Tendril};
 
-/// A rope has at most so many bytes.
+/// The most bytes that a rope has.
 pub const MAX_TOTAL: u64 = u64::MAX;
 
-/// A text in UTF-8 of at most 18446744073709551615 bytes, in pieces.
+/// A text in UTF-8 of at most 18446744073709551615 bytes, in pieces that share their bytes with other ropes and texts.
+///
+/// ```
+/// let mut rope = Rope::new(alloc);
+/// rope.push_tendril(StrTendril::from_slice(alloc, "one, ")?)?;
+/// rope.push_tendril(StrTendril::from_slice(alloc, "two")?)?;
+/// assert_eq!(rt; rope.sub_rope(3, 4)?.to_tendril()?.as_str(), ", tw");
+/// ```
 #[derive(Drop)]
 pub struct Rope<A: Atomicity = NonAtomic> {
     pieces: VecDeque<Tendril<UTF8, A>>,
-    // Where each piece ends, counted from `start` on and past 2 ^ 64 from 0 again. A pop at the front moves the start,
-    // and no end.
+    // Where each piece ends, counted from `start` and modulo 2 ^ 64. A pop at the front changes the start, and no end.
     ends: VecDeque<u64>,
     start: u64,
     total: u64,
@@ -45,7 +52,12 @@ impl<A: Atomicity> Model for Rope<A> {
 }
 
 impl<A: Atomicity> Rope<A> {
-    /// The empty rope. Takes no memory.
+    /// Returns the empty rope. Allocates nothing.
+    ///
+    /// ```
+    /// let rope: Rope = Rope::new(alloc);
+    /// assert_eq!(rt; rope.is_empty(), true);
+    /// ```
     pub fn new(alloc: Global) -> Self
         ensures bytes { result.bytes ≡ [] }
         ensures pieces { result.pieces ≡ [] }
@@ -58,7 +70,13 @@ impl<A: Atomicity> Rope<A> {
         }
     }
 
-    /// The number of bytes.
+    /// Returns the number of bytes.
+    ///
+    /// ```
+    /// let mut rope = Rope::new(alloc);
+    /// rope.push_tendril(StrTendril::from_slice(alloc, "é")?)?;
+    /// assert_eq!(rt; rope.len64(), 2);
+    /// ```
     pub fn len64(&self) -> u64
         ensures { result ≡ length self.now.bytes }
     {

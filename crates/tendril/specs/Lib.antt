@@ -1,4 +1,4 @@
--- The words that a caller's contracts and proofs name.
+-- The words that a caller's contracts and proofs name. Those of formats are in `Fmt`; lemmas are in `Proofs`.
 pub use Rattle.tendril_text.specs.Texts
 pub use Rattle.tendril_text.specs.Edits
 pub use Rattle.tendril_text.specs.Errors
@@ -11,6 +11,7 @@ pub use Rattle.tendril_text.specs.Decoding
 pub use Rattle.tendril_text.specs.Items
 pub use Rattle.tendril_text.specs.Writes
 pub use Rattle.tendril_text.specs.Search
+pub use Rattle.tendril_text.specs.Splits
 pub use Rattle.tendril_text.specs.Iterators
 pub use Rattle.tendril_stream.specs.Sinks
 pub use Rattle.tendril_stream.specs.Events
@@ -21,3 +22,10 @@ pub use Rattle.tendril_stream.specs.Readings
 pub use Rattle.tendril_stream.specs.Stored
 pub use Rattle.tendril_lossy.specs.Lossy
 pub use Rattle.tendril_lossy.specs.Completions
+pub use Rattle.tendril_lossy.specs.declared.search.Ending
+pub use Rattle.tendril_block.specs.Outcomes
+pub use Rattle.tendril_block.specs.Refusals
+pub use Rattle.tendril_block.specs.declared.refusal.Refusal
+pub use Rattle.memchr.specs.Find
+pub mod Fmt
+pub mod Proofs

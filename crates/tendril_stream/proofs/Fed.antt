@@ -68,13 +68,13 @@ module _ {R : Type 0} (history : R → List OneRead) (remaining : R → Option (
     }
 
     -- the last read, of which the sink hears nothing
-    within_most : (most made : ℕ) (these : List OneRead) (r : OneRead) → length these ≡ made → made + 1 ≤ most → length (these ++ r ∷ []) ≤ most
-    within_most most made these r count within = omega (arith, one_more these r, count, within)
+    within_max : (max_reads made : ℕ) (these : List OneRead) (r : OneRead) → length these ≡ made → made + 1 ≤ max_reads → length (these ++ r ∷ []) ≤ max_reads
+    within_max max_reads made these r count within = omega (arith, one_more these r, count, within)
 
     -- all is read
-    pub reads_all : {O : Type 0} (finishes : S → O → Type 0) (most made : ℕ) (now then : S) (at next : R) (out : O) → Fed made now at → MakesReads history remaining at (CameToEnd ∷ []) next × IsAtEnd (remaining next) × (then ≡ now) → finishes then out → made + 1 ≤ most
-        → (these : List OneRead) × MakesReads history remaining reader these next × IsAtEnd (remaining next) × ReadsAll takes finishes most sink these out
-    reads_all finishes most made now then at next out f read done within = (
+    pub reads_all : {O : Type 0} (finishes : S → O → Type 0) (max_reads made : ℕ) (now then : S) (at next : R) (out : O) → Fed made now at → MakesReads history remaining at (CameToEnd ∷ []) next × IsAtEnd (remaining next) × (then ≡ now) → finishes then out → made + 1 ≤ max_reads
+        → (these : List OneRead) × MakesReads history remaining reader these next × IsAtEnd (remaining next) × ReadsAll takes finishes max_reads sink these out
+    reads_all finishes max_reads made now then at next out f read done within = (
       f.these ++ CameToEnd ∷ [],
       MakesReads-on reader at next f.these (CameToEnd ∷ []) f.makes read.0,
       read.1,
@@ -83,27 +83,27 @@ module _ {R : Type 0} (history : R → List OneRead) (remaining : R → Option (
         receives = FoldsTo-push (Hears takes) sink f.these now CameToEnd then f.receives read.2;
         finished = done;
         ends = record { before = f.these; on = f.on; is = refl };
-        within = within_most most made f.these CameToEnd f.count within;
+        within = within_max max_reads made f.these CameToEnd f.count within;
       },
     )
 
-    module _ (refuses : S → Sent → Refusal → S → Type 0) (ends : S → Refusal → Type 0) (most : ℕ) where
+    module _ (refuses : S → Sent → Refusal → S → Type 0) (ends : S → Refusal → Type 0) (max_reads : ℕ) where
       abbrev pub Halted : R → Refusal → Option S → Type 0
-      Halted next refusal handed = (these : List OneRead) × MakesReads history remaining reader these next × Halts takes refuses ends most sink these refusal handed
+      Halted next refusal handed = (these : List OneRead) × MakesReads history remaining reader these next × Halts takes refuses ends max_reads sink these refusal handed
 
       -- no read is left
-      pub halts_at_most : (made : ℕ) (now : S) (at : R) → Fed made now at → made ≡ most → Halted at TooManyReads (Some now)
-      halts_at_most made now at f is = (f.these, f.makes, inl (record { sink = now; receives = f.receives; back = refl; stops = inl (refl, f.on, f.count ∙ is) }))
+      pub halts_at_max : (made : ℕ) (now : S) (at : R) → Fed made now at → made ≡ max_reads → Halted at TooManyReads (Some now)
+      halts_at_max made now at f is = (f.these, f.makes, inl (record { sink = now; receives = f.receives; back = refl; stops = inl (refl, f.on, f.count ∙ is) }))
 
       -- there was no memory for a read
-      halts_without_memory : (made : ℕ) (now then : S) (at next : R) → Fed made now at → (next ≡ at) × (then ≡ now) → made < most → Halted next Memory (Some then)
+      halts_without_memory : (made : ℕ) (now then : S) (at next : R) → Fed made now at → (next ≡ at) × (then ≡ now) → made < max_reads → Halted next Memory (Some then)
       halts_without_memory made now then at next f same left = (
         f.these,
         subst (λ r. MakesReads history remaining reader f.these r) (sym same.0) f.makes,
-        inl (record { sink = then; receives = subst (λ s. Receives takes sink f.these s) (sym same.1) f.receives; back = refl; stops = inr (inr (refl, f.on, subst (λ n. n < most) (sym f.count) left)) }),
+        inl (record { sink = then; receives = subst (λ s. Receives takes sink f.these s) (sym same.1) f.receives; back = refl; stops = inr (inr (refl, f.on, subst (λ n. n < max_reads) (sym f.count) left)) }),
       )
 
-      halts_at_failure : (made : ℕ) (now then : S) (at next : R) → Fed made now at → MakesReads history remaining at (HasFailed ∷ []) next × (then ≡ now) → made + 1 ≤ most → Halted next Io (Some then)
+      halts_at_failure : (made : ℕ) (now then : S) (at next : R) → Fed made now at → MakesReads history remaining at (HasFailed ∷ []) next × (then ≡ now) → made + 1 ≤ max_reads → Halted next Io (Some then)
       halts_at_failure made now then at next f read within = (
         f.these ++ HasFailed ∷ [],
         MakesReads-on reader at next f.these (HasFailed ∷ []) f.makes read.0,
@@ -111,12 +111,12 @@ module _ {R : Type 0} (history : R → List OneRead) (remaining : R → Option (
           sink = then;
           receives = FoldsTo-push (Hears takes) sink f.these now HasFailed then f.receives read.1;
           back = refl;
-          stops = inr (inl (refl, record { before = f.these; on = f.on; is = refl }, within_most most made f.these HasFailed f.count within));
+          stops = inr (inl (refl, record { before = f.these; on = f.on; is = refl }, within_max max_reads made f.these HasFailed f.count within));
         }),
       )
 
       -- a read that stops
-      pub halts_once : (made : ℕ) (now then : S) (at next : R) (refusal : Refusal) → Fed made now at → ReadStops history remaining at next now then refuses refusal → made < most → Halted next refusal (Some then)
+      pub halts_once : (made : ℕ) (now then : S) (at next : R) (refusal : Refusal) → Fed made now at → ReadStops history remaining at next now then refuses refusal → made < max_reads → Halted next refusal (Some then)
       halts_once made now then at next refusal f (inl h) left = subst (λ r. Halted next r (Some then)) (sym h.0) (halts_without_memory made now then at next f (h.1, h.2) left)
       halts_once made now then at next refusal f (inr (inl h)) left = subst (λ r. Halted next r (Some then)) (sym h.0) (halts_at_failure made now then at next f (h.1, h.2) (omega (arith, left)))
       halts_once made now then at next refusal f (inr (inr h)) left =
@@ -134,12 +134,12 @@ module _ {R : Type 0} (history : R → List OneRead) (remaining : R → Option (
               refused = h.3;
               back = refl;
               on = All-push MayReadOn f.these one f.on h.1.0;
-              within = within_most most made f.these one f.count (omega (arith, left));
+              within = within_max max_reads made f.these one f.count (omega (arith, left));
             })),
           )
 
       -- the sink refused its end
-      pub halts_at_end : (made : ℕ) (now then : S) (at next : R) (refusal : Refusal) → Fed made now at → MakesReads history remaining at (CameToEnd ∷ []) next × IsAtEnd (remaining next) × (then ≡ now) → ends then refusal → made + 1 ≤ most → Halted next refusal None
+      pub halts_at_end : (made : ℕ) (now then : S) (at next : R) (refusal : Refusal) → Fed made now at → MakesReads history remaining at (CameToEnd ∷ []) next × IsAtEnd (remaining next) × (then ≡ now) → ends then refusal → made + 1 ≤ max_reads → Halted next refusal None
       halts_at_end made now then at next refusal f read refused within = (
         f.these ++ CameToEnd ∷ [],
         MakesReads-on reader at next f.these (CameToEnd ∷ []) f.makes read.0,
@@ -149,6 +149,6 @@ module _ {R : Type 0} (history : R → List OneRead) (remaining : R → Option (
           refused = refused;
           gone = refl;
           at_end = record { before = f.these; on = f.on; is = refl };
-          within = within_most most made f.these CameToEnd f.count within;
+          within = within_max max_reads made f.these CameToEnd f.count within;
         })),
       )

@@ -65,27 +65,27 @@ module _ {R : Type 0} (history : R → List OneRead) (remaining : R → Option (
   last_front : (filled : ℕ) (bytes new : List ℕ) (these : List OneRead) (r : OneRead) → given_by r ≡ [] → take filled bytes ≡ old ++ given these → take filled new ≡ take filled bytes → take filled new ≡ old ++ given (these ++ r ∷ [])
   last_front filled bytes new these r none front same = same ∙ front ∙ ap (λ l. old ++ l) (sym (given-push these r ∙ ap (λ l. given these ++ l) none ∙ append-nil (given these)))
 
-  within_most : (most made : ℕ) (these : List OneRead) (r : OneRead) → length these ≡ made → made + 1 ≤ most → length (these ++ r ∷ []) ≤ most
-  within_most most made these r count within = omega (arith, one_more made these r count, within)
+  within_max : (max_reads made : ℕ) (these : List OneRead) (r : OneRead) → length these ≡ made → made + 1 ≤ max_reads → length (these ++ r ∷ []) ≤ max_reads
+  within_max max_reads made these r count within = omega (arith, one_more made these r count, within)
 
   -- all is read
-  pub filled_end : {T : Type 0} (count : T) (most made filled : ℕ) (bytes new : List ℕ) (at next : R) → Filled made filled bytes at → take filled new ≡ take filled bytes → MakesReads history remaining at (CameToEnd ∷ []) next → made + 1 ≤ most → filled < 4294967295
-      → (these : List OneRead) × MakesReads history remaining reader these next × (take filled new ≡ old ++ given these) × Fills {T = T} most these (Ok count) filled
-  filled_end count most made filled bytes new at next f same read within short = (
+  pub filled_end : {T : Type 0} (count : T) (max_reads made filled : ℕ) (bytes new : List ℕ) (at next : R) → Filled made filled bytes at → take filled new ≡ take filled bytes → MakesReads history remaining at (CameToEnd ∷ []) next → made + 1 ≤ max_reads → filled < 4294967295
+      → (these : List OneRead) × MakesReads history remaining reader these next × (take filled new ≡ old ++ given these) × Fills {T = T} max_reads these (Ok count) filled
+  filled_end count max_reads made filled bytes new at next f same read within short = (
     f.these ++ CameToEnd ∷ [],
     MakesReads-on history remaining reader at next f.these (CameToEnd ∷ []) f.makes read,
     last_front filled bytes new f.these CameToEnd refl f.front same,
-    (record { before = f.these; on = f.on; is = refl }, within_most most made f.these CameToEnd f.count within, short),
+    (record { before = f.these; on = f.on; is = refl }, within_max max_reads made f.these CameToEnd f.count within, short),
   )
 
   -- a read failed
-  pub filled_failed : (T : Type 0) (most made filled : ℕ) (bytes new : List ℕ) (at next : R) → Filled made filled bytes at → take filled new ≡ take filled bytes → MakesReads history remaining at (HasFailed ∷ []) next → made + 1 ≤ most → filled < 4294967295
-      → (these : List OneRead) × MakesReads history remaining reader these next × (take filled new ≡ old ++ given these) × Fills {T = T} most these (Err Io) filled
-  filled_failed T most made filled bytes new at next f same read within short = (
+  pub filled_failed : (T : Type 0) (max_reads made filled : ℕ) (bytes new : List ℕ) (at next : R) → Filled made filled bytes at → take filled new ≡ take filled bytes → MakesReads history remaining at (HasFailed ∷ []) next → made + 1 ≤ max_reads → filled < 4294967295
+      → (these : List OneRead) × MakesReads history remaining reader these next × (take filled new ≡ old ++ given these) × Fills {T = T} max_reads these (Err Io) filled
+  filled_failed T max_reads made filled bytes new at next f same read within short = (
     f.these ++ HasFailed ∷ [],
     MakesReads-on history remaining reader at next f.these (HasFailed ∷ []) f.makes read,
     last_front filled bytes new f.these HasFailed refl f.front same,
-    inr (inr (inl (refl, record { before = f.these; on = f.on; is = refl }, within_most most made f.these HasFailed f.count within)), short),
+    inr (inr (inl (refl, record { before = f.these; on = f.on; is = refl }, within_max max_reads made f.these HasFailed f.count within)), short),
   )
 
 -- the read that came to this answer

@@ -38,20 +38,20 @@ module _ {S D : Type 0} (takes : S → Sent → S → Type 0) (refuses : S → S
       (at_stop piece stops.mid n so_far stops.rest r (sent_on takes after goes piece (due_open b) a stops.sent stops.mid stops.each h stops.calls) stops.stop))
 
   -- a new decoder over it was read into
-  pub halted : (ends : D → Refusal → Type 0) (sink : S) (d : D) (most : ℕ) (these : List OneRead) (r : Refusal) (handed : Option D)
+  pub halted : (ends : D → Refusal → Type 0) (sink : S) (d : D) (max_reads : ℕ) (these : List OneRead) (r : Refusal) (handed : Option D)
       → inner d ≡ sink → held d ≡ [] → failed d ≡ false → after sink []
       → Halts (DecoderTakes takes inner held failed)
       (λ d e r n. (failed n ≡ true) × (((failed d ≡ true) × (r ≡ Failed) × (inner n ≡ inner d)) ⊎ ((failed d ≡ false) × DecodingStops takes refuses (inner d) (held d) e r (inner n))))
-      ends most d these r handed
+      ends max_reads d these r handed
       → IfSome handed (λ n. front (inner n) (due (given these)))
-  halted ends sink d most these r handed is none alive new (inl h) =
+  halted ends sink d max_reads these r handed is none alive new (inl h) =
       let stands = stands_read takes inner held failed after goes sink d h.sink these is none alive new h.receives in
       subst (λ o. IfSome o (λ n. front (inner n) (due (given these)))) (sym h.back)
       (subst (front (inner h.sink)) (sym (due-end (given these))) (begins (due_open (given these)) (due (kept (given these))) (inner h.sink) stands.0.tells))
-  halted ends sink d most these r handed is none alive new (inr (inl h)) =
+  halted ends sink d max_reads these r handed is none alive new (inr (inl h)) =
       let stands = stands_read takes inner held failed after goes sink d h.sink h.before is none alive new h.receives in
       let stops = stops_at_piece takes refuses inner held failed h.sink h.piece r h.last (given h.before) stands.1 stands.0.keeps h.refused in
       subst (λ o. IfSome o (λ n. front (inner n) (due (given these)))) (sym h.back)
       (subst (λ l. front (inner h.last) (due l)) (sym (ap given h.is ∙ given-push h.before (Gave h.piece.bytes))) (at_stops h.piece (inner h.sink) (inner h.last) (given h.before) r stands.0.tells stops))
-  halted ends sink d most these r handed is none alive new (inr (inr h)) =
+  halted ends sink d max_reads these r handed is none alive new (inr (inr h)) =
       subst (λ o. IfSome o (λ n. front (inner n) (due (given these)))) (sym h.gone) tt

@@ -13,10 +13,10 @@ use Rattle.tendril_stream.specs.Readings.{Halts, IsOfReading, Receives, StopsBet
 use Rattle.tendril_stream.specs.Reads.{OneRead, given}
 use Rattle.tendril_stream.specs.Sinks.{Sent, Piece, Stops}
 
-between_is_of_reading : (most : ℕ) (these : List OneRead) (r : Refusal) → StopsBetween most these r → IsOfReading r
-between_is_of_reading most these r (inl k) = inl k.0
-between_is_of_reading most these r (inr (inl k)) = inr (inl k.0)
-between_is_of_reading most these r (inr (inr k)) = inr (inr k.0)
+between_is_of_reading : (max_reads : ℕ) (these : List OneRead) (r : Refusal) → StopsBetween max_reads these r → IsOfReading r
+between_is_of_reading max_reads these r (inl k) = inl k.0
+between_is_of_reading max_reads these r (inr (inl k)) = inr (inl k.0)
+between_is_of_reading max_reads these r (inr (inr k)) = inr (inr k.0)
 
 module _ {S D : Type 0} (takes : S → Sent → S → Type 0) (inner : D → S) (held : D → List ℕ) (failed : D → Bool) where
   abbrev pub DecoderTakes : D → Sent → D → Type 0
@@ -49,15 +49,15 @@ module _ {S D : Type 0} (takes : S → Sent → S → Type 0) (refuses : S → S
       (λ k. subst (λ l. EndStops takes refuses ends (inner d) l r) keeps k.1) h
 
   -- while it was read into, as a new one
-  pub stream_stops : (ends : S → Refusal → Type 0) (after : S → List Told → Type 0) → FollowsCalls takes after → (sink : S) (d : D) (most : ℕ) (these : List OneRead) (r : Refusal) (handed : Option D)
+  pub stream_stops : (ends : S → Refusal → Type 0) (after : S → List Told → Type 0) → FollowsCalls takes after → (sink : S) (d : D) (max_reads : ℕ) (these : List OneRead) (r : Refusal) (handed : Option D)
       → inner d ≡ sink → held d ≡ [] → failed d ≡ false → after sink []
       → Halts (λ d e n. (failed d ≡ false) × (failed n ≡ false) × Decodes takes (inner d) (held d) e (inner n) (held n))
       (λ d e r n. (failed n ≡ true) × (((failed d ≡ true) × (r ≡ Failed) × (inner n ≡ inner d)) ⊎ ((failed d ≡ false) × DecodingStops takes refuses (inner d) (held d) e r (inner n))))
       (λ d r. ((failed d ≡ true) × (r ≡ Failed)) ⊎ ((failed d ≡ false) × EndStops takes refuses ends (inner d) (held d) r))
-      most d these r handed
-      → IsOfReading r ⊎ StreamStops takes refuses ends after inner failed most these r handed
-  stream_stops ends after goes sink d most these r handed is none alive new (inl h) = inl (between_is_of_reading most these r h.stops)
-  stream_stops ends after goes sink d most these r handed is none alive new (inr (inl h)) =
+      max_reads d these r handed
+      → IsOfReading r ⊎ StreamStops takes refuses ends after inner failed max_reads these r handed
+  stream_stops ends after goes sink d max_reads these r handed is none alive new (inl h) = inl (between_is_of_reading max_reads these r h.stops)
+  stream_stops ends after goes sink d max_reads these r handed is none alive new (inr (inl h)) =
       let stands = stands_read takes inner held failed after goes sink d h.sink h.before is none alive new h.receives in
       let at = stands.0 in
       let running = stands.1 in
@@ -74,7 +74,7 @@ module _ {S D : Type 0} (takes : S → Sent → S → Type 0) (refuses : S → S
         on = h.on;
         within = h.within;
       }))
-  stream_stops ends after goes sink d most these r handed is none alive new (inr (inr h)) =
+  stream_stops ends after goes sink d max_reads these r handed is none alive new (inr (inr h)) =
       let stands = stands_read takes inner held failed after goes sink d h.sink these is none alive new h.receives in
       let at = stands.0 in
       let running = stands.1 in

@@ -6,8 +6,8 @@ use Rattle.std.proofs.lemmas.List.{drop-drop}
 use Rattle.std.proofs.lemmas.List.Elements.{All-weaker}
 use Rattle.std.proofs.lemmas.Str.{chars-nil}
 use Rattle.std.specs.Prelude.{IfSome, IsSomeAnd}
-use Rattle.tendril_text.proofs.Decoding.{rest-through, handed-through, long-behind}
-use Rattle.tendril_text.specs.Decoding.{IsHandedOn, IsRest, LongPieceMay, PopsText, broken_len, bytes_of, listed}
+use Rattle.tendril_text.proofs.Decoding.{rest-through, handed-through, long-behind, long-text}
+use Rattle.tendril_text.specs.Decoding.{IsHandedOn, IsRest, LongTextMay, PopsText, broken_len, bytes_of, listed}
 use Rattle.tendril_text.specs.Texts.{Text, Keeps}
 use Rattle.tendril_block.specs.declared.refusal.Refusal.{Refusal}
 use Rattle.tendril_lossy.specs.Completions.{CompletesTo}
@@ -139,7 +139,7 @@ module _ {S : Type 0} (takes : S → Sent → S → Type 0) (refuses : S → Sen
       (sym so.due)
 
   -- no further text could be taken out
-  pub unpopped : (piece b : Text) (old s : S) (r : Refusal) → SoFar takes piece old b s → LongPieceMay b.bytes r → Stops takes refuses piece old (due_open piece.bytes) r s
+  pub unpopped : (piece b : Text) (old s : S) (r : Refusal) → SoFar takes piece old b s → LongTextMay b.bytes r → Stops takes refuses piece old (due_open piece.bytes) r s
   unpopped piece b old s r so may = record {
     sent = so.feeds.sent;
     each = so.feeds.each;
@@ -147,7 +147,7 @@ module _ {S : Type 0} (takes : S → Sent → S → Type 0) (refuses : S → Sen
     calls = so.feeds.calls;
     rest = due_open b.bytes;
     front = ap (λ l. l ++ due_open b.bytes) so.feeds.tells ∙ sym so.due;
-    stop = inl (long-behind piece.bytes b.bytes so.end.0 r so.end.1 may, refl);
+    stop = inl (long-text piece.bytes b.bytes so.end.0 r so.end.1 may, refl);
   }
 
 -- what is sent of a part is sent of the piece

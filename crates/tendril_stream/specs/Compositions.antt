@@ -65,7 +65,7 @@ pub record PiecesStop {I It S : Type 0} (becomes : I → It → Type 0) (steps :
 -- A new decoder refused what the last read of a stream gave, and comes back failed. By then its sink was told what is
 -- due of what was read before, and of that piece a beginning.
 pub record StreamStopsAtPiece {S D : Type 0} (takes : S → Sent → S → Type 0) (refuses : S → Sent → Refusal → S → Type 0)
-    (after : S → List Told → Type 0) (inner : D → S) (failed : D → Bool) (most : ℕ) (these : List OneRead)
+    (after : S → List Told → Type 0) (inner : D → S) (failed : D → Bool) (max_reads : ℕ) (these : List OneRead)
     (refusal : Refusal) (handed : Option D) : Type 0 where
   pub before : List OneRead
   pub piece : Text
@@ -77,23 +77,23 @@ pub record StreamStopsAtPiece {S D : Type 0} (takes : S → Sent → S → Type 
   pub has_failed : failed decoder ≡ true
   pub back : handed ≡ Some decoder
   pub on : All MayReadOn these
-  pub within : length these ≤ most
+  pub within : length these ≤ max_reads
 
 -- It refused the end, and is gone. By then its sink was told what is due of what was read, and of the end a beginning.
 pub record StreamStopsAtEnd {S D : Type 0} (takes : S → Sent → S → Type 0) (refuses : S → Sent → Refusal → S → Type 0)
-    (ends : S → Refusal → Type 0) (after : S → List Told → Type 0) (most : ℕ) (these : List OneRead) (refusal : Refusal)
-    (handed : Option D) : Type 0 where
+    (ends : S → Refusal → Type 0) (after : S → List Told → Type 0) (max_reads : ℕ) (these : List OneRead)
+    (refusal : Refusal) (handed : Option D) : Type 0 where
   pub sink : S
   pub tells : after sink (due_open (given these))
   pub stops : EndStops takes refuses ends sink (kept (given these)) refusal
   pub gone : handed ≡ None
   pub at_end : StopsWith CameToEnd these
-  pub within : length these ≤ most
+  pub within : length these ≤ max_reads
 
 -- where a new decoder stopped the stream that was read through it
 abbrev pub StreamStops : {S D : Type 0} → (S → Sent → S → Type 0) → (S → Sent → Refusal → S → Type 0)
     → (S → Refusal → Type 0) → (S → List Told → Type 0) → (D → S) → (D → Bool) → ℕ → List OneRead → Refusal → Option D
     → Type 0
-StreamStops takes refuses ends after inner failed most these refusal handed =
-    StreamStopsAtPiece takes refuses after inner failed most these refusal handed
-    ⊎ StreamStopsAtEnd takes refuses ends after most these refusal handed
+StreamStops takes refuses ends after inner failed max_reads these refusal handed =
+    StreamStopsAtPiece takes refuses after inner failed max_reads these refusal handed
+    ⊎ StreamStopsAtEnd takes refuses ends after max_reads these refusal handed

@@ -94,36 +94,36 @@ module _ {R S : Type 0} (history : R → List OneRead) (remaining : R → Option
       × refuses sink (Piece piece) refusal sink'))
 
 -- all was read, up to the first read of none, and the sink accepted it and its end; so many reads at most
-pub record ReadsAll {S O : Type 0} (takes : S → Sent → S → Type 0) (finishes : S → O → Type 0) (most : ℕ) (sink : S)
-    (these : List OneRead) (out : O) : Type 0 where
+pub record ReadsAll {S O : Type 0} (takes : S → Sent → S → Type 0) (finishes : S → O → Type 0) (max_reads : ℕ)
+    (sink : S) (these : List OneRead) (out : O) : Type 0 where
   pub last : S
   pub receives : Receives takes sink these last
   pub finished : finishes last out
   pub ends : StopsWith CameToEnd these
-  pub within : length these ≤ most
+  pub within : length these ≤ max_reads
 
 -- no read was left, or one failed, or there was no memory for one that was left
 abbrev pub StopsBetween : ℕ → List OneRead → Refusal → Type 0
-StopsBetween most these refusal =
-    ((refusal ≡ TooManyReads) × All MayReadOn these × (length these ≡ most))
-    ⊎ (((refusal ≡ Io) × StopsWith HasFailed these × (length these ≤ most))
-    ⊎ ((refusal ≡ Memory) × All MayReadOn these × (length these < most)))
+StopsBetween max_reads these refusal =
+    ((refusal ≡ TooManyReads) × All MayReadOn these × (length these ≡ max_reads))
+    ⊎ (((refusal ≡ Io) × StopsWith HasFailed these × (length these ≤ max_reads))
+    ⊎ ((refusal ≡ Memory) × All MayReadOn these × (length these < max_reads)))
 
 -- a refusal of reading itself
 abbrev pub IsOfReading : Refusal → Type 0
 IsOfReading refusal = (refusal ≡ TooManyReads) ⊎ ((refusal ≡ Io) ⊎ (refusal ≡ Memory))
 
 -- Reading stopped between two pieces. The sink comes back, and has accepted all that was read.
-pub record HaltsBetween {S : Type 0} (takes : S → Sent → S → Type 0) (most : ℕ) (old : S) (these : List OneRead)
+pub record HaltsBetween {S : Type 0} (takes : S → Sent → S → Type 0) (max_reads : ℕ) (old : S) (these : List OneRead)
     (refusal : Refusal) (handed : Option S) : Type 0 where
   pub sink : S
   pub receives : Receives takes old these sink
   pub back : handed ≡ Some sink
-  pub stops : StopsBetween most these refusal
+  pub stops : StopsBetween max_reads these refusal
 
 -- The sink refused what the last read gave, and comes back. It had accepted all that was read before.
 pub record HaltsAtPiece {S : Type 0} (takes : S → Sent → S → Type 0) (refuses : S → Sent → Refusal → S → Type 0)
-    (most : ℕ) (old : S) (these : List OneRead) (refusal : Refusal) (handed : Option S) : Type 0 where
+    (max_reads : ℕ) (old : S) (these : List OneRead) (refusal : Refusal) (handed : Option S) : Type 0 where
   pub sink : S
   pub before : List OneRead
   pub piece : Text
@@ -134,37 +134,38 @@ pub record HaltsAtPiece {S : Type 0} (takes : S → Sent → S → Type 0) (refu
   pub refused : refuses sink (Piece piece) refusal last
   pub back : handed ≡ Some last
   pub on : All MayReadOn these
-  pub within : length these ≤ most
+  pub within : length these ≤ max_reads
 
 -- The sink refused its end, and is gone. It had accepted all that was read.
-pub record HaltsAtEnd {S : Type 0} (takes : S → Sent → S → Type 0) (ends : S → Refusal → Type 0) (most : ℕ) (old : S)
-    (these : List OneRead) (refusal : Refusal) (handed : Option S) : Type 0 where
+pub record HaltsAtEnd {S : Type 0} (takes : S → Sent → S → Type 0) (ends : S → Refusal → Type 0) (max_reads : ℕ)
+    (old : S) (these : List OneRead) (refusal : Refusal) (handed : Option S) : Type 0 where
   pub sink : S
   pub receives : Receives takes old these sink
   pub refused : ends sink refusal
   pub gone : handed ≡ None
   pub at_end : StopsWith CameToEnd these
-  pub within : length these ≤ most
+  pub within : length these ≤ max_reads
 
 -- where reading into a sink stopped
 abbrev pub Halts : {S : Type 0} → (S → Sent → S → Type 0) → (S → Sent → Refusal → S → Type 0) → (S → Refusal → Type 0)
     → ℕ → S → List OneRead → Refusal → Option S → Type 0
-Halts takes refuses ends most old these refusal handed =
-    HaltsBetween takes most old these refusal handed
-    ⊎ (HaltsAtPiece takes refuses most old these refusal handed ⊎ HaltsAtEnd takes ends most old these refusal handed)
+Halts takes refuses ends max_reads old these refusal handed =
+    HaltsBetween takes max_reads old these refusal handed
+    ⊎ (HaltsAtPiece takes refuses max_reads old these refusal handed
+    ⊎ HaltsAtEnd takes ends max_reads old these refusal handed)
 
 -- Why reading into a text ended, and how long the text is then: it was read to the end; or it is as long as a text can
 -- be; or no read was left, or one failed, or there was no memory for one.
 abbrev pub Fills : {T : Type 0} → ℕ → List OneRead → Result T Refusal → ℕ → Type 0
-Fills most these (Ok count) len = StopsWith CameToEnd these × (length these ≤ most) × (len < 4294967295)
-Fills most these (Err refusal) len =
-    ((refusal ≡ TooLong) × (len ≡ 4294967295) × All MayReadOn these × (length these ≤ most))
-    ⊎ (StopsBetween most these refusal × (len < 4294967295))
+Fills max_reads these (Ok count) len = StopsWith CameToEnd these × (length these ≤ max_reads) × (len < 4294967295)
+Fills max_reads these (Err refusal) len =
+    ((refusal ≡ TooLong) × (len ≡ 4294967295) × All MayReadOn these × (length these ≤ max_reads))
+    ⊎ (StopsBetween max_reads these refusal × (len < 4294967295))
 
 -- all that was read went behind a text, and the answer is how many bytes that is
 abbrev pub Adds : {R : Type 0} → (R → List OneRead) → (R → Option (List ℕ)) → ℕ → R → R → Text → Text
     → Result ℕ Refusal → Type 0
-Adds history remaining most reader reader' text text' result =
+Adds history remaining max_reads reader reader' text text' result =
     (these : List OneRead) × MakesReads history remaining reader these reader'
     × (text'.bytes ≡ text.bytes ++ given these) × IfOk result (λ n. n ≡ length (given these))
-    × Fills most these result (length text'.bytes)
+    × Fills max_reads these result (length text'.bytes)

@@ -1,4 +1,4 @@
-//! A sink that stores what it is sent.
+//! A sink that stores the texts and errors that it is sent.
 ghost use Rattle.std.specs.Prelude.{◌≡◌, [], ◌∷◌, ◌++◌, OnOk, IfErr};
 
 use crate::sink::TendrilSink;
@@ -10,10 +10,12 @@ use tendril_block::Refusal;
 use tendril_text::fmt::UTF8;
 use tendril_text::{Atomicity, NonAtomic, Tendril};
 
-/// A text, or an error.
+/// A text or an error that was sent to a sink.
 #[derive(Drop)]
 pub enum Event<A: Atomicity = NonAtomic> {
+    /// A text of the stream.
     Text(Tendril<UTF8, A>),
+    /// The message of an error in the stream.
     Error(CowStr<'static>),
 }
 
@@ -26,14 +28,20 @@ impl<A: Atomicity> Debug for Event<A> {
     }
 }
 
-/// What was sent so far.
+/// A sink that stores what it is sent, in order, in a vector.
 #[derive(Drop)]
 pub struct Accumulate<A: Atomicity = NonAtomic> {
     events: Vec<Event<A>>,
 }
 
 impl<A: Atomicity> Accumulate<A> {
-    /// Nothing was sent yet.
+    /// Returns a sink that has been sent nothing. Allocates nothing.
+    ///
+    /// ```
+    /// let sink = Accumulate::new(alloc);
+    /// let events = sink.one(StrTendril::from_slice(alloc, "a")?)?;
+    /// assert_eq!(rt; events.len(), 1);
+    /// ```
     pub fn new(alloc: Global) -> Self
         ensures { result.events.items ≡ [] }
     {
@@ -42,7 +50,13 @@ impl<A: Atomicity> Accumulate<A> {
         }
     }
 
-    /// What was sent, in its order.
+    /// Borrows what was sent so far, in order.
+    ///
+    /// ```
+    /// let mut sink = Accumulate::new(alloc);
+    /// sink.process(StrTendril::from_slice(alloc, "a")?)?;
+    /// assert_eq!(rt; matches!(sink.events(), [Event::Text(_)]), true);
+    /// ```
     pub fn events(&self) -> &[Event<A>]
         ensures { result.now ≡ self.now.events.items }
     {
@@ -106,7 +120,7 @@ impl<A: Atomicity> TendrilSink<Tendril<UTF8, A>> for Accumulate<A> {
     }
 }
 
-/// What it was sent tells what it was told.
+/// The characters and marks of the events are those that were sent.
 impl<A: Atomicity> Tracks<Tendril<UTF8, A>> for Accumulate<A> {
     ghost use Rattle.std.specs.Prelude.{◌≡◌};
     ghost use Rattle.tendril_stream.specs.Stored.{stored_on};

@@ -1,4 +1,4 @@
-//! Any reader, with its reads.
+//! Any reader, with a record of its reads.
 ghost use Rattle.std.specs.Prelude.{◌≡◌, ◌↔◌, []};
 ghost use Rattle.std.specs.IoError.{error_kind};
 
@@ -7,7 +7,7 @@ use crate::log::Log;
 use std::io;
 use std::io::{ErrorKind, Read};
 
-/// A reader whose reads are kept for contracts alone: their list takes no memory.
+/// A reader whose reads are recorded for contracts. The record is in proofs only: at run time this is the reader.
 #[derive(Drop)]
 pub struct Counted<R: Read + Drop> {
     reader: R,
@@ -15,7 +15,13 @@ pub struct Counted<R: Read + Drop> {
 }
 
 impl<R: Read + Drop> Counted<R> {
-    /// A reader that wasn't read yet.
+    /// Wraps a reader that hasn't been read yet.
+    ///
+    /// ```
+    /// let mut reader = Counted::new(b"abc".as_slice());
+    /// let mut text = ByteTendril::new(alloc);
+    /// assert_eq!(rt; reader.read_to_tendril(&mut text, 10)?, 3);
+    /// ```
     pub fn new(reader: R) -> Self
         ensures reader { result.reader ≡ reader }
         ensures reads { result.log.reads ≡ [] }
@@ -42,7 +48,7 @@ impl<R: Read + Drop> CountedRead for Counted<R> {
     }
 }
 
-// Which fault an error is.
+// Which fault an error of std is.
 fn fault_of(error: &io::Error) -> ReadFault
     ensures { (result ≡ ReadFault.Interrupted) ↔ (error_kind error.now ≡ ErrorKind.Interrupted) }
 {

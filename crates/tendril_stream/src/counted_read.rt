@@ -1,26 +1,27 @@
-//! Readers whose reads are kept for contracts.
+//! Readers whose reads are recorded for contracts.
 
-/// Why a read gave nothing.
+/// Why a read returned no bytes.
 #[derive(Clone, Copy, Debug, PartialEq, Eq)]
 pub enum ReadFault {
-    /// It may be made again.
+    /// The read was interrupted, and may be repeated.
     Interrupted,
+    /// The read failed.
     Failed,
 }
 
-/// What gives bytes, and keeps its reads for contracts.
+/// A source of bytes whose reads are recorded for contracts. `Counted` makes one of any reader.
 pub trait CountedRead: Drop {
     ghost use Rattle.std.specs.Prelude.{◌≡◌, ◌≤◌, List, [], ◌∷◌, ◌++◌, ℕ, Option, None, length, IfOk};
     ghost use Rattle.std.specs.Io.KnownBytes.{ReadConsumes};
     ghost use Rattle.tendril_stream.specs.Reads.{OneRead, read_of};
 
-    /// Its reads, one after another.
+    /// Its reads, in order.
     ghost history: { Self → List OneRead };
 
-    /// The bytes that reads will give from here on, where they are known.
+    /// The bytes that further reads will return, where they are known.
     ghost remaining: { Self → Option (List ℕ) } = { λ _. None };
 
-    /// Reads into the front of the buffer, and answers how many bytes it gave: none at the end, or where there is no room.
+    /// Reads into the start of the buffer and returns the number of bytes: 0 at the end, or for an empty buffer.
     fn read_some(&mut self, buffer: &mut [u8]) -> Result<usize, ReadFault>
         ensures within { IfOk result (λ n. n ≤ length buffer.new) }
         ensures history { history self.new ≡ history self.old ++ read_of result buffer.new ∷ [] }

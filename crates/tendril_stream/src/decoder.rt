@@ -14,19 +14,25 @@ use std::marker::PhantomData;
 use tendril_block::Refusal;
 use tendril_lossy::Ending;
 use tendril_text::fmt::{Bytes, UTF8};
-use tendril_text::{Atomicity, IncompleteUtf8, MANY_BEFORE, NonAtomic, Tendril};
+use tendril_text::{Atomicity, IncompleteUtf8, LastText, NonAtomic, Tendril};
 
 const INVALID: &str = "invalid byte sequence";
 
 const INCOMPLETE: &str = "incomplete byte sequence at end of stream";
 
-/// Decodes bytes that come in pieces to texts for a sink, with an error and U+FFFD for each broken sequence.
+// All calls fail after an error, since the rest of the piece is gone: if the next piece were decoded, bytes would be
+// missing in the middle, and no call would say so.
+/// Decodes pieces of bytes to texts for a sink, with an error and U+FFFD for each broken sequence.
 ///
-/// A call is refused with SinkRefused where the sink refuses what it is sent, whatever the sink's reason, and with Count
-/// where a piece can't be shared. After one refusal all that follow are refused with Failed.
+/// A sequence is broken as Unicode's maximal subparts say (chapter 3, 'U+FFFD Substitution of Maximal Subparts'). A character
+/// that is cut by the end of a piece is completed from the next one; where the stream ends in it, it is one broken sequence.
+///
+/// A call returns `SinkRefused` if the sink returns an error, whichever it is, and `Count` if the piece's block has as many
+/// references as it can have. All calls after an error return `Failed`. Decoding allocates nothing: texts of more than 8
+/// bytes share the piece's block.
 #[derive(Drop)]
 pub struct Utf8LossyDecoder<S: TendrilSink<Tendril<UTF8, A>>, A: Atomicity = NonAtomic> {
-    /// Where the texts go.
+    /// The sink that the texts are sent to.
     pub inner_sink: S,
     alloc: Global,
     kept: IncompleteUtf8,
@@ -37,7 +43,14 @@ pub struct Utf8LossyDecoder<S: TendrilSink<Tendril<UTF8, A>>, A: Atomicity = Non
 impl<S: TendrilSink<Tendril<UTF8, A>>, A: Atomicity> Utf8LossyDecoder<S, A> {
     ghost use Rattle.tendril_stream.specs.contracts.decoder.Utf8LossyDecoder.{the_row};
 
-    /// A decoder that has read nothing.
+    /// Returns a decoder that sends its texts to the sink. Allocates nothing.
+    ///
+    /// ```
+    /// let mut decoder = Utf8LossyDecoder::new(alloc, Accumulate::new(alloc));
+    /// decoder.process(ByteTendril::from_slice(alloc, b"a\xFF")?)?; // "a", an error, U+FFFD
+    /// let events = decoder.finish()?;
+    /// assert_eq!(rt; events.len(), 3);
+    /// ```
     pub fn new(alloc: Global, inner_sink: S) -> Self
         ensures sink { result.inner_sink ≡ inner_sink }
         ensures kept { result.kept ≡ [] }
@@ -52,7 +65,13 @@ impl<S: TendrilSink<Tendril<UTF8, A>>, A: Atomicity> Utf8LossyDecoder<S, A> {
         }
     }
 
-    /// A decoder of UTF-8 that has read nothing.
+    /// Returns a decoder of UTF-8 that sends its texts to the sink, as `new` does.
+    ///
+    /// ```
+    /// let decoder: LossyDecoder<Accumulate> = LossyDecoder::utf8(alloc, Accumulate::new(alloc));
+    /// let events = decoder.one(ByteTendril::from_slice(alloc, b"abc")?)?;
+    /// assert_eq!(rt; events.len(), 1);
+    /// ```
     pub fn utf8(alloc: Global, inner_sink: S) -> Self
         ensures sink { result.inner_sink ≡ inner_sink }
         ensures kept { result.kept ≡ [] }
@@ -61,14 +80,26 @@ impl<S: TendrilSink<Tendril<UTF8, A>>, A: Atomicity> Utf8LossyDecoder<S, A> {
         Self::new(alloc, inner_sink)
     }
 
-    /// Where the texts go.
+    /// Borrows the sink that the texts are sent to.
+    ///
+    /// ```
+    /// let mut decoder = Utf8LossyDecoder::new(alloc, Accumulate::new(alloc));
+    /// decoder.process(ByteTendril::from_slice(alloc, b"abc")?)?;
+    /// assert_eq!(rt; decoder.inner_sink().events().len(), 1);
+    /// ```
     pub fn inner_sink(&self) -> &S
         ensures { result.now ≡ self.now.inner_sink }
     {
         &self.inner_sink
     }
 
-    /// Where the texts go, to be changed.
+    /// Borrows the sink mutably: what it is changed to is sent the next texts.
+    ///
+    /// ```
+    /// let mut decoder = Utf8LossyDecoder::new(alloc, Accumulate::new(alloc));
+    /// decoder.inner_sink_mut().process(StrTendril::from_slice(alloc, "before the stream")?)?;
+    /// assert_eq!(rt; decoder.inner_sink().events().len(), 1);
+    /// ```
     pub fn inner_sink_mut(&mut self) -> &mut S
         ensures value { result.now ≡ self.old.inner_sink }
         ensures* writes_back { sem 𝓛 (Lends (the_row S.row A.row S.Output.row A.Block.row) S.row self.entry result
@@ -78,7 +109,7 @@ impl<S: TendrilSink<Tendril<UTF8, A>>, A: Atomicity> Utf8LossyDecoder<S, A> {
     }
 }
 
-/// A decoder of any encoding that is here, which is UTF-8 alone.
+/// A decoder of any encoding of this crate, which is UTF-8 alone.
 pub type LossyDecoder<S, A = NonAtomic> = Utf8LossyDecoder<S, A>;
 
 impl<S: TendrilSink<Tendril<UTF8, A>>, A: Atomicity> TendrilSink<Tendril<Bytes, A>>
@@ -129,7 +160,7 @@ impl<S: TendrilSink<Tendril<UTF8, A>>, A: Atomicity> TendrilSink<Tendril<Bytes, 
     }
 }
 
-// Sends a text.
+// Sends a text to the sink.
 fn send<S: TendrilSink<Tendril<UTF8, A>>, A: Atomicity>(
     sink: &mut S,
     text: Tendril<UTF8, A>,
@@ -140,7 +171,7 @@ fn send<S: TendrilSink<Tendril<UTF8, A>>, A: Atomicity>(
     sink.process(text).map_err(|_| Refusal::SinkRefused)
 }
 
-// Sends an error, and then its replacement.
+// Sends an error to the sink, and then U+FFFD.
 fn replace<S: TendrilSink<Tendril<UTF8, A>>, A: Atomicity>(
     sink: &mut S,
     alloc: Global,
@@ -156,7 +187,7 @@ fn replace<S: TendrilSink<Tendril<UTF8, A>>, A: Atomicity>(
     send(sink, Tendril::from_short_str(alloc, "\u{FFFD}"))
 }
 
-// Sends a text, if there is one.
+// Sends a text to the sink, if there is one.
 fn send_some<S: TendrilSink<Tendril<UTF8, A>>, A: Atomicity>(
     sink: &mut S,
     text: Option<Tendril<UTF8, A>>,
@@ -170,7 +201,7 @@ fn send_some<S: TendrilSink<Tendril<UTF8, A>>, A: Atomicity>(
     }
 }
 
-// Decodes a piece where nothing is kept, and answers what is to be kept.
+// Decodes a piece where nothing is kept, and returns what is to be kept.
 fn feed_rest<S: TendrilSink<Tendril<UTF8, A>>, A: Atomicity>(
     sink: &mut S,
     alloc: Global,
@@ -180,13 +211,9 @@ fn feed_rest<S: TendrilSink<Tendril<UTF8, A>>, A: Atomicity>(
         Feeds S.takes piece sink.old (due_open piece.bytes) sink.new × (k ≡ kept piece.bytes)) }
     ensures err { IfErr result (λ r. Stops S.takes S.refuses piece sink.old (due_open piece.bytes) r sink.new) }
 {
-    let mut last = MANY_BEFORE;
+    let mut last = LastText::none();
     loop {
-        let (text, ending) = piece.pop_text_after(last)?;
-        last = match &text {
-            Some(text) => text.len32(),
-            None => 0,
-        };
+        let (text, ending) = piece.pop_text_after(&mut last)?;
         send_some(sink, text)?;
         match ending {
             Ending::Whole | Ending::Open => {
@@ -197,7 +224,7 @@ fn feed_rest<S: TendrilSink<Tendril<UTF8, A>>, A: Atomicity>(
     }
 }
 
-// Completes what is kept, if anything is, from the front of a piece, and answers whether that was enough.
+// Completes what is kept, if anything is, from the start of a piece, and returns whether that completed it.
 fn resume<S: TendrilSink<Tendril<UTF8, A>>, A: Atomicity>(
     sink: &mut S,
     alloc: Global,
@@ -239,7 +266,7 @@ fn feed<S: TendrilSink<Tendril<UTF8, A>>, A: Atomicity>(
     Ok(())
 }
 
-// Tells of kept bytes in which the stream ended.
+// Sends an error and U+FFFD for kept bytes that the stream ended in.
 fn flush<S: TendrilSink<Tendril<UTF8, A>>, A: Atomicity>(
     sink: &mut S,
     alloc: Global,

@@ -10,31 +10,37 @@ use tendril_block::{MAX_LEN, Refusal};
 use tendril_text::fmt::Bytes;
 use tendril_text::{Atomicity, Tendril};
 
-/// How many bytes the first read is offered.
+/// The buffer of the first read, in bytes.
 const FIRST: u32 = 32;
 
-/// How many bytes a read is offered at most.
+/// The largest buffer of a read, in bytes.
 const LARGEST: u32 = 65536;
 
-/// Reading to the end into a text: any `CountedRead` can.
+/// Reading to the end into a text, for every `CountedRead`.
 pub trait ReadExt: CountedRead {
     ghost use Rattle.std.specs.Prelude.{OnOk};
     ghost use Rattle.std.specs.Io.KnownBytes.{IsAtEnd};
     ghost use Rattle.tendril_stream.specs.Readings.{Adds};
 
-    /// Puts all that is read behind the text, and answers how many bytes that is. At most so many reads are made,
-    /// interrupted ones among them. Whatever it answers, the text keeps what was read.
+    /// Reads to the end, appends the bytes to the text, and returns how many were read.
     ///
-    /// A failed read is Io, the end not reached within so many reads TooManyReads, no memory for room Memory. Of a text of
-    /// 4294967295 bytes, as it was or as reading made it, no read is made: TooLong.
+    /// Makes at most `max_reads` reads, interrupted ones included. Returns `TooLong` if the text has 4294967295 bytes when a read
+    /// is to be made, else `TooManyReads` after `max_reads` reads that didn't reach the end, `Memory` if an allocation fails, or
+    /// `Io` if a read fails. After an error the text keeps the bytes that were read.
     ///
-    /// The first read is offered 32 bytes, and whenever those are filled twice as many follow, up to 65536.
+    /// The first read has a buffer of 32 bytes. Whenever a buffer is full the next one is twice as large, up to 65536 bytes.
+    ///
+    /// ```
+    /// let mut text = ByteTendril::from_slice(alloc, b"ab")?;
+    /// assert_eq!(rt; Counted::new(b"cde".as_slice()).read_to_tendril(&mut text, 10)?, 3);
+    /// assert_eq!(rt; text.as_byte_slice(), b"abcde".as_slice());
+    /// ```
     fn read_to_tendril<A: Atomicity>(
         &mut self,
         text: &mut Tendril<Bytes, A>,
-        most: u64,
+        max_reads: u64,
     ) -> Result<usize, Refusal>
-        ensures adds { Adds Self.history Self.remaining most self.old self.new text.old text.new result }
+        ensures adds { Adds Self.history Self.remaining max_reads self.old self.new text.old text.new result }
         ensures end { OnOk result (IsAtEnd (Self.remaining self.new)) };
 }
 
@@ -42,13 +48,13 @@ impl<R: CountedRead> ReadExt for R {
     fn read_to_tendril<A: Atomicity>(
         &mut self,
         text: &mut Tendril<Bytes, A>,
-        most: u64,
+        max_reads: u64,
     ) -> Result<usize, Refusal>
-        ensures adds { Adds R.history R.remaining most self.old self.new text.old text.new result }
+        ensures adds { Adds R.history R.remaining max_reads self.old self.new text.old text.new result }
         ensures end { OnOk result (IsAtEnd (R.remaining self.new)) }
     {
         let start = text.len32();
-        let (filled, answer) = fill(self, text, most);
+        let (filled, answer) = fill(self, text, max_reads);
         let len = text.as_byte_slice().len() as u32;
         text.pop_back(len - filled);
         answer?;
@@ -56,16 +62,16 @@ impl<R: CountedRead> ReadExt for R {
     }
 }
 
-// Reads behind a text, and answers how many of its bytes are those that it had and those that were read. The others are
-// room that wasn't filled.
+// Reads to the end of the text, and returns how many of its bytes are its own and those that were read. The others are
+// zeros that no read has written over.
 fn fill<A: Atomicity, R: CountedRead>(
     reader: &mut R,
     text: &mut Tendril<Bytes, A>,
-    most: u64,
+    max_reads: u64,
 ) -> (u32, Result<(), Refusal>)
     ensures within { result.0 ≤ length text.new.bytes }
     ensures read { (these : List OneRead) × MakesReads R.history R.remaining reader.old these reader.new
-        × (take result.0 text.new.bytes ≡ text.old.bytes ++ given these) × Fills most these result.1 result.0 }
+        × (take result.0 text.new.bytes ≡ text.old.bytes ++ given these) × Fills max_reads these result.1 result.0 }
     ensures end { OnOk result.1 (IsAtEnd (R.remaining reader.new)) }
 {
     let mut filled = text.len32();
@@ -75,7 +81,7 @@ fn fill<A: Atomicity, R: CountedRead>(
         if filled == MAX_LEN {
             return (filled, Err(Refusal::TooLong));
         }
-        if made == most {
+        if made == max_reads {
             return (filled, Err(Refusal::TooManyReads));
         }
         if let Err(refusal) = make_room(text, filled, &mut offered) {
@@ -92,7 +98,7 @@ fn fill<A: Atomicity, R: CountedRead>(
     }
 }
 
-// Offers a text that is filled as many further bytes, and the next time twice as many.
+// If the text has no more zeros to read into, appends as many as `offered`, and doubles that for the next time.
 fn make_room<A: Atomicity>(
     text: &mut Tendril<Bytes, A>,
     filled: u32,

@@ -1,4 +1,4 @@
-//! A stream in any pieces.
+//! Decoding of streams that come as an iterator of pieces.
 ghost use Rattle.std.specs.Prelude.{◌≡◌, List, [], None, flat_map, IfOk, IfErr};
 ghost use Rattle.std.specs.Iterator.{IsFiniteIterable, YieldsThen};
 ghost use Rattle.tendril_text.specs.Texts.{Text};
@@ -16,7 +16,16 @@ use tendril_block::Refusal;
 use tendril_text::fmt::{Bytes, UTF8};
 use tendril_text::{Atomicity, Tendril};
 
-/// Decodes pieces to a list of texts and errors.
+/// Decodes pieces of bytes, and returns the list of texts and errors.
+///
+/// The list is the lossy decoding of the joined bytes, however they are cut. Returns `SinkRefused` if an allocation fails,
+/// or `Count` if a piece's block has as many references as it can have. Copies no text of more than 8 bytes.
+///
+/// ```
+/// let pieces = [ByteTendril::from_slice(alloc, b"a\xC3")?, ByteTendril::from_slice(alloc, b"\xA9")?];
+/// let events = decode_pieces(alloc, pieces)?; // "a" and "é"
+/// assert_eq!(rt; events.len(), 2);
+/// ```
 pub fn decode_pieces<A: Atomicity, I: IntoIterator<Item = Tendril<Bytes, A>>>(
     alloc: Global,
     pieces: I,
@@ -32,7 +41,15 @@ pub fn decode_pieces<A: Atomicity, I: IntoIterator<Item = Tendril<Bytes, A>>>(
     decode_pieces_into(alloc, Accumulate::new(alloc), pieces)
 }
 
-/// Decodes pieces into a sink, and ends the stream.
+/// Decodes pieces of bytes into a sink, ends the stream, and returns what the sink's `finish` returns.
+///
+/// Returns `SinkRefused` if the sink returns an error, or `Count` if a piece's block has as many references as it can have.
+///
+/// ```
+/// let pieces = [ByteTendril::from_slice(alloc, b"a\xFF")?];
+/// let events = decode_pieces_into(alloc, Accumulate::new(alloc), pieces)?; // "a", an error and U+FFFD
+/// assert_eq!(rt; events.len(), 3);
+/// ```
 pub fn decode_pieces_into<
     A: Atomicity,
     S: Tracks<Tendril<UTF8, A>>,

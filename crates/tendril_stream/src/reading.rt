@@ -22,24 +22,26 @@ use tendril_block::Refusal;
 use tendril_text::fmt::{Bytes, UTF8};
 use tendril_text::{Atomicity, ByteTendril, Tendril};
 
-/// How many bytes each read is offered.
+/// The buffer of each read, in bytes.
 const PIECE: u32 = 4096;
 
-/// Why reading into a sink stopped, and the sink, where its end wasn't asked for.
+/// Why reading into a sink stopped, with the sink if it wasn't asked to finish.
 #[derive(Drop)]
 pub struct Stopped<S> {
+    /// Why reading stopped.
     pub refusal: Refusal,
+    /// The sink, or `None` if its `finish` returned the error.
     pub sink: Option<S>,
 }
 
-/// Prints the refusal.
+/// Prints the name of the error.
 impl<S: Drop> fmt::Display for Stopped<S> {
     fn fmt<W: fmt::Write>(&self, f: &mut fmt::Formatter<W>) -> fmt::Result {
         write!(f, "{}", self.refusal)
     }
 }
 
-/// Prints the refusal, whatever the sink is.
+/// Prints the error, whatever the sink is.
 impl<S: Drop> fmt::Debug for Stopped<S> {
     fn fmt<W: fmt::Write>(&self, f: &mut fmt::Formatter<W>) -> fmt::Result {
         f.debug_tuple("Stopped").field(&self.refusal).finish()
@@ -48,7 +50,7 @@ impl<S: Drop> fmt::Debug for Stopped<S> {
 
 impl<S: Drop> Error for Stopped<S> {}
 
-/// Why reading stopped, so that `?` passes it up. The sink is dropped.
+/// Returns why reading stopped, so that `?` passes it up. The sink is dropped.
 impl<S: Drop> From<Stopped<S>> for Refusal {
     ghost from_gives = { λ stopped refusal. refusal ≡ stopped.refusal };
 
@@ -57,24 +59,31 @@ impl<S: Drop> From<Stopped<S>> for Refusal {
     }
 }
 
-/// Reads to the end, and gives the sink each part that is read, of at most 4096 bytes. At most so many reads are made,
-/// interrupted ones among them.
+// The number of reads is bounded since a reader may be interrupted without end, and every call has to return.
+/// Reads to the end, sends the bytes to the sink in pieces of at most 4096, and returns what the sink's `finish` returns.
 ///
-/// The sink isn't finished where reading stops before the end, and comes back. A failed read is Io, the end not reached
-/// within so many reads TooManyReads, no memory for a part Memory; what the sink refuses is answered as it says it.
+/// Makes at most `max_reads` reads, interrupted ones included. Returns `Io` if a read fails, `TooManyReads` if the end wasn't
+/// reached within `max_reads` reads, `Memory` if a piece can't be allocated, or the sink's own error. The sink is returned
+/// with the error, unless it comes from `finish`.
+///
+/// ```
+/// let decoder: Utf8LossyDecoder<Rope> = Utf8LossyDecoder::new(alloc, Rope::new(alloc));
+/// let rope = read_from(alloc, decoder, &mut Counted::new(b"abc".as_slice()), 10)?;
+/// assert_eq!(rt; rope.len64(), 3);
+/// ```
 pub fn read_from<A: Atomicity, S: TendrilSink<Tendril<Bytes, A>>, R: CountedRead>(
     alloc: Global,
     mut sink: S,
     reader: &mut R,
-    most: u64,
+    max_reads: u64,
 ) -> Result<S::Output, Stopped<S>>
     ensures ok { IfOk result (λ out. (these : List OneRead) × MakesReads R.history R.remaining reader.old these reader.new
-        × IsAtEnd (R.remaining reader.new) × ReadsAll S.takes S.finishes most sink these out) }
+        × IsAtEnd (R.remaining reader.new) × ReadsAll S.takes S.finishes max_reads sink these out) }
     ensures stopped { IfErr result (λ s. (these : List OneRead) × MakesReads R.history R.remaining reader.old these reader.new
-        × Halts S.takes S.refuses S.ends most sink these s.refusal s.sink) }
+        × Halts S.takes S.refuses S.ends max_reads sink these s.refusal s.sink) }
 {
     let mut made = 0;
-    while made < most {
+    while made < max_reads {
         made += 1;
         match read_once(alloc, &mut sink, reader) {
             Ok(true) => {
@@ -101,8 +110,17 @@ pub fn read_from<A: Atomicity, S: TendrilSink<Tendril<Bytes, A>>, R: CountedRead
     })
 }
 
-/// Reads once, and gives the sink what is read, which is at most 4096 bytes. It answers whether the end came, which the
-/// sink isn't told; of an interrupted read it hears nothing either.
+/// Reads once, sends the sink the bytes, at most 4096, and returns whether the reader is at its end.
+///
+/// At the end, or after an interrupted read, the sink is sent nothing. Returns `Io` if the read fails, `Memory` if the piece
+/// can't be allocated, or the sink's own error.
+///
+/// ```
+/// let mut decoder: Utf8LossyDecoder<Accumulate> = Utf8LossyDecoder::new(alloc, Accumulate::new(alloc));
+/// let mut reader = Counted::new(b"abc".as_slice());
+/// assert_eq!(rt; read_once(alloc, &mut decoder, &mut reader)?, false);
+/// assert_eq!(rt; read_once(alloc, &mut decoder, &mut reader)?, true);
+/// ```
 pub fn read_once<A: Atomicity, S: TendrilSink<Tendril<Bytes, A>>, R: CountedRead>(
     alloc: Global,
     sink: &mut S,
@@ -122,22 +140,29 @@ pub fn read_once<A: Atomicity, S: TendrilSink<Tendril<Bytes, A>>, R: CountedRead
     }
 }
 
-/// Reads a file to its end into a sink, as `read_from` does.
+/// Reads a file to its end, sends the bytes to the sink in pieces, and returns what the sink's `finish` returns.
 ///
-/// A file that can't be opened is refused as Io, as is a folder, of which no read succeeds.
+/// Makes at most `max_reads` reads. Returns `Io` if the file can't be opened, and else what `read_from` returns: a directory
+/// is `Io` too, since no read of it succeeds. The sink is returned with the error, unless it comes from `finish`.
+///
+/// ```
+/// let decoder: Utf8LossyDecoder<Rope> = Utf8LossyDecoder::new(alloc, Rope::new(alloc));
+/// let stopped = from_file(&rt, alloc, decoder, "no/such/file", 10).err();
+/// assert_eq!(rt; stopped.is_some_and(|stopped| stopped.refusal == Refusal::Io), true);
+/// ```
 pub fn from_file<A: Atomicity, S: TendrilSink<Tendril<Bytes, A>>, F: Files>(
     files: &F,
     alloc: Global,
     sink: S,
     path: &str,
-    most: u64,
+    max_reads: u64,
 ) -> Result<S::Output, Stopped<S>>
-    ensures ok { IfOk result (λ out. (these : List OneRead) × ReadsAll S.takes S.finishes most sink these out) }
+    ensures ok { IfOk result (λ out. (these : List OneRead) × ReadsAll S.takes S.finishes max_reads sink these out) }
     ensures stopped { IfErr result (λ s. ((s.refusal ≡ Refusal.Io) × (s.sink ≡ Some sink))
-        ⊎ ((these : List OneRead) × Halts S.takes S.refuses S.ends most sink these s.refusal s.sink)) }
+        ⊎ ((these : List OneRead) × Halts S.takes S.refuses S.ends max_reads sink these s.refusal s.sink)) }
 {
     match fs::open(files, path) {
-        Ok(file) => read_from(alloc, sink, &mut Counted::new(file), most),
+        Ok(file) => read_from(alloc, sink, &mut Counted::new(file), max_reads),
         Err(_) => Err(Stopped {
             refusal: Refusal::Io,
             sink: Some(sink),
@@ -145,51 +170,66 @@ pub fn from_file<A: Atomicity, S: TendrilSink<Tendril<Bytes, A>>, F: Files>(
     }
 }
 
-/// Reads to the end, and decodes what it reads to a list of texts and errors.
+/// Reads to the end, decodes the bytes, and returns the list of texts and errors.
 ///
-/// Where reading itself stops, the decoder comes back and stands at the bytes that were read. Where the decoder refuses a
-/// piece it comes back failed; where it refuses the end it is gone.
+/// Makes at most `max_reads` reads, and returns the errors of `read_from`. If reading itself stops, the decoder is returned
+/// with all that was read so far decoded, and reading may go on with it. If the decoder returns an error for a piece it is
+/// returned failed, and if it does for the end it is gone.
+///
+/// ```
+/// let events = decode_reader::<NonAtomic, _>(alloc, &mut Counted::new(b"a\xFF".as_slice()), 10)?;
+/// assert_eq!(rt; events.len(), 3); // "a", an error and U+FFFD
+/// ```
 pub fn decode_reader<A: Atomicity, R: CountedRead>(
     alloc: Global,
     reader: &mut R,
-    most: u64,
+    max_reads: u64,
 ) -> Result<Vec<Event<A>>, Stopped<Utf8LossyDecoder<Accumulate<A>, A>>>
     ensures ok { IfOk result (λ events. (these : List OneRead) × MakesReads R.history R.remaining reader.old these reader.new
         × IsAtEnd (R.remaining reader.new) × (told (sent events.items) ≡ due (given these))
-        × StopsWith CameToEnd these × (length these ≤ most)) }
+        × StopsWith CameToEnd these × (length these ≤ max_reads)) }
     ensures stopped { IfErr result (λ s. (these : List OneRead) × MakesReads R.history R.remaining reader.old these reader.new
-        × (IsOfReading s.refusal → StopsBetween most these s.refusal
+        × (IsOfReading s.refusal → StopsBetween max_reads these s.refusal
         × ((d : _) × (s.sink ≡ Some d) × (d.failed ≡ false)
         × StandsAt (λ a t. told (sent a.events.items) ≡ t) d.inner_sink d.kept (given these)))
         × (IsOfReading s.refusal ⊎ StreamStops ⟦<Accumulate<A> as TendrilSink<Tendril<UTF8, A>>>⟧.takes
         ⟦<Accumulate<A> as TendrilSink<Tendril<UTF8, A>>>⟧.refuses ⟦<Accumulate<A> as TendrilSink<Tendril<UTF8, A>>>⟧.ends
-        ⟦<Accumulate<A> as Tracks<Tendril<UTF8, A>>>⟧.after (λ d. d.inner_sink) (λ d. d.failed) most these s.refusal s.sink)) }
+        ⟦<Accumulate<A> as Tracks<Tendril<UTF8, A>>>⟧.after (λ d. d.inner_sink) (λ d. d.failed)
+        max_reads these s.refusal s.sink)) }
 {
     let decoder = Utf8LossyDecoder::new(alloc, Accumulate::new(alloc));
-    read_decoded(alloc, decoder, reader, most)
+    read_decoded(alloc, decoder, reader, max_reads)
 }
 
-/// Reads to the end through a decoder: `read_from`, for callers whose sink names a lifetime, as `Accumulate` does, and at
-/// which the borrow checker passes no decoder to `read_from` itself.
+/// Reads to the end through a decoder, as `read_from` does, and returns what its sink's `finish` returns.
+///
+/// For sinks whose type names a lifetime, as `Accumulate` does: the borrow checker passes no decoder of such a sink to
+/// `read_from` itself.
+///
+/// ```
+/// let decoder: Utf8LossyDecoder<Accumulate> = Utf8LossyDecoder::new(alloc, Accumulate::new(alloc));
+/// let events = read_decoded(alloc, decoder, &mut Counted::new(b"abc".as_slice()), 10)?;
+/// assert_eq!(rt; events.len(), 1);
+/// ```
 pub fn read_decoded<A: Atomicity, S: TendrilSink<Tendril<UTF8, A>>, R: CountedRead>(
     alloc: Global,
     decoder: Utf8LossyDecoder<S, A>,
     reader: &mut R,
-    most: u64,
+    max_reads: u64,
 ) -> Result<S::Output, Stopped<Utf8LossyDecoder<S, A>>>
     ensures ok { IfOk result (λ out. (these : List OneRead) × MakesReads R.history R.remaining reader.old these reader.new
         × IsAtEnd (R.remaining reader.new)
         × ReadsAll ⟦<Utf8LossyDecoder<S, A> as TendrilSink<Tendril<Bytes, A>>>⟧.takes
-        ⟦<Utf8LossyDecoder<S, A> as TendrilSink<Tendril<Bytes, A>>>⟧.finishes most decoder these out) }
+        ⟦<Utf8LossyDecoder<S, A> as TendrilSink<Tendril<Bytes, A>>>⟧.finishes max_reads decoder these out) }
     ensures stopped { IfErr result (λ s. (these : List OneRead) × MakesReads R.history R.remaining reader.old these reader.new
         × Halts ⟦<Utf8LossyDecoder<S, A> as TendrilSink<Tendril<Bytes, A>>>⟧.takes
         ⟦<Utf8LossyDecoder<S, A> as TendrilSink<Tendril<Bytes, A>>>⟧.refuses
-        ⟦<Utf8LossyDecoder<S, A> as TendrilSink<Tendril<Bytes, A>>>⟧.ends most decoder these s.refusal s.sink) }
+        ⟦<Utf8LossyDecoder<S, A> as TendrilSink<Tendril<Bytes, A>>>⟧.ends max_reads decoder these s.refusal s.sink) }
 {
-    read_from(alloc, decoder, reader, most)
+    read_from(alloc, decoder, reader, max_reads)
 }
 
-// What a read came to.
+// What a read returned.
 #[derive(Drop)]
 enum Part<A: Atomicity> {
     Bytes(Tendril<Bytes, A>),
@@ -197,7 +237,7 @@ enum Part<A: Atomicity> {
     End,
 }
 
-// Reads once.
+// Reads once into a new text.
 fn read_part<A: Atomicity, R: CountedRead>(
     alloc: Global,
     reader: &mut R,
@@ -221,7 +261,7 @@ fn read_part<A: Atomicity, R: CountedRead>(
     }
 }
 
-// Reads once into the bytes of a text from `start` on, if they aren't shared or there is memory to copy them.
+// Reads once into the bytes of a text from `start` on. They are copied first if they are shared.
 pub(crate) fn read_into<A: Atomicity, R: CountedRead>(
     reader: &mut R,
     text: &mut Tendril<Bytes, A>,

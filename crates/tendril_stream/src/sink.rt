@@ -1,4 +1,4 @@
-//! What takes a stream of texts.
+//! Sinks: consumers of a stream of texts.
 
 use std::borrow::CowStr;
 use tendril_block::Refusal;
@@ -16,7 +16,9 @@ impl<F: Format, A: Atomicity> StreamText for Tendril<F, A> {
     ghost text = { λ t. t };
 }
 
-/// What takes a stream of texts and errors.
+// Over the type of its texts, not over a format and an atomicity as in the Rust crate: over those two the toolchain
+// generates no proof. The four members are relations, not functions, so a sink may say less than it does.
+/// A consumer of a stream of texts and errors.
 pub trait TendrilSink<T: StreamText>: Drop {
     ghost use Rattle.std.specs.Prelude.{◌≡◌, ◌⊎◌, List, Option, Some, None, IfOk, IfErr, OnOk};
     ghost use Rattle.std.specs.Cow.{cow_str_bytes};
@@ -25,39 +27,46 @@ pub trait TendrilSink<T: StreamText>: Drop {
     ghost use Rattle.tendril_block.specs.declared.refusal.Refusal.{Refusal};
     ghost use Rattle.tendril_stream.specs.Sinks.{Sent, Piece, Fault, AcceptsAll, AcceptsUpTo, SendsAll, SendsSome};
 
-    /// What comes of the stream at its end.
+    /// What `finish` returns.
     type Output;
 
     // A sink that says nothing of its calls leaves these four out.
 
-    /// What a call does that is accepted.
+    /// What a call does that returns Ok.
     ghost takes: { Self → Sent → Self → Type 0 } = { λ a e b. Unit {0} };
 
-    /// What a call does that is refused.
+    /// What a call does that returns an error.
     ghost refuses: { Self → Sent → Refusal → Self → Type 0 } = { λ a e r b. Unit {0} };
 
-    /// What comes of an end that is accepted.
+    /// What `finish` returns when it returns Ok.
     ghost finishes: { Self → Self.Output → Type 0 } = { λ a out. Unit {0} };
 
-    /// What an end says that is refused.
+    /// The errors that `finish` may return.
     ghost ends: { Self → Refusal → Type 0 } = { λ a r. Unit {0} };
 
-    /// Takes a text.
+    /// Takes the next text of the stream, or returns an error of the sink's own.
     fn process(&mut self, text: T) -> Result<(), Refusal>
         ensures ok { OnOk result (takes self.old (Piece (T.text text)) self.new) }
         ensures err { IfErr result (λ r. refuses self.old (Piece (T.text text)) r self.new) };
 
-    /// Takes an error in the stream.
+    /// Takes the message of an error in the stream, or returns an error of the sink's own.
     fn error(&mut self, words: CowStr<'static>) -> Result<(), Refusal>
         ensures ok { OnOk result (takes self.old (Fault (cow_str_bytes words.entry)) self.new) }
         ensures err { IfErr result (λ r. refuses self.old (Fault (cow_str_bytes words.entry)) r self.new) };
 
-    /// Ends the stream.
+    /// Ends the stream and returns what the sink made of it, or an error of the sink's own.
     fn finish(self) -> Result<Self::Output, Refusal>
         ensures ok { IfOk result (λ out. finishes self out) }
         ensures err { IfErr result (λ r. ends self r) };
 
-    /// Takes one text, and ends the stream.
+    /// Takes one text, ends the stream, and returns what `finish` returns.
+    ///
+    /// Returns the error of `process` or of `finish`.
+    ///
+    /// ```
+    /// let rope = Rope::new(alloc).one(StrTendril::from_slice(alloc, "abc")?)?;
+    /// assert_eq!(rt; rope.len64(), 3);
+    /// ```
     fn one(mut self, text: T) -> Result<Self::Output, Refusal>
     where
         Self: Sized,
@@ -70,7 +79,15 @@ pub trait TendrilSink<T: StreamText>: Drop {
         self.finish()
     }
 
-    /// Takes each text that comes, up to the first that is refused, behind which no call is made.
+    /// Takes each text of an iterator, up to the first for which `process` returns an error.
+    ///
+    /// Returns that error, and makes no call after it.
+    ///
+    /// ```
+    /// let mut rope = Rope::new(alloc);
+    /// rope.send_all([StrTendril::from_slice(alloc, "ab")?, StrTendril::from_slice(alloc, "c")?])?;
+    /// assert_eq!(rt; rope.len64(), 3);
+    /// ```
     fn send_all<I: IntoIterator<Item = T>>(&mut self, texts: I) -> Result<(), Refusal>
     where
         Self: Sized,
@@ -86,7 +103,14 @@ pub trait TendrilSink<T: StreamText>: Drop {
         Ok(())
     }
 
-    /// Takes each text that comes, as `send_all` does, and ends the stream if none is refused.
+    /// Takes each text of an iterator, ends the stream, and returns what `finish` returns.
+    ///
+    /// Returns the first error of `process`, after which no call is made, or the error of `finish`.
+    ///
+    /// ```
+    /// let texts = [StrTendril::from_slice(alloc, "ab")?, StrTendril::from_slice(alloc, "c")?];
+    /// assert_eq!(rt; TendrilSink::from_iter(Rope::new(alloc), texts)?.len64(), 3);
+    /// ```
     fn from_iter<I: IntoIterator<Item = T>>(mut self, texts: I) -> Result<Self::Output, Refusal>
     where
         Self: Sized,

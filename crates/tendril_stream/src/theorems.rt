@@ -5,8 +5,10 @@ use crate::tracks::Tracks;
 use tendril_text::fmt::UTF8;
 use tendril_text::{Atomicity, Tendril};
 
-/// However a stream is cut: if the end answers Ok, the sink was told `due b`, b being all pieces joined, with one error
-/// before each replacement made, and `after` holds of it with that list.
+/// States the theorem on streams cut anywhere, for proofs: it does nothing at run time.
+///
+/// If the end returns Ok, the sink was sent the lossy decoding of all pieces joined (`due`), with one error before each U+FFFD
+/// that stands for broken bytes, and `after` holds of the sink and that list.
 pub fn laws<S: Tracks<Tendril<UTF8, A>>, A: Atomicity>()
     ensures { Composes S.takes S.finishes S.after }
 {}

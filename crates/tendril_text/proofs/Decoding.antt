@@ -19,7 +19,7 @@ use Rattle.tendril_lossy.specs.AfterText.{EndsWithin, items_after}
 use Rattle.tendril_lossy.specs.Lossy.{Item, Keep, Bad, Cut, Char, IsLossy, IsOpen, lossy, closed_of, characters, due_open, cut_bytes, kept}
 use Rattle.tendril_lossy.specs.declared.search.Ending.{Ending}
 use Rattle.tendril_lossy.specs.declared.search.Ending.TheVariants.{Whole, Broken, Open}
-use Rattle.tendril_text.specs.Decoding.{BothShare, LongPieceMay, DecodesPiece, IsHandedOn, IsRest, HandsOn, HandsOnUpTo, Hands, Leaves, PopsText, broken_len, bytes_of, listed}
+use Rattle.tendril_text.specs.Decoding.{BothShare, LongPieceMay, LongTextMay, DecodesPiece, IsHandedOn, IsRest, HandsOn, HandsOnUpTo, Hands, Leaves, PopsText, broken_len, bytes_of, listed}
 use Rattle.tendril_storage.specs.Partings.{IsFewTaken, IsParted}
 use Rattle.tendril_storage.specs.Texts.{Text, IsPart, Keeps}
 
@@ -160,6 +160,9 @@ pub long-behind : (a b : List ℕ) (n : ℕ) (r : Refusal) → b ≡ drop n a �
 long-behind a b n r is k =
     let at = k.1.0 in
     (k.0, (n + at, subst BothShare (ap (drop at) is ∙ drop-drop at n a) k.1.1))
+
+pub long-text : (a b : List ℕ) (n : ℕ) (r : Refusal) → b ≡ drop n a → LongTextMay b r → LongPieceMay a r
+long-text a b n r is k = (k.0, (n, subst BothShare is k.1))
 
 pub long-some : (b : List ℕ) (r : Refusal) → LongPieceMay b r → 17 < length b
 long-some b r k =

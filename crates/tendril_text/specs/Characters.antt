@@ -1,6 +1,7 @@
 -- Characters popped off a text, and what a classifier was asked and answered meanwhile.
 use Rattle.std.specs.Prelude.{ℕ, ◌≡◌, ◌≤◌, ◌<◌, ◌+◌, List, [], ◌∷◌, ◌++◌, length, take, drop, Bool, true, false}
 use Rattle.std.specs.List.{FoldsTo}
+use Rattle.tendril_block.specs.declared.atomicity.TheConstants.{INLINE_LEN}
 
 -- What a classifier was asked and answered. `step f c r f'` says that f, asked for the character c, may answer r and
 -- become f'; `eq` compares answers.
@@ -53,8 +54,8 @@ module _ {F R : Type 0} (step : F → ℕ → R → F → Type 0) (eq : R → R 
     pub end : ℕ
     pub after : F
     pub run : EndsRun valid chars classify class text end after
-    pub long : 8 < end
-    pub long_rest : 8 + end < length text
+    pub long : INLINE_LEN < end
+    pub long_rest : INLINE_LEN + end < length text
 
   -- a text is such a run and the rest, and the classifier is `last` then
   abbrev pub AsksRun : (List ℕ → Type 0) → (List ℕ → List ℕ) → F → R → List ℕ → List ℕ → List ℕ → F → Type 0

@@ -43,7 +43,11 @@ pub record BothShare (b : List ℕ) : Type 0 where
   pub text : 8 < length front
   pub rest : 8 + length front < length b
 
--- no state rules out that the count is full where a text and a rest both share an end of the bytes b
+-- no state rules out that the count is full where the first text and what is behind it both share the bytes b
+abbrev pub LongTextMay : List ℕ → Refusal → Type 0
+LongTextMay b r = (r ≡ Count) × BothShare b
+
+-- the same of an end of the bytes b
 abbrev pub LongPieceMay : List ℕ → Refusal → Type 0
 LongPieceMay b r = (r ≡ Count) × ((at : ℕ) × BothShare (drop at b))
 

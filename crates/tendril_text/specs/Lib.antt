@@ -12,3 +12,5 @@ pub mod Items
 pub mod Writes
 pub mod Search
 pub mod Iterators
+pub mod Pieces
+pub mod Splits

@@ -1,17 +1,17 @@
-//! Small sets of bytes, and the first of them in other bytes.
+//! Small sets of bytes, and searches for the first byte of a set.
 ghost use Rattle.std.specs.Prelude.{◌≡◌, ◌<◌, ◌≤◌, ◌↔◌, ℕ, true, false, length, IsAscii, Contains, slice_index, IfSome, IsFalse};
 ghost use Rattle.memchr.specs.Find.{IsFirstByte, Nowhere, Passes};
 ghost use Rattle.tendril_text.specs.Search.{has_byte, is_byte4, IsTable};
 
 use std::marker::Model;
 
-/// A set of bytes of ASCII.
+/// A set of ASCII bytes, to search for.
 ///
-/// Contracts see a table, which says of each byte whether it is one of them.
+/// Contracts see it as a table of 256 that says of each byte whether it is in the set.
 #[derive(Drop)]
 pub struct ByteSet {
     members: [bool; 256],
-    // The bytes where they are four or fewer.
+    // The bytes, where they are four or fewer.
     few: Option<(u8, u8, u8, u8)>,
 }
 
@@ -28,7 +28,15 @@ impl Model for ByteSet {
 }
 
 impl ByteSet {
-    /// The set of these bytes.
+    // Not a `const fn`: a constant can't call a function.
+    /// Returns the set of these bytes, which the caller proves to be ASCII.
+    ///
+    /// Fills a table of 256 bytes: create a set once, outside the loop.
+    ///
+    /// ```
+    /// let ends = ByteSet::new(b"<&");
+    /// assert_eq!(rt; ends.contains(b'<'), true);
+    /// ```
     pub fn new(bytes: &[u8]) -> Self
         requires ascii { IsAscii bytes.now }
         ensures { (b : ℕ) → (has_byte result b ≡ true) ↔ Contains bytes.now b }
@@ -38,14 +46,18 @@ impl ByteSet {
         ByteSet { members, few }
     }
 
-    /// Whether the byte is one of the set.
+    /// Whether the byte is in the set. One look into a table.
+    ///
+    /// ```
+    /// assert_eq!(rt; ByteSet::new(b"<&").contains(b'>'), false);
+    /// ```
     pub fn contains(&self, byte: u8) -> bool
         ensures { result ≡ has_byte self.now byte }
     {
         self.members[byte as usize]
     }
 
-    // The first place of a byte of the set.
+    // The index of the first byte that is in the set.
     pub(crate) fn find_in(&self, bytes: &[u8]) -> Option<usize>
         ensures first { IsFirstByte (has_byte self.now) bytes.now result }
         ensures table { IsTable self.now }
@@ -71,7 +83,7 @@ fn table_of(bytes: &[u8]) -> [bool; 256]
     members
 }
 
-// The bytes where they are four or fewer. A byte may stand twice among them.
+// The bytes, where they are four or fewer. One may be repeated.
 fn few_of(bytes: &[u8], members: &[bool; 256]) -> Option<(u8, u8, u8, u8)>
     requires { (b : ℕ) → (has_byte members.now b ≡ true) ↔ Contains bytes.now b }
     ensures { IfSome result (λ t. (b : ℕ) → has_byte members.now b ≡ true → is_byte4 t.0 t.1 t.2 t.3 b ≡ true) }
@@ -85,7 +97,7 @@ fn few_of(bytes: &[u8], members: &[bool; 256]) -> Option<(u8, u8, u8, u8)>
     }
 }
 
-// A place before which no byte is in the table, past many of the others: sixteen at a time, by vectors.
+// An index before which no byte is in the table: it skips as many of the others as it can, sixteen at a time, by vectors.
 fn skip_others(a: u8, b: u8, c: u8, d: u8, members: &[bool; 256], bytes: &[u8]) -> usize
     requires { (x : ℕ) → has_byte members.now x ≡ true → is_byte4 a b c d x ≡ true }
     ensures within { result ≤ length bytes.now }
@@ -98,14 +110,14 @@ fn skip_others(a: u8, b: u8, c: u8, d: u8, members: &[bool; 256], bytes: &[u8]) 
         }
         at += 16;
     }
-    // Half of those among which one stands.
+    // Eight more, if none of them is in the table.
     if 8 <= bytes.len() - at && !has_any(a, b, c, d, &bytes[at..at + 8]) {
         at += 8;
     }
     at
 }
 
-// Whether one of four bytes stands among these.
+// Whether one of the four is among these bytes.
 #[inline(always)]
 fn has_any(a: u8, b: u8, c: u8, d: u8, bytes: &[u8]) -> bool
     ensures { IsFalse result → (k : ℕ) → k < length bytes.now → is_byte4 a b c d (slice_index bytes.now k) ≡ false }
@@ -117,7 +129,7 @@ fn has_any(a: u8, b: u8, c: u8, d: u8, bytes: &[u8]) -> bool
     any
 }
 
-// The first place of a byte that the table has, where none is before the start.
+// The index of the first byte that is in the table, where none is before `start`.
 fn find_member(members: &[bool; 256], bytes: &[u8], start: usize) -> Option<usize>
     requires within { start ≤ length bytes.now }
     requires passed { Nowhere (Passes (has_byte members.now) bytes.now) 0 start }

@@ -1,4 +1,4 @@
-//! Characters of texts, and runs of them.
+//! Characters at the start and the end of texts, and runs of characters.
 ghost use Rattle.std.specs.Prelude.{◌≡◌, ◌<◌, ◌≤◌, ◌+◌, ◌-◌, ◌++◌, ◌∷◌, [], ℕ, List, length, drop, encode_utf8, IfSome, IfNone, IfOk, IfErr, OnErr, OnSome, IsOk, MatchOption};
 ghost use Rattle.tendril_text.specs.Characters.{AsksLongRun, AsksRun, EndsRun, HasLongParts, IsRun};
 ghost use Rattle.tendril_text.specs.Pushes.{Joins, JoinsChar};
@@ -7,11 +7,16 @@ ghost use Rattle.tendril_fmt.specs.Chars.{IsFirstChar};
 
 use crate::tendril::Tendril;
 use std::alloc::Global;
-use tendril_block::{Atomicity, MAX_LEN, Refusal};
+use tendril_block::{Atomicity, INLINE_LEN, MAX_LEN, Refusal};
 use tendril_fmt::fmt::{CharFormat, UTF8};
 
 impl<F: CharFormat, A: Atomicity> Tendril<F, A> {
-    /// The first character of the text, or `None` where it is empty.
+    /// Returns the first character, or `None` if the text is empty. Changes nothing.
+    ///
+    /// ```
+    /// let text = StrTendril::from_slice(alloc, "éa")?;
+    /// assert_eq!(rt; text.peek_front_char(), Some('é'));
+    /// ```
     pub fn peek_front_char(&self) -> Option<char>
         ensures character { IfSome result (λ c. (rest : List ℕ) × (F.chars self.now.bytes ≡ c ∷ rest)) }
         ensures none { IfNone result (self.now.bytes ≡ []) }
@@ -20,7 +25,14 @@ impl<F: CharFormat, A: Atomicity> Tendril<F, A> {
         Some(character)
     }
 
-    /// Takes the first character out of the text, or answers `None` where it is empty. Takes no memory.
+    /// Removes the first character and returns it, or returns `None` if the text is empty. Takes constant time and allocates
+    /// nothing.
+    ///
+    /// ```
+    /// let mut text = StrTendril::from_slice(alloc, "éa")?;
+    /// assert_eq!(rt; text.pop_front_char(), Some('é'));
+    /// assert_eq!(rt; text.as_str(), "a");
+    /// ```
     pub fn pop_front_char(&mut self) -> Option<char>
         ensures character { IfSome result (λ c. F.chars self.old.bytes ≡ c ∷ F.chars self.new.bytes) }
         ensures bytes { IfSome result (λ c. self.old.bytes ≡ F.encoding c ++ self.new.bytes) }
@@ -33,11 +45,19 @@ impl<F: CharFormat, A: Atomicity> Tendril<F, A> {
         Some(character)
     }
 
-    /// Takes the longest run of characters of one class out of the front of the text, with that class, or answers `None`
-    /// where the text is empty.
+    /// Removes the longest prefix whose characters are of one class and returns it with that class, or returns `None` if the text
+    /// is empty.
     ///
-    /// `classify` is asked for each character of the run in turn, and for the one after it. A long run shares its bytes
-    /// with a long rest; where either has at most 8 bytes no holder is added, and the call isn't refused.
+    /// `classify` is called once for each character of the run, in order, and once for the character after it. Returns `Count` if
+    /// the run and the remainder both have more than 8 bytes and the block as many references as it can have; then nothing has
+    /// changed. Allocates nothing: parts of more than 8 bytes keep sharing the block.
+    ///
+    /// ```
+    /// let mut text = StrTendril::from_slice(alloc, "42 apples")?;
+    /// let run = text.pop_front_char_run(|c| c.is_ascii_digit())?;
+    /// assert_eq!(rt; run.is_some_and(|(run, is_number)| is_number && run.eq_str("42")), true);
+    /// assert_eq!(rt; text.as_str(), " apples");
+    /// ```
     pub fn pop_front_char_run<C: FnMut(char) -> R, R: PartialEq + Drop>(
         &mut self,
         mut classify: C,
@@ -56,8 +76,18 @@ impl<F: CharFormat, A: Atomicity> Tendril<F, A> {
         self.pop_front_char_run_with(&mut classify)
     }
 
-    /// Takes a run out of the front of the text as `pop_front_char_run` does, with a classifier that is lent, so that a
-    /// caller knows what became of it.
+    /// Removes a run of characters as `pop_front_char_run` does, by a borrowed classifier: contracts see what became of it.
+    ///
+    /// Returns `Count` if the run and the remainder both have more than 8 bytes and the block as many references as it can have;
+    /// then the text hasn't changed.
+    ///
+    /// ```
+    /// let mut text = StrTendril::from_slice(alloc, "42 apples")?;
+    /// let mut calls = 0;
+    /// let mut classify = |c: char| { calls += 1; c.is_ascii_digit() };
+    /// text.pop_front_char_run_with(&mut classify)?;
+    /// assert_eq!(rt; calls, 3);
+    /// ```
     pub fn pop_front_char_run_with<C: FnMut(char) -> R, R: PartialEq + Drop>(
         &mut self,
         classify: &mut C,
@@ -82,7 +112,17 @@ impl<F: CharFormat, A: Atomicity> Tendril<F, A> {
         Ok(Some((run, class)))
     }
 
-    /// Puts a character at the end, where the format has it.
+    /// Appends a character, if the format can represent it.
+    ///
+    /// Returns `NotInFormat` if it can't, else `TooLong` if the text would have more than 4294967295 bytes, else `Memory` if an
+    /// allocation fails; then nothing has changed. Costs what a push of its one to four bytes costs.
+    ///
+    /// ```
+    /// let mut text = Tendril::<Latin1>::new(alloc);
+    /// text.try_push_char('é')?;
+    /// assert_eq!(rt; text.as_byte_slice(), b"\xE9".as_slice());
+    /// assert_eq!(rt; text.try_push_char('€').err(), Some(Refusal::NotInFormat));
+    /// ```
     pub fn try_push_char(&mut self, character: char) -> Result<(), Refusal>
         ensures { JoinsChar F.encodes F.encoding F.join character self.old result self.new }
     {
@@ -94,18 +134,31 @@ impl<F: CharFormat, A: Atomicity> Tendril<F, A> {
 }
 
 impl<A: Atomicity> Tendril<UTF8, A> {
-    /// A text of one character. It stands inline, so this is never refused.
+    /// Returns a text of one character. Always returns Ok, and allocates nothing.
+    ///
+    /// ```
+    /// assert_eq!(rt; StrTendril::from_char(alloc, 'é')?.as_str(), "é");
+    /// ```
     pub fn from_char(alloc: Global, character: char) -> Result<Self, Refusal>
         ensures ok { IsOk result }
         ensures bytes { IfOk result (λ t. t.bytes ≡ encode_utf8 character) }
-        ensures copied { IfOk result (λ t. t.copied ≤ 8) }
+        ensures copied { IfOk result (λ t. t.copied ≤ INLINE_LEN) }
     {
         let mut text: Self = Tendril::new(alloc);
         text.push_char(character)?;
         Ok(text)
     }
 
-    /// Puts a character at the end.
+    /// Appends a character.
+    ///
+    /// Returns `TooLong` if the text would have more than 4294967295 bytes, else `Memory` if an allocation fails; then nothing
+    /// has changed. Costs what a push of its one to four bytes costs.
+    ///
+    /// ```
+    /// let mut text = StrTendril::from_slice(alloc, "caf")?;
+    /// text.push_char('é')?;
+    /// assert_eq!(rt; text.as_str(), "café");
+    /// ```
     pub fn push_char(&mut self, character: char) -> Result<(), Refusal>
         ensures { Joins ◌++◌ (encode_utf8 character) self.old result self.new }
     {
@@ -113,7 +166,8 @@ impl<A: Atomicity> Tendril<UTF8, A> {
     }
 }
 
-// Where the first run of characters of one class ends, and the class.
+// Where the first run of characters of one class ends, and the class. It borrows the classifier, so that the contract says
+// what it is afterwards: it was called once for each character of the run and the one after it, and for no other.
 fn run_end<F: CharFormat, C: FnMut(char) -> R, R: PartialEq + Drop>(
     bytes: &[u8],
     classify: &mut C,
@@ -136,7 +190,7 @@ fn run_end<F: CharFormat, C: FnMut(char) -> R, R: PartialEq + Drop>(
     Some((end, class))
 }
 
-// The character at a place between two characters.
+// The character at an offset that is between two characters.
 fn char_at<F: CharFormat>(bytes: &[u8], at: usize) -> Option<(char, usize)>
     requires within { at ≤ length bytes.now }
     requires valid { F.valid (drop at bytes.now) }

@@ -1,17 +1,19 @@
-//! Why a part of a text isn't handed out.
+//! The errors of slices, pops and splits.
 
 use std::error::Error;
 use std::fmt;
 use tendril_block::Refusal;
 
-/// Why a slice or a pop was refused. Where several apply, the first is answered.
+/// Why a slice, a pop or a split returned an error. Where several reasons apply, it is the first of these.
+///
+/// `?` turns it into a `Refusal`, and Display prints its name.
 #[derive(Clone, Copy, Debug, PartialEq, Eq, Hash)]
 pub enum SubtendrilError {
-    /// The offset or the length is past the text.
+    /// The offset or the length is past the text's end.
     OutOfBounds,
-    /// What would be cut out, or left, isn't valid in the format.
+    /// The slice, or what a pop or a split leaves, isn't valid in the format.
     ValidationFailed,
-    /// The block has as many holders as it can have.
+    /// The block has as many references as it can have.
     Count,
 }
 

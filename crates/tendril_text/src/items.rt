@@ -1,4 +1,4 @@
-//! Texts of items, one after another: characters, strings, bytes, slices and other texts.
+//! Appending items and collecting them: characters, strings, bytes, slices and other texts.
 #![tactic(auto, using(crate::proofs::Taken::appends))]
 
 ghost use Rattle.std.specs.Prelude.{◌++◌, encode_utf8, map};
@@ -16,9 +16,17 @@ use tendril_block::{Atomicity, Refusal};
 use tendril_fmt::fmt::{Bytes, Format, UTF8};
 
 impl<F: Format, A: Atomicity> Tendril<F, A> {
-    /// Puts texts at the end by the format's join, up to the first that is refused. Those before it stay.
+    /// Appends texts by the format's join, up to the first that returns an error. The texts before it stay appended.
     ///
-    /// It costs what pushes of the texts one by one cost, and asks for no hint of how many come; so do its kin.
+    /// Returns `TooLong` if the text would have more than 4294967295 bytes with a text, or `Memory` if an allocation fails. Costs
+    /// what `push_tendril` of each text costs; like all `extend_` and `from_` calls it doesn't ask how many come.
+    ///
+    /// ```
+    /// let parts = [StrTendril::from_slice(alloc, "a")?, StrTendril::from_slice(alloc, "b")?];
+    /// let mut text = StrTendril::new(alloc);
+    /// text.extend_tendrils(parts.iter())?;
+    /// assert_eq!(rt; text.as_str(), "ab");
+    /// ```
     pub fn extend_tendrils<'a, I: IntoIterator<Item = &'a Tendril<F, A>>>(
         &mut self,
         texts: I,
@@ -33,7 +41,14 @@ impl<F: Format, A: Atomicity> Tendril<F, A> {
         self.extend_with(texts)
     }
 
-    /// A text of texts, joined in their order. It is refused where one of them is.
+    /// Returns a text of other texts, joined in order.
+    ///
+    /// Returns `TooLong` if it would have more than 4294967295 bytes, or `Memory` if an allocation fails.
+    ///
+    /// ```
+    /// let parts = [StrTendril::from_slice(alloc, "a")?, StrTendril::from_slice(alloc, "b")?];
+    /// assert_eq!(rt; StrTendril::from_tendrils(alloc, parts.iter())?.as_str(), "ab");
+    /// ```
     pub fn from_tendrils<'a, I: IntoIterator<Item = &'a Tendril<F, A>>>(
         alloc: Global,
         texts: I,
@@ -58,8 +73,8 @@ impl<F: Format, A: Atomicity> Tendril<F, A> {
         self.take_items(&mut items.into_iter())
     }
 
-    // The loop of all `extend_` functions. It is lent the iterator, so that its clause can say what that is when the
-    // loop ends: it was asked for no item after the one that is refused.
+    // The loop of all `extend_` functions. It borrows the iterator, so that its clause can say what that is when the loop ends:
+    // it was asked for no item after the one whose push failed.
     fn take_items<I: Iterator>(&mut self, source: &mut I) -> Result<(), Refusal>
     where
         I::Item: Pushable<F, A>,
@@ -87,7 +102,15 @@ impl<F: Format, A: Atomicity> Tendril<F, A> {
 }
 
 impl<A: Atomicity> Tendril<UTF8, A> {
-    /// Puts characters at the end, up to the first that is refused. Those before it stay.
+    /// Appends characters, up to the first whose push returns an error. The characters before it stay appended.
+    ///
+    /// Returns `TooLong` if the text would have more than 4294967295 bytes with a character, or `Memory` if an allocation fails.
+    ///
+    /// ```
+    /// let mut text = StrTendril::from_slice(alloc, "a")?;
+    /// text.extend_chars(['b', 'é'])?;
+    /// assert_eq!(rt; text.as_str(), "abé");
+    /// ```
     pub fn extend_chars<I: IntoIterator<Item = char>>(
         &mut self,
         characters: I,
@@ -99,7 +122,13 @@ impl<A: Atomicity> Tendril<UTF8, A> {
         self.extend_with(characters)
     }
 
-    /// A text of characters. It is refused where one of them is.
+    /// Returns a text of the characters.
+    ///
+    /// Returns `TooLong` if it would have more than 4294967295 bytes, or `Memory` if an allocation fails.
+    ///
+    /// ```
+    /// assert_eq!(rt; StrTendril::from_chars(alloc, "abc".chars())?.as_str(), "abc");
+    /// ```
     pub fn from_chars<I: IntoIterator<Item = char>>(
         alloc: Global,
         characters: I,
@@ -110,7 +139,15 @@ impl<A: Atomicity> Tendril<UTF8, A> {
         Self::from_items(alloc, characters)
     }
 
-    /// Puts strings at the end, up to the first that is refused. Those before it stay.
+    /// Appends strings, up to the first whose push returns an error. The strings before it stay appended.
+    ///
+    /// Returns `TooLong` if the text would have more than 4294967295 bytes with a string, or `Memory` if an allocation fails.
+    ///
+    /// ```
+    /// let mut text = StrTendril::from_slice(alloc, "a")?;
+    /// text.extend_strs(["b", "cd"])?;
+    /// assert_eq!(rt; text.as_str(), "abcd");
+    /// ```
     pub fn extend_strs<'a, I: IntoIterator<Item = &'a str>>(
         &mut self,
         strings: I,
@@ -122,7 +159,13 @@ impl<A: Atomicity> Tendril<UTF8, A> {
         self.extend_with(strings)
     }
 
-    /// A text of strings. It is refused where one of them is.
+    /// Returns a text of the strings, one after another.
+    ///
+    /// Returns `TooLong` if it would have more than 4294967295 bytes, or `Memory` if an allocation fails.
+    ///
+    /// ```
+    /// assert_eq!(rt; StrTendril::from_strs(alloc, ["ab", "cd"])?.as_str(), "abcd");
+    /// ```
     pub fn from_strs<'a, I: IntoIterator<Item = &'a str>>(
         alloc: Global,
         strings: I,
@@ -135,7 +178,16 @@ impl<A: Atomicity> Tendril<UTF8, A> {
 }
 
 impl<A: Atomicity> Tendril<Bytes, A> {
-    /// Puts bytes at the end, up to the first that is refused. Those before it stay. n bytes take O(n) time.
+    /// Appends bytes from an iterator, up to the first whose push returns an error. The bytes before it stay appended.
+    ///
+    /// Returns `TooLong` if the text would have more than 4294967295 bytes with a byte, or `Memory` if an allocation fails. n
+    /// bytes take O(n) time.
+    ///
+    /// ```
+    /// let mut text = ByteTendril::from_slice(alloc, b"a")?;
+    /// text.extend_bytes(b'b'..b'e')?;
+    /// assert_eq!(rt; text.as_byte_slice(), b"abcd".as_slice());
+    /// ```
     pub fn extend_bytes<I: IntoIterator<Item = u8>>(&mut self, bytes: I) -> Result<(), Refusal>
         requires { IsFiniteIterable I.into_iter_gives I.IntoIter.can_next I.IntoIter.remaining bytes }
         ensures { Extends I.into_iter_gives I.IntoIter.next_gives one_byte ◌++◌ bytes self.old self.new result }
@@ -143,7 +195,13 @@ impl<A: Atomicity> Tendril<Bytes, A> {
         self.extend_with(bytes)
     }
 
-    /// A text of bytes. It is refused where one of them is. n bytes take O(n) time.
+    /// Returns a text of the bytes from an iterator.
+    ///
+    /// Returns `TooLong` if it would have more than 4294967295 bytes, or `Memory` if an allocation fails. n bytes take O(n) time.
+    ///
+    /// ```
+    /// assert_eq!(rt; ByteTendril::from_bytes(alloc, b'a'..b'd')?.as_byte_slice(), b"abc".as_slice());
+    /// ```
     pub fn from_bytes<I: IntoIterator<Item = u8>>(alloc: Global, bytes: I) -> Result<Self, Refusal>
         requires { IsFiniteIterable I.into_iter_gives I.IntoIter.can_next I.IntoIter.remaining bytes }
         ensures { Makes I.into_iter_gives I.IntoIter.next_gives one_byte ◌++◌ bytes result }
@@ -151,7 +209,16 @@ impl<A: Atomicity> Tendril<Bytes, A> {
         Self::from_items(alloc, bytes)
     }
 
-    /// Puts bytes that are lent at the end, as `extend_bytes` does.
+    /// Appends borrowed bytes, up to the first whose push returns an error. The bytes before it stay appended.
+    ///
+    /// Returns `TooLong` if the text would have more than 4294967295 bytes with a byte, or `Memory` if an allocation fails. n
+    /// bytes take O(n) time.
+    ///
+    /// ```
+    /// let mut text = ByteTendril::from_slice(alloc, b"a")?;
+    /// text.extend_byte_refs(b"bc".iter())?;
+    /// assert_eq!(rt; text.as_byte_slice(), b"abc".as_slice());
+    /// ```
     pub fn extend_byte_refs<'a, I: IntoIterator<Item = &'a u8>>(
         &mut self,
         byte_refs: I,
@@ -163,7 +230,13 @@ impl<A: Atomicity> Tendril<Bytes, A> {
         self.extend_with(byte_refs)
     }
 
-    /// A text of bytes that are lent, as `from_bytes` makes one.
+    /// Returns a text of borrowed bytes.
+    ///
+    /// Returns `TooLong` if it would have more than 4294967295 bytes, or `Memory` if an allocation fails. n bytes take O(n) time.
+    ///
+    /// ```
+    /// assert_eq!(rt; ByteTendril::from_byte_refs(alloc, b"abc".iter())?.as_byte_slice(), b"abc".as_slice());
+    /// ```
     pub fn from_byte_refs<'a, I: IntoIterator<Item = &'a u8>>(
         alloc: Global,
         byte_refs: I,
@@ -175,7 +248,15 @@ impl<A: Atomicity> Tendril<Bytes, A> {
         Self::from_items(alloc, byte_refs)
     }
 
-    /// Puts slices at the end, up to the first that is refused. Those before it stay.
+    /// Appends slices of bytes, up to the first whose push returns an error. The slices before it stay appended.
+    ///
+    /// Returns `TooLong` if the text would have more than 4294967295 bytes with a slice, or `Memory` if an allocation fails.
+    ///
+    /// ```
+    /// let mut text = ByteTendril::from_slice(alloc, b"a")?;
+    /// text.extend_slices([b"bc".as_slice(), b"d".as_slice()])?;
+    /// assert_eq!(rt; text.as_byte_slice(), b"abcd".as_slice());
+    /// ```
     pub fn extend_slices<'a, I: IntoIterator<Item = &'a [u8]>>(
         &mut self,
         slices: I,
@@ -187,7 +268,14 @@ impl<A: Atomicity> Tendril<Bytes, A> {
         self.extend_with(slices)
     }
 
-    /// A text of slices. It is refused where one of them is.
+    /// Returns a text of the slices of bytes, one after another.
+    ///
+    /// Returns `TooLong` if it would have more than 4294967295 bytes, or `Memory` if an allocation fails.
+    ///
+    /// ```
+    /// let text = ByteTendril::from_slices(alloc, [b"ab".as_slice(), b"c".as_slice()])?;
+    /// assert_eq!(rt; text.as_byte_slice(), b"abc".as_slice());
+    /// ```
     pub fn from_slices<'a, I: IntoIterator<Item = &'a [u8]>>(
         alloc: Global,
         slices: I,

@@ -1,4 +1,4 @@
-//! Compact shared text: up to 8 bytes stand inline, longer text is shared with its clones and slices and copied only
+//! Compact shared text: up to 8 bytes are stored inline, longer text is shared with its clones and slices and copied only
 //! when one of them is changed.
 #![tactic(auto)]
 
@@ -14,12 +14,12 @@ mod view;
 
 pub use crate::byte_set::ByteSet;
 pub use crate::error::SubtendrilError;
-pub use crate::iter::{IntoCharRuns, IntoChars, SplitAtAny};
+pub use crate::iter::{IntoCharRuns, IntoChars, IntoLines, IntoSplit, SplitAtAny};
 pub use crate::search::SetResult;
 pub use crate::tendril::{
     ByteTendril, SendTendril, StrTendril, Tendril, slice_to_tendril, str_to_tendril,
 };
-pub use crate::utf8_decode::{FEW_BEFORE, Handed, IncompleteUtf8, MANY_BEFORE};
+pub use crate::utf8_decode::{ClosureText, IncompleteUtf8, LastText};
 pub use crate::view::View;
 pub use tendril_block as block;
 pub use tendril_block::{Atomic, Atomicity, NonAtomic};

@@ -1,4 +1,4 @@
-//! The first of some bytes in a text, what stands before it, and beginnings.
+//! Searches for bytes in a text, the prefix before the byte that is found, and given prefixes.
 ghost use Rattle.std.specs.Prelude.{◌≡◌, ◌<◌, ◌≤◌, ◌↔◌, ◌++◌, [], List, length, take, drop, IsUtf8, IfSome, IfNone, IfOk, OnErr, OnSome, IsTrue, IsFalse, IfErr};
 ghost use Rattle.memchr.specs.Find.{IsFirstByte, is_byte};
 ghost use Rattle.tendril_fmt.specs.Parts.{IsFrontOf};
@@ -13,7 +13,14 @@ use tendril_block::{Atomicity, NonAtomic, Refusal};
 use tendril_fmt::fmt::{CharFormat, CutsAtAscii, Format, UTF8};
 
 impl<F: Format, A: Atomicity> Tendril<F, A> {
-    /// The first place of a byte of the set. Looks at 16 bytes at a time for a set of up to four.
+    /// Returns the offset of the first byte that is in the set, or `None` if there is none.
+    ///
+    /// One pass to that byte, by 16 bytes at a time for a set of up to four. Allocates nothing.
+    ///
+    /// ```
+    /// let text = StrTendril::from_slice(alloc, "a < b & c")?;
+    /// assert_eq!(rt; text.find_any(&ByteSet::new(b"&<")), Some(2));
+    /// ```
     pub fn find_any(&self, set: &ByteSet) -> Option<u32>
         ensures { IsFirstByte (has_byte set.now) self.now.bytes result }
     {
@@ -21,7 +28,12 @@ impl<F: Format, A: Atomicity> Tendril<F, A> {
         Some(place as u32)
     }
 
-    /// The first place of the byte.
+    /// Returns the offset of the first byte that equals `byte`, or `None` if there is none. One pass to it, by `memchr`.
+    ///
+    /// ```
+    /// let text = StrTendril::from_slice(alloc, "key=value")?;
+    /// assert_eq!(rt; text.find_byte(b'='), Some(3));
+    /// ```
     pub fn find_byte(&self, byte: u8) -> Option<u32>
         ensures { IsFirstByte (is_byte byte) self.now.bytes result }
     {
@@ -30,12 +42,12 @@ impl<F: Format, A: Atomicity> Tendril<F, A> {
     }
 }
 
-/// What is taken off a text that is searched for characters of a set.
+/// What `pop_except_from` removed from the start of a text.
 #[derive(Drop)]
 pub enum SetResult<F: Format, A: Atomicity = NonAtomic> {
-    /// A character of the set.
+    /// A character of the set, which the text began with.
     FromSet(char),
-    /// What stands before the first character of the set, and isn't empty.
+    /// The characters before the first one of the set: at least one.
     NotFromSet(Tendril<F, A>),
 }
 
@@ -52,10 +64,18 @@ where
 }
 
 impl<F: CutsAtAscii, A: Atomicity> Tendril<F, A> {
-    /// Takes the bytes before the first one of the set, or all where there is none, out of the text. Answers `None`
-    /// where the text is empty or begins with a byte of the set.
+    /// Removes the bytes before the first one that is in the set, or all bytes if none is, and returns them; returns `None` if
+    /// the text is empty or begins with a byte of the set.
     ///
-    /// Two long parts share the text's bytes; where either has at most 8 no holder is added, and the call isn't refused.
+    /// Returns `Count` if both parts have more than 8 bytes and the block as many references as it can have; then nothing has
+    /// changed. One pass as of `find_any`. Allocates nothing: parts of more than 8 bytes keep sharing the block.
+    ///
+    /// ```
+    /// let mut text = StrTendril::from_slice(alloc, "one, two")?;
+    /// let word = text.pop_front_until(&ByteSet::new(b","))?;
+    /// assert_eq!(rt; word.is_some_and(|word| word.eq_str("one")), true);
+    /// assert_eq!(rt; text.as_str(), ", two");
+    /// ```
     pub fn pop_front_until(&mut self, set: &ByteSet) -> Result<Option<Self>, Refusal>
         ensures front { IfOk result (λ found. IfSome found (λ front.
             PartsBefore (has_byte set.now) self.old front self.new)) }
@@ -76,8 +96,18 @@ impl<F: CutsAtAscii, A: Atomicity> Tendril<F, A> {
 }
 
 impl<F: CharFormat + CutsAtAscii, A: Atomicity> Tendril<F, A> {
-    /// Takes what stands before the first character of the set out of the text, or that character where it stands first,
-    /// or answers `None` where the text is empty. It costs and shares as `pop_front_until` and `pop_front_char` do.
+    /// Removes what is before the first character of the set, or that character if the text begins with it, and returns it;
+    /// returns `None` if the text is empty.
+    ///
+    /// Returns `Count` where `pop_front_until` does; then nothing has changed. Costs what `pop_front_until` and `pop_front_char`
+    /// cost.
+    ///
+    /// ```
+    /// let mut text = StrTendril::from_slice(alloc, "<p>")?;
+    /// let set = ByteSet::new(b"<>");
+    /// assert_eq!(rt; matches!(text.pop_except_from(&set)?, Some(SetResult::FromSet('<'))), true);
+    /// assert_eq!(rt; matches!(text.pop_except_from(&set)?, Some(SetResult::NotFromSet(_))), true);
+    /// ```
     pub fn pop_except_from(&mut self, set: &ByteSet) -> Result<Option<SetResult<F, A>>, Refusal>
         ensures part { IfOk result (λ found. IfSome found (λ part.
             TakesPart F.chars F.encoding (has_byte set.now) self.old part self.new)) }
@@ -99,17 +129,29 @@ impl<F: CharFormat + CutsAtAscii, A: Atomicity> Tendril<F, A> {
 }
 
 impl<A: Atomicity> Tendril<UTF8, A> {
-    /// Whether the text begins with the prefix. `str::starts_with` takes a character or a closure too:
-    /// `text.as_str().starts_with('<')`.
+    /// Whether the text begins with the prefix. One pass over the prefix.
+    ///
+    /// `str::starts_with` takes a character or a closure too: `text.as_str().starts_with('<')`.
+    ///
+    /// ```
+    /// let text = StrTendril::from_slice(alloc, "<!DOCTYPE html>")?;
+    /// assert_eq!(rt; text.starts_with("<!"), true);
+    /// ```
     pub fn starts_with(&self, prefix: &str) -> bool
         ensures { IsTrue result ↔ IsFrontOf prefix.now self.now.bytes }
     {
         begins_with(self.as_byte_slice(), prefix)
     }
 
-    /// Drops the prefix from the front of the text, and returns whether the text began with it. Never allocates.
+    /// Removes the prefix if the text begins with it, and returns whether it did. Allocates nothing.
     ///
     /// `str::strip_prefix` changes nothing: it returns what follows the prefix.
+    ///
+    /// ```
+    /// let mut text = StrTendril::from_slice(alloc, "https://example")?;
+    /// assert_eq!(rt; text.skip_prefix("https://"), true);
+    /// assert_eq!(rt; text.as_str(), "example");
+    /// ```
     pub fn skip_prefix(&mut self, prefix: &str) -> bool
         ensures yes { IsTrue result → self.old.bytes ≡ prefix.now ++ self.new.bytes }
         ensures copied { IsTrue result → Keeps self.old self.new }
@@ -125,7 +167,7 @@ impl<A: Atomicity> Tendril<UTF8, A> {
     }
 }
 
-// Where the first byte of the set stands, or the end.
+// The index of the first byte that is in the set, or the end.
 fn front_end<F: CutsAtAscii>(bytes: &[u8], set: &ByteSet) -> usize
     requires { F.valid bytes.now }
     ensures ends { EndsBefore (has_byte set.now) bytes.now result }
@@ -138,7 +180,7 @@ fn front_end<F: CutsAtAscii>(bytes: &[u8], set: &ByteSet) -> usize
     }
 }
 
-// Whether a text begins with another, after which a text follows.
+// Whether a text begins with another. If it does, what follows is a text too.
 fn begins_with(bytes: &[u8], prefix: &str) -> bool
     requires { IsUtf8 bytes.now }
     ensures begins { IsTrue result ↔ IsFrontOf prefix.now bytes.now }

@@ -26,7 +26,14 @@ use tendril_storage::Storage;
 
 /// A text that is valid in the format `F`, of at most 4294967295 bytes.
 ///
-/// It takes 24 bytes. Up to 8 bytes of text stand in it, longer text stands in a block that its clones and slices share.
+/// It takes 24 bytes. Up to 8 bytes of text are stored in it; a longer text is in a block on the heap that its clones and
+/// slices share. A block of `Atomic` may be shared between threads, one of `NonAtomic` stays on its thread.
+///
+/// ```
+/// let text = StrTendril::from_slice(alloc, "shared by its slices")?;
+/// let slice = text.try_subtendril(0, 9)?; // copies nothing
+/// assert_eq!(rt; slice.as_str(), "shared by");
+/// ```
 #[derive(Drop)]
 pub struct Tendril<F: Format, A: Atomicity = NonAtomic> {
     storage: Storage<A>,

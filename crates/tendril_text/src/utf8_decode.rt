@@ -1,9 +1,9 @@
-//! Bytes that a piece ends in, and the lossy decoding of one piece.
+//! Lossy decoding of one piece of a stream of UTF-8, and the incomplete bytes at its end.
 //!
 //! Broken bytes are replaced by U+FFFD, one for each maximal subpart (Unicode, chapter 3, 'U+FFFD Substitution of Maximal
 //! Subparts'), as std's `from_utf8_lossy` and the WHATWG Encoding Standard do it.
 ghost use Rattle.std.specs.Prelude.{◌≡◌, ◌<◌, ◌≤◌, [], length, drop, IfSome, IfNone, OnSome, IfOk, IfErr, OnOk, OnErr, MatchOption, MatchResult};
-ghost use Rattle.tendril_text.specs.Decoding.{DecodesPiece, Hands, HandsCompleted, HandsOnUpTo, IsRest, LongPieceMay, PopsText, listed};
+ghost use Rattle.tendril_text.specs.Decoding.{DecodesPiece, Hands, HandsCompleted, HandsOnUpTo, IsRest, LongTextMay, PopsText, bytes_of, listed};
 ghost use Rattle.tendril_block.specs.Outcomes.{NoneMust, Outcome};
 ghost use Rattle.tendril_lossy.specs.Completions.{BreaksAt, CompletesTo, StillOpen};
 ghost use Rattle.tendril_lossy.specs.Lossy.{IsOpen};
@@ -15,29 +15,29 @@ use tendril_block::{Atomicity, Refusal};
 use tendril_fmt::fmt::{Bytes, Encoded, Format, UTF8};
 use tendril_lossy::{Completion, Ending, ShortText, complete, first_part_by};
 
-/// After fewer bytes of text than this between two broken sequences, the next one is expected near.
-pub const FEW_BEFORE: u32 = 16;
+// After less text than this between two broken sequences, the next one is expected to be near.
+const FEW_BEFORE: u32 = 16;
 
-/// After this many bytes of text, as at the start of a piece, no broken sequence is expected near.
-pub const MANY_BEFORE: u32 = 1024;
+// After this much text no broken sequence is expected to be near.
+const MANY_BEFORE: u32 = 1024;
 
 const REPLACEMENT: &str = "\u{FFFD}";
 
-/// A text as the type that a closure takes, which is the text's own type: nothing else has this trait.
+/// A text, as the type that a closure takes: the text's own type, and no other type implements this.
 ///
-/// It stands in bounds in place of `FnMut(Tendril<UTF8, A>)`, of which nothing can be stated while `A` isn't known.
-pub trait Handed<T: Drop>: Drop {
+/// It is used in bounds instead of `FnMut(Tendril<UTF8, A>)`, about which nothing can be stated while `A` isn't known.
+pub trait ClosureText<T: Drop>: Drop {
     ghost use Rattle.std.specs.Prelude.{◌≡◌};
 
     /// The text.
     ghost handed: { Self → T };
 
-    /// The text.
+    /// Returns the text.
     fn hand(self) -> T
         ensures { result ≡ handed self };
 }
 
-impl<F: Format, A: Atomicity> Handed<Tendril<F, A>> for Tendril<F, A> {
+impl<F: Format, A: Atomicity> ClosureText<Tendril<F, A>> for Tendril<F, A> {
     ghost handed = { λ t. t };
 
     fn hand(self) -> Tendril<F, A>
@@ -47,7 +47,43 @@ impl<F: Format, A: Atomicity> Handed<Tendril<F, A>> for Tendril<F, A> {
     }
 }
 
-/// The bytes that a piece ends in where it ends within a character: at most three, or none.
+/// The length of the text that `pop_text_after` returned last, which tells how far off the next broken sequence is expected.
+#[derive(Clone, Copy, Debug)]
+pub struct LastText {
+    len: u32,
+}
+
+impl LastText {
+    /// Returns the value for the start of a piece: no text yet, and no broken sequence expected near.
+    ///
+    /// ```
+    /// let mut last = LastText::none();
+    /// let mut piece = ByteTendril::from_slice(alloc, b"text")?;
+    /// let (text, _) = piece.pop_text_after(&mut last)?;
+    /// assert_eq!(rt; text.is_some_and(|text| text.eq_str("text")), true);
+    /// ```
+    pub fn none() -> Self
+        ensures { result.len ≡ MANY_BEFORE }
+    {
+        LastText { len: MANY_BEFORE }
+    }
+
+    // How many bytes are searched first for a broken sequence.
+    #[inline(always)]
+    fn first_window(self) -> usize
+        ensures { 4 ≤ result }
+    {
+        match self.len {
+            0..FEW_BEFORE => 16,
+            FEW_BEFORE..MANY_BEFORE => 128,
+            _ => 1024,
+        }
+    }
+}
+
+/// The bytes at a piece's end that begin a character without ending it: at most three, or none.
+///
+/// It is an `Encoded` with that invariant.
 #[derive(Clone, Copy, Debug)]
 pub struct IncompleteUtf8 {
     bytes: Encoded,
@@ -69,7 +105,14 @@ impl Model for IncompleteUtf8 {
 }
 
 impl IncompleteUtf8 {
-    /// These bytes, where they begin a character and end within it, or there are none.
+    /// Returns the bytes as incomplete ones if they begin a character and end within it, or if there are none; else `None`.
+    ///
+    /// Reads at most four bytes, and allocates nothing.
+    ///
+    /// ```
+    /// assert_eq!(rt; IncompleteUtf8::new(b"\xE2\x82").is_some(), true);
+    /// assert_eq!(rt; IncompleteUtf8::new(b"a").is_none(), true);
+    /// ```
     pub fn new(bytes: &[u8]) -> Option<Self>
         ensures { MatchOption result (IsOpen bytes.now → ⊥) (λ k. IsOpen bytes.now × (k ≡ bytes.now)) }
     {
@@ -82,7 +125,7 @@ impl IncompleteUtf8 {
         }
     }
 
-    /// These bytes, of which it is known.
+    /// Returns the bytes as incomplete ones, which the caller proves them to be.
     pub fn new_without_validating(bytes: &[u8]) -> Self
         requires { IsOpen bytes.now }
         ensures { result ≡ bytes.now }
@@ -92,7 +135,11 @@ impl IncompleteUtf8 {
         }
     }
 
-    /// No bytes.
+    /// Returns the value for a piece that ends with a whole character: no bytes.
+    ///
+    /// ```
+    /// assert_eq!(rt; IncompleteUtf8::none().kept().is_empty(), true);
+    /// ```
     pub fn none() -> Self
         ensures { result ≡ [] }
     {
@@ -101,7 +148,12 @@ impl IncompleteUtf8 {
         }
     }
 
-    /// The bytes.
+    /// Borrows the incomplete bytes: at most three.
+    ///
+    /// ```
+    /// let kept = IncompleteUtf8::new(b"\xE2\x82");
+    /// assert_eq!(rt; kept.is_some_and(|kept| kept.kept() == b"\xE2\x82".as_slice()), true);
+    /// ```
     pub fn kept(&self) -> &[u8]
         ensures bytes { result.now ≡ self.now }
         ensures waits { IsOpen self.now }
@@ -109,9 +161,20 @@ impl IncompleteUtf8 {
         self.bytes.as_slice()
     }
 
-    /// Completes the bytes from the input, of which it reads as much as makes four bytes with them. It answers the longest
-    /// text that they begin, or the maximal subpart where no character begins them, with the rest of the input, and then
-    /// nothing is kept. Where they still begin a character, it answers `None` and keeps the input too.
+    /// Completes the bytes from the input, and returns what they became with the rest of the input, or `None` if they are still
+    /// incomplete.
+    ///
+    /// They become the longest text in the first four bytes of both, or, where no character begins with them, the broken bytes:
+    /// their maximal subpart (Unicode, chapter 3). After that nothing is kept. On `None` the input is kept too. Reads only as
+    /// much input as makes four bytes with the kept ones, and allocates nothing.
+    ///
+    /// ```
+    /// let mut kept = IncompleteUtf8::new_without_validating(b"\xE2\x82");
+    /// let Some((Ok(text), rest)) = kept.try_to_complete_codepoint(b"\xAC is a euro") else {
+    ///     return Err(Fail::new("the bytes are a character"));
+    /// };
+    /// assert_eq!(rt; text.as_str(), "€ ");
+    /// ```
     pub fn try_to_complete_codepoint<'i>(
         &mut self,
         input: &'i [u8],
@@ -142,8 +205,18 @@ impl IncompleteUtf8 {
         }
     }
 
-    /// Completes the bytes from the front of a piece, as `try_to_complete_codepoint` does. What it takes is gone from the
-    /// piece then; where the bytes wait for more, they keep the piece too, which stays as it is.
+    /// Completes the bytes from the start of a piece, removes what it takes from the piece and returns what the bytes became; or
+    /// returns `None` if they are still incomplete.
+    ///
+    /// They become what `try_to_complete_codepoint` makes of them. On `None` the piece's bytes are kept too, and the piece hasn't
+    /// changed. Allocates nothing.
+    ///
+    /// ```
+    /// let mut kept = IncompleteUtf8::new_without_validating(b"\xC3");
+    /// let mut piece = ByteTendril::from_slice(alloc, b"\xA9\xFF")?;
+    /// assert_eq!(rt; kept.complete_from(&mut piece).is_some_and(|text| text.is_ok_and(|t| t.as_str() == "é")), true);
+    /// assert_eq!(rt; piece.as_byte_slice(), b"\xFF".as_slice());
+    /// ```
     pub fn complete_from<A: Atomicity>(
         &mut self,
         piece: &mut Tendril<Bytes, A>,
@@ -165,21 +238,30 @@ impl IncompleteUtf8 {
         Some(completed)
     }
 
-    /// Completes the bytes from a piece, hands the text or U+FFFD to the closure, and answers the rest of the piece. Where
-    /// they wait for more, they keep the piece too, and the answer is `Err(())`.
+    /// Completes the bytes from a piece, passes the text or U+FFFD to the closure, and returns the rest of the piece.
     ///
-    /// Where nothing is kept, there is nothing to complete: of an empty piece it hands on an empty text. No clause can say
-    /// what a closure is that was handed over: whoever wants to know calls `try_complete_with`.
+    /// Returns `Err(())` if the bytes are still incomplete: then the piece's bytes are kept too. Call it only where bytes are
+    /// kept: with none, and an empty piece, it passes an empty text. Allocates nothing. No clause can say what becomes of a
+    /// closure that is passed by value: to prove something about it, call `try_complete_with`.
+    ///
+    /// ```
+    /// let mut kept = IncompleteUtf8::new_without_validating(b"\xC3");
+    /// let piece = ByteTendril::from_slice(alloc, b"\xA9tude")?;
+    /// let mut text = StrTendril::new(alloc);
+    /// let rest = kept.try_complete(piece, |part: StrTendril| text = part).ok();
+    /// assert_eq!(rt; text.as_str(), "étu"); // it reads what makes four bytes
+    /// assert_eq!(rt; rest.is_some_and(|rest| rest.as_byte_slice() == b"de".as_slice()), true);
+    /// ```
     pub fn try_complete<A: Atomicity, T: Drop, P: FnMut(T)>(
         &mut self,
         mut input: Tendril<Bytes, A>,
         mut push_utf8: P,
     ) -> Result<Tendril<Bytes, A>, ()>
     where
-        Tendril<UTF8, A>: Handed<T>,
+        Tendril<UTF8, A>: ClosureText<T>,
         requires { P.IsAlwaysCallable push_utf8 }
         ensures ok { IfOk result (λ rest. (last : P) ×
-            HandsCompleted (λ p t u q. P.step p (⟦<Tendril<UTF8, A> as Handed<T>>⟧.handed t) u q)
+            HandsCompleted (λ p t u q. P.step p (⟦<Tendril<UTF8, A> as ClosureText<T>>⟧.handed t) u q)
             push_utf8 self.old input rest last) }
         ensures emptied { OnOk result (self.new ≡ []) }
         ensures err { OnErr result (StillOpen self.old input.bytes self.new) }
@@ -188,17 +270,29 @@ impl IncompleteUtf8 {
         Ok(input)
     }
 
-    /// Completes the bytes from the front of a piece, and hands the text or U+FFFD to a closure that is lent.
+    /// Completes the bytes from the start of a piece, and passes the text or U+FFFD to a borrowed closure.
+    ///
+    /// Returns `Err(())` if the bytes are still incomplete: then the piece's bytes are kept too, and the piece and the closure
+    /// haven't changed. Allocates nothing.
+    ///
+    /// ```
+    /// let mut kept = IncompleteUtf8::new_without_validating(b"\xC3");
+    /// let mut piece = ByteTendril::from_slice(alloc, b"!")?;
+    /// let mut text = StrTendril::new(alloc);
+    /// let done = kept.try_complete_with(&mut piece, &mut |part: StrTendril| text = part).is_ok();
+    /// assert_eq!(rt; done, true);
+    /// assert_eq!(rt; text.as_str(), "\u{FFFD}");
+    /// ```
     pub fn try_complete_with<A: Atomicity, T: Drop, P: FnMut(T)>(
         &mut self,
         input: &mut Tendril<Bytes, A>,
         push_utf8: &mut P,
     ) -> Result<(), ()>
     where
-        Tendril<UTF8, A>: Handed<T>,
+        Tendril<UTF8, A>: ClosureText<T>,
         requires { P.IsAlwaysCallable push_utf8.old }
         ensures ok { OnOk result (
-            HandsCompleted (λ p t u q. P.step p (⟦<Tendril<UTF8, A> as Handed<T>>⟧.handed t) u q)
+            HandsCompleted (λ p t u q. P.step p (⟦<Tendril<UTF8, A> as ClosureText<T>>⟧.handed t) u q)
             push_utf8.old self.old input.old input.new push_utf8.new) }
         ensures emptied { OnOk result (self.new ≡ []) }
         ensures err { OnErr result (StillOpen self.old input.old.bytes self.new) }
@@ -217,25 +311,34 @@ impl IncompleteUtf8 {
 }
 
 impl<A: Atomicity> Tendril<Bytes, A> {
-    /// Decodes the bytes as a piece of a stream of UTF-8, and hands the texts to the closure, U+FFFD for each broken
-    /// sequence. It answers the bytes at the end that begin a character and end within it, if there are any.
+    /// Decodes the bytes as a piece of a stream of UTF-8: passes the texts to the closure, U+FFFD for each broken sequence, and
+    /// returns the incomplete bytes at the end, if there are any.
     ///
-    /// Takes no memory. The texts share the bytes of the piece, and a piece that is one text is handed on itself. Where the
-    /// count of holders is full, it answers the part that isn't decoded yet; what was handed on stays so. No clause can say
-    /// what a closure is that was handed over: whoever wants to know calls `decode_utf8_lossy_with`, or `pop_text` in a loop.
+    /// Allocates nothing: texts of more than 8 bytes share the piece's block. Returns `Count` and the part that isn't decoded yet
+    /// if the block has as many references as it can have; what was passed to the closure isn't undone. No clause can say what
+    /// becomes of a closure that is passed by value: to prove something about it, call `decode_utf8_lossy_with`, or `pop_text` in
+    /// a loop.
+    ///
+    /// ```
+    /// let piece = ByteTendril::from_slice(alloc, b"a\xFFb\xC3")?;
+    /// let mut text = StrTendril::new(alloc);
+    /// let kept = piece.decode_utf8_lossy(|part: StrTendril| { let _ = text.push_tendril(&part); })?;
+    /// assert_eq!(rt; text.as_str(), "a\u{FFFD}b");
+    /// assert_eq!(rt; kept.is_some_and(|kept| kept.kept() == b"\xC3".as_slice()), true);
+    /// ```
     pub fn decode_utf8_lossy<T: Drop, P: FnMut(T)>(
         mut self,
         mut push_utf8: P,
     ) -> Result<Option<IncompleteUtf8>, (Refusal, Self)>
     where
-        Tendril<UTF8, A>: Handed<T>,
+        Tendril<UTF8, A>: ClosureText<T>,
         requires { P.IsAlwaysCallable push_utf8 }
         ensures ok { IfOk result (λ kept. (last : P) ×
-            DecodesPiece (λ p t u q. P.step p (⟦<Tendril<UTF8, A> as Handed<T>>⟧.handed t) u q)
+            DecodesPiece (λ p t u q. P.step p (⟦<Tendril<UTF8, A> as ClosureText<T>>⟧.handed t) u q)
             push_utf8 self kept last) }
-        ensures refusal { IfErr result (λ e. LongPieceMay e.1.bytes e.0) }
+        ensures refusal { IfErr result (λ e. LongTextMay e.1.bytes e.0) }
         ensures err { IfErr result (λ e.
-            (last : P) × HandsOnUpTo (λ p t u q. P.step p (⟦<Tendril<UTF8, A> as Handed<T>>⟧.handed t) u q)
+            (last : P) × HandsOnUpTo (λ p t u q. P.step p (⟦<Tendril<UTF8, A> as ClosureText<T>>⟧.handed t) u q)
             push_utf8 self e.1 last) }
     {
         match self.decode_utf8_lossy_with(&mut push_utf8) {
@@ -244,32 +347,37 @@ impl<A: Atomicity> Tendril<Bytes, A> {
         }
     }
 
-    /// Decodes the bytes as `decode_utf8_lossy` does, with a closure that is lent. Where the count of holders is full, the
-    /// part that isn't decoded yet is left; else nothing, or the bytes that are answered.
+    /// Decodes the bytes as `decode_utf8_lossy` does, and passes the texts to a borrowed closure.
+    ///
+    /// Returns `Count` if the block has as many references as it can have; then the part that isn't decoded yet is left. After an
+    /// Ok nothing is left, or the incomplete bytes that are returned. Allocates nothing.
+    ///
+    /// ```
+    /// let mut piece = ByteTendril::from_slice(alloc, b"a\xFFb")?;
+    /// let mut count = 0;
+    /// piece.decode_utf8_lossy_with(&mut |_part: StrTendril| count += 1)?;
+    /// assert_eq!(rt; count, 3);
+    /// ```
     pub fn decode_utf8_lossy_with<T: Drop, P: FnMut(T)>(
         &mut self,
         push_utf8: &mut P,
     ) -> Result<Option<IncompleteUtf8>, Refusal>
     where
-        Tendril<UTF8, A>: Handed<T>,
+        Tendril<UTF8, A>: ClosureText<T>,
         requires { P.IsAlwaysCallable push_utf8.old }
         ensures ok { IfOk result (λ kept.
-            DecodesPiece (λ p t u q. P.step p (⟦<Tendril<UTF8, A> as Handed<T>>⟧.handed t) u q)
+            DecodesPiece (λ p t u q. P.step p (⟦<Tendril<UTF8, A> as ClosureText<T>>⟧.handed t) u q)
             push_utf8.old self.old kept push_utf8.new) }
         ensures left { IfOk result (λ kept. MatchOption kept (self.new.bytes ≡ []) (λ k. self.new.bytes ≡ k)) }
         ensures part { OnOk result (IsRest self.old self.new) }
-        ensures refusal { IfErr result (LongPieceMay self.new.bytes) }
+        ensures refusal { IfErr result (LongTextMay self.new.bytes) }
         ensures err { OnErr result (
-            HandsOnUpTo (λ p t u q. P.step p (⟦<Tendril<UTF8, A> as Handed<T>>⟧.handed t) u q)
+            HandsOnUpTo (λ p t u q. P.step p (⟦<Tendril<UTF8, A> as ClosureText<T>>⟧.handed t) u q)
             push_utf8.old self.old self.new push_utf8.new) }
     {
-        let mut last = MANY_BEFORE;
+        let mut last = LastText::none();
         loop {
-            let (text, ending) = self.pop_text_after(last)?;
-            last = match &text {
-                Some(text) => text.len32(),
-                None => 0,
-            };
+            let (text, ending) = self.pop_text_after(&mut last)?;
             push_some(push_utf8, text);
             match ending {
                 Ending::Whole => return Ok(None),
@@ -282,32 +390,49 @@ impl<A: Atomicity> Tendril<Bytes, A> {
         }
     }
 
-    /// Takes the longest text in UTF-8 out of the front, where it isn't empty, and with it the broken sequence behind it, if
-    /// one is there. Bytes at the end that begin a character and end within it stay.
+    /// Removes the longest prefix that is UTF-8 and the broken sequence after it, and returns the text, if it isn't empty, and
+    /// what ended it. Incomplete bytes at the end stay.
     ///
-    /// Takes no memory. A long text shares its bytes with a long rest. Where the text has at most 8 bytes, or what stands
-    /// behind it with the broken sequence has, no holder is added, and the call isn't refused.
+    /// Returns `Count` if the text and what is left both have more than 8 bytes and the block as many references as it can have;
+    /// then nothing has changed. Allocates nothing: parts of more than 8 bytes keep sharing the block.
+    ///
+    /// ```
+    /// let mut piece = ByteTendril::from_slice(alloc, b"ab\xFFc")?;
+    /// let (text, _) = piece.pop_text()?;
+    /// assert_eq!(rt; text.is_some_and(|text| text.eq_str("ab")), true);
+    /// assert_eq!(rt; piece.as_byte_slice(), b"c".as_slice());
+    /// ```
     pub fn pop_text(&mut self) -> Result<(Option<Tendril<UTF8, A>>, Ending), Refusal>
-        ensures { Outcome NoneMust (LongPieceMay self.old.bytes)
+        ensures { Outcome NoneMust (LongTextMay self.old.bytes)
             (λ found new. PopsText self.old found.0 found.1 new) self.old result self.new }
     {
-        self.pop_text_after(FEW_BEFORE)
+        self.pop_text_after(&mut LastText { len: FEW_BEFORE })
     }
 
-    /// `pop_text` in a loop: `last` is how many bytes of text were before the last broken sequence, or `MANY_BEFORE` at the
-    /// start. After few the next one is looked for among few bytes first, after many among many. It changes the time alone.
+    /// Does and returns what `pop_text` does, and is faster in a loop: it keeps the length of the last text.
+    ///
+    /// After little text it searches few bytes first for the next broken sequence, after much text many. Only the time differs.
+    ///
+    /// ```
+    /// let mut piece = ByteTendril::from_slice(alloc, b"ab\xFFc")?;
+    /// let mut last = LastText::none();
+    /// let (text, _) = piece.pop_text_after(&mut last)?;
+    /// assert_eq!(rt; text.is_some_and(|text| text.eq_str("ab")), true);
+    /// ```
     #[inline(always)]
     pub fn pop_text_after(
         &mut self,
-        last: u32,
+        last: &mut LastText,
     ) -> Result<(Option<Tendril<UTF8, A>>, Ending), Refusal>
-        ensures { Outcome NoneMust (LongPieceMay self.old.bytes)
+        ensures pops { Outcome NoneMust (LongTextMay self.old.bytes)
             (λ found new. PopsText self.old found.0 found.1 new) self.old result self.new }
+        ensures last { IfOk result (λ found. last.new.len ≡ length (bytes_of found.0)) }
     {
-        let (front, ending) = first_part_by(self.as_byte_slice(), first_window(last));
+        let (front, ending) = first_part_by(self.as_byte_slice(), last.first_window());
         let count = front.len() as u32;
+        *last = LastText { len: count };
         if let Ending::Broken(len) = ending {
-            // What most broken bytes find.
+            // The usual case: little text before the broken bytes, and many bytes after them.
             if let Some(text) = self.take_few_text(count, len as u32) {
                 let text = if count == 0 { None } else { Some(text) };
                 return Ok((text, ending));
@@ -327,7 +452,7 @@ impl<A: Atomicity> Tendril<Bytes, A> {
         Ok((text, ending))
     }
 
-    // Drops the first `count` bytes. What is left of bytes are bytes.
+    // Drops the first `count` bytes. Any remainder is valid in `Bytes`.
     #[inline(always)]
     fn skip(&mut self, count: u32)
         requires { count ≤ length self.old.bytes }
@@ -339,24 +464,12 @@ impl<A: Atomicity> Tendril<Bytes, A> {
     }
 }
 
-// How many bytes are looked at first for a fault, after so many bytes of text before the last one.
-#[inline(always)]
-fn first_window(last: u32) -> usize
-    ensures { 4 ≤ result }
-{
-    match last {
-        0..FEW_BEFORE => 16,
-        FEW_BEFORE..MANY_BEFORE => 128,
-        _ => 1024,
-    }
-}
-
-// Hands a text on, if there is one.
+// Passes a text to the closure, if there is one.
 fn push_some<A: Atomicity, T: Drop, P: FnMut(T)>(push_utf8: &mut P, text: Option<Tendril<UTF8, A>>)
 where
-    Tendril<UTF8, A>: Handed<T>,
+    Tendril<UTF8, A>: ClosureText<T>,
     requires { P.IsAlwaysCallable push_utf8.old }
-    ensures hands { Hands (λ p t u q. P.step p (⟦<Tendril<UTF8, A> as Handed<T>>⟧.handed t) u q)
+    ensures hands { Hands (λ p t u q. P.step p (⟦<Tendril<UTF8, A> as ClosureText<T>>⟧.handed t) u q)
         push_utf8.old (listed text) push_utf8.new }
     ensures callable { P.IsAlwaysCallable push_utf8.new }
 {

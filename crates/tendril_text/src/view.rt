@@ -1,4 +1,4 @@
-//! Texts seen in another format.
+//! Borrowed texts, seen in another format.
 ghost use Rattle.std.specs.Prelude.{◌≡◌, ◌<◌, ◌≤◌, ◌+◌, length};
 ghost use Rattle.tendril_text.specs.Parts.{Clones, SlicesValid};
 
@@ -10,7 +10,8 @@ use tendril_block::{Atomicity, MAX_LEN, Refusal};
 use tendril_fmt::fmt::{Bytes, Format, UTF8};
 use tendril_storage::Storage;
 
-/// A text that is lent and seen in the format `F`, in which it is valid. It stands for a reference to a text in `F`.
+// Not `Copy`: a struct with a lifetime parameter whose contracts see another value can't be.
+/// A borrowed text, seen in the format `F`, in which it is valid: what a reference to a text in `F` would be.
 #[derive(Drop)]
 pub struct View<'a, F: Format, A: Atomicity> {
     storage: &'a Storage<A>,
@@ -28,7 +29,7 @@ impl<'a, F: Format, A: Atomicity> Model for View<'a, F, A> {
 }
 
 impl<'a, F: Format, A: Atomicity> View<'a, F, A> {
-    /// The view of bytes that are valid in the format.
+    /// Returns the view of bytes that are valid in the format.
     pub(crate) fn new(storage: &'a Storage<A>) -> Self
         requires { F.valid storage.now.bytes }
         ensures { result ≡ storage.now }
@@ -39,14 +40,23 @@ impl<'a, F: Format, A: Atomicity> View<'a, F, A> {
         }
     }
 
-    /// The number of bytes.
+    /// Returns the number of bytes, which fits in 32 bits.
+    ///
+    /// ```
+    /// assert_eq!(rt; StrTendril::from_slice(alloc, "é")?.as_bytes().len32(), 2);
+    /// ```
     pub fn len32(&self) -> u32
         ensures { result ≡ length self.now.bytes }
     {
         self.storage.len32()
     }
 
-    /// The bytes. They are lent for as long as the text is.
+    /// Borrows the bytes, for as long as the text is borrowed.
+    ///
+    /// ```
+    /// let text = StrTendril::from_slice(alloc, "é")?;
+    /// assert_eq!(rt; text.as_bytes().as_byte_slice(), b"\xC3\xA9".as_slice());
+    /// ```
     pub fn as_byte_slice(&self) -> &'a [u8]
         ensures value { result.now ≡ self.now.bytes }
         ensures valid { F.valid self.now.bytes }
@@ -55,15 +65,32 @@ impl<'a, F: Format, A: Atomicity> View<'a, F, A> {
         self.storage.as_slice()
     }
 
-    /// The part of so many bytes from the offset on, as a text, where it is there and valid in the format. A long part
-    /// shares the text's bytes.
+    /// Returns a text of the `count` bytes from `offset` on, if they are there and valid in the view's format.
+    ///
+    /// Returns `OutOfBounds` if the text ends before, else `ValidationFailed` if the slice isn't valid, else `Count` if it has
+    /// more than 8 bytes and the block as many references as it can have. Takes constant time and allocates nothing: more than
+    /// 8 bytes are shared.
+    ///
+    /// ```
+    /// let text = StrTendril::from_slice(alloc, "é")?;
+    /// assert_eq!(rt; text.as_bytes().try_subtendril(0, 1)?.as_byte_slice(), b"\xC3".as_slice());
+    /// ```
     pub fn try_subtendril(&self, offset: u32, count: u32) -> Result<Tendril<F, A>, SubtendrilError>
         ensures { SlicesValid F.valid self.now.bytes offset count result }
     {
         try_part(self.storage, offset, count)
     }
 
-    /// The text in the view's format, which shares the bytes of a long one.
+    /// Returns a text with the same bytes in the view's format. More than 8 bytes are shared, not copied.
+    ///
+    /// Takes constant time and allocates nothing. Returns `Count` if the block has as many references as it can have, which is
+    /// possible only for more than 8 bytes.
+    ///
+    /// ```
+    /// let text = StrTendril::from_slice(alloc, "abc")?;
+    /// let bytes = text.as_bytes().to_tendril()?;
+    /// assert_eq!(rt; bytes.as_byte_slice(), b"abc".as_slice());
+    /// ```
     pub fn to_tendril(&self) -> Result<Tendril<F, A>, Refusal>
         ensures { Clones self.now.bytes result }
     {
@@ -72,7 +99,12 @@ impl<'a, F: Format, A: Atomicity> View<'a, F, A> {
 }
 
 impl<'a, A: Atomicity> View<'a, UTF8, A> {
-    /// The text as a string. It is lent for as long as the text is.
+    /// Borrows the text as a string, for as long as the text is borrowed. It isn't validated again.
+    ///
+    /// ```
+    /// let text = StrTendril::from_slice(alloc, "abc")?.into_bytes();
+    /// assert_eq!(rt; text.try_reinterpret_view::<UTF8>()?.as_str(), "abc");
+    /// ```
     pub fn as_str(&self) -> &'a str
         ensures { result.now ≡ self.now.bytes }
     {

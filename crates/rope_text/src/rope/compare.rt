@@ -7,7 +7,16 @@ ghost use Rattle.rope_text.specs.Ropes.{ropes_have_equal_bytes};
 use crate::rope::Rope;
 use tendril_text::Atomicity;
 
-/// Takes one pass over both, and no memory.
+/// Two ropes are equal if their bytes are, whatever their pieces. One pass over both; allocates nothing.
+///
+/// ```
+/// let mut one = Rope::new(alloc);
+/// one.push_tendril(StrTendril::from_slice(alloc, "ab")?)?;
+/// let mut two = Rope::new(alloc);
+/// two.push_tendril(StrTendril::from_slice(alloc, "a")?)?;
+/// two.push_tendril(StrTendril::from_slice(alloc, "b")?)?;
+/// assert_eq!(rt; one == two, true);
+/// ```
 impl<A: Atomicity> PartialEq for Rope<A> {
     ghost eq = { ropes_have_equal_bytes };
 
@@ -23,7 +32,7 @@ impl<A: Atomicity> Eq for Rope<A> {
 }
 
 impl<A: Atomicity> Rope<A> {
-    // Whether a rope of the same length has the same bytes.
+    // Whether a rope of equal length has equal bytes.
     fn has_bytes_of(&self, other: &Self) -> bool
         requires { length self.now.bytes ≡ length other.now.bytes }
         ensures { IsTrue result ↔ (self.now.bytes ≡ other.now.bytes) }

@@ -11,7 +11,13 @@ use tendril_text::fmt::UTF8;
 use tendril_text::{Atomicity, Tendril};
 
 impl<A: Atomicity> Rope<A> {
-    /// Whether there are no bytes, and so no pieces.
+    /// Whether the rope has no bytes, and so no pieces.
+    ///
+    /// ```
+    /// let mut rope = Rope::new(alloc);
+    /// rope.push_tendril(StrTendril::new(alloc))?;
+    /// assert_eq!(rt; rope.is_empty(), true);
+    /// ```
     pub fn is_empty(&self) -> bool
         ensures bytes { IsTrue result ↔ (self.now.bytes ≡ []) }
         ensures pieces { IsTrue result ↔ (self.now.pieces ≡ []) }
@@ -19,14 +25,27 @@ impl<A: Atomicity> Rope<A> {
         self.total == 0
     }
 
-    /// The number of pieces.
+    /// Returns the number of pieces.
+    ///
+    /// ```
+    /// let mut rope = Rope::new(alloc);
+    /// rope.push_tendril(StrTendril::from_slice(alloc, "one")?)?;
+    /// rope.push_tendril(StrTendril::from_slice(alloc, "two")?)?;
+    /// assert_eq!(rt; rope.piece_count(), 2);
+    /// ```
     pub fn piece_count(&self) -> usize
         ensures { result ≡ length self.now.pieces }
     {
         self.pieces.len()
     }
 
-    /// The piece of a number, which is less than `piece_count`.
+    /// Borrows the piece of an index, which the caller proves to be less than `piece_count`.
+    ///
+    /// ```
+    /// let mut rope = Rope::new(alloc);
+    /// rope.push_tendril(StrTendril::from_slice(alloc, "one")?)?;
+    /// assert_eq!(rt; rope.piece(0).as_str(), "one");
+    /// ```
     pub fn piece(&self, index: usize) -> &Tendril<UTF8, A>
         requires { index < length self.now.pieces }
         ensures { result.now ≡ piece_at self.now.pieces index }
@@ -34,7 +53,13 @@ impl<A: Atomicity> Rope<A> {
         &self.pieces[index]
     }
 
-    /// The pieces, in order, to be written out without a copy.
+    /// Returns an iterator of the pieces, in order: to write a rope without copying it.
+    ///
+    /// ```
+    /// let mut rope = Rope::new(alloc);
+    /// rope.push_tendril(StrTendril::from_slice(alloc, "one")?)?;
+    /// assert_eq!(rt; rope.pieces().next().is_some_and(|piece| piece.eq_str("one")), true);
+    /// ```
     pub fn pieces(&self) -> Iter<'_, Tendril<UTF8, A>>
         ensures bytes { bytes_of_all self.now.pieces ≡ self.now.bytes }
         ensures each { All IsPiece self.now.pieces }

@@ -1,4 +1,4 @@
-//! Parts of ropes, which share the bytes of the rope's pieces.
+//! Slices and clones of ropes, which share the bytes of the rope's pieces.
 ghost use Rattle.std.specs.Prelude.{◌≡◌, ◌≤◌, ◌<◌, ◌+◌, length, min, take, drop, All, IsUtf8};
 ghost use Rattle.tendril_block.specs.Outcomes.{Gives, NoneMust};
 ghost use Rattle.rope_text.specs.Parts.{IsCloneOf, PartMay, SubRope, SharesPart};
@@ -11,8 +11,18 @@ use tendril_text::fmt::UTF8;
 use tendril_text::{Atomicity, Tendril};
 
 impl<A: Atomicity> Rope<A> {
-    /// The part of so many bytes from the offset on, where it is there and UTF-8. Its pieces share the bytes of this
-    /// rope's. Takes time for the pieces that it gives, and logarithmic time to find the first and the last.
+    /// Returns a rope of the `count` bytes from `offset` on, if they are there and UTF-8.
+    ///
+    /// Returns `OutOfBounds` if the rope ends before, else `ValidationFailed` if the slice cuts a character, else `Memory` if an
+    /// allocation fails, or `Count` if a block has as many references as it can have. Pieces of more than 8 bytes are shared.
+    /// Takes logarithmic time to find the first and the last piece, and constant time for each piece of the result.
+    ///
+    /// ```
+    /// let mut rope = Rope::new(alloc);
+    /// rope.push_tendril(StrTendril::from_slice(alloc, "one, ")?)?;
+    /// rope.push_tendril(StrTendril::from_slice(alloc, "two")?)?;
+    /// assert_eq!(rt; rope.sub_rope(3, 4)?.to_tendril()?.as_str(), ", tw");
+    /// ```
     pub fn sub_rope(&self, offset: u64, count: u64) -> Result<Self, Refusal>
         ensures { SubRope self.now offset count result }
     {
@@ -33,7 +43,16 @@ impl<A: Atomicity> Rope<A> {
         share(&self.pieces, first, from, count)
     }
 
-    /// The same rope once more. Its pieces are this rope's, and share their bytes. Takes time for each piece.
+    /// Returns another rope with the same pieces, which share their bytes.
+    ///
+    /// Returns `Memory` if an allocation fails, or `Count` if a block has as many references as it can have. Takes constant time
+    /// for each piece.
+    ///
+    /// ```
+    /// let mut rope = Rope::new(alloc);
+    /// rope.push_tendril(StrTendril::from_slice(alloc, "one")?)?;
+    /// assert_eq!(rt; rope.clone()? == rope, true);
+    /// ```
     pub fn clone(&self) -> Result<Self, Refusal>
         ensures { Gives NoneMust (PartMay self.now.pieces 0 (length self.now.bytes)) (IsCloneOf self.now) result }
     {
@@ -41,7 +60,7 @@ impl<A: Atomicity> Rope<A> {
     }
 }
 
-// The part of so many bytes from a place in a piece on, which is there and UTF-8.
+// Returns a rope of the `count` bytes from an offset in a piece on, which are there and UTF-8.
 fn share<A: Atomicity>(
     pieces: &VecDeque<Tendril<UTF8, A>>,
     first: usize,

@@ -1,4 +1,4 @@
-//! Places in ropes. They are looked up by where the pieces end.
+//! Offsets in ropes, and the pieces that have them. They are found by where the pieces end.
 ghost use Rattle.std.specs.Prelude.{◌≡◌, ◌<◌, ◌≤◌, ◌+◌, ◌*◌, ◌^◌, ◌↔◌, length, take, drop, IsTrue};
 ghost use Rattle.std.specs.Str.{IsCharBoundary};
 ghost use Rattle.rope_text.specs.Ropes.{bytes_of_all, piece_at};
@@ -8,7 +8,7 @@ use tendril_text::Atomicity;
 use tendril_text::block::MAX_LEN;
 
 impl<A: Atomicity> Rope<A> {
-    // Where a piece ends.
+    // The offset where a piece ends.
     fn end_of(&self, index: usize) -> u64
         requires { index < length self.now.pieces }
         ensures { result ≡ length (bytes_of_all (take (index + 1) self.now.pieces)) }
@@ -16,7 +16,7 @@ impl<A: Atomicity> Rope<A> {
         self.ends[index].wrapping_sub(self.start)
     }
 
-    // Where a piece begins, or where the last one ends.
+    // The offset where a piece begins, or where the last one ends.
     fn start_of(&self, index: usize) -> u64
         requires { index ≤ length self.now.pieces }
         ensures { result ≡ length (bytes_of_all (take index self.now.pieces)) }
@@ -28,8 +28,8 @@ impl<A: Atomicity> Rope<A> {
         }
     }
 
-    // How many of three ends, each so many pieces behind the one before, are no later than a place. All are read before
-    // any is compared, so that none waits for another.
+    // How many of three ends, each `step` pieces after the one before, are at most the offset. All are read before any is
+    // compared, so that the reads overlap.
     fn passed(&self, low: usize, step: usize, at: u64) -> usize
         requires step { 0 < step }
         requires there { low + 3 * step ≤ length self.now.pieces }
@@ -45,8 +45,8 @@ impl<A: Atomicity> Rope<A> {
         (first <= at) as usize + (second <= at) as usize + (third <= at) as usize
     }
 
-    // The number of a piece that begins no later than a place, and is the one that has the byte there or one of the two
-    // before it. It is found by quartering.
+    // The index of a piece that begins no later than an offset, and that has this byte or is one of the two pieces before the one
+    // that does. Each round leaves a quarter of the pieces.
     fn near(&self, first: usize, at: u64) -> usize
         requires within { at < length self.now.bytes }
         requires start { length (bytes_of_all (take first self.now.pieces)) ≤ at }
@@ -63,7 +63,7 @@ impl<A: Atomicity> Rope<A> {
         low
     }
 
-    // The number of the piece that has the byte at a place. It is looked for from a piece on, one after the other.
+    // The index of the piece that has the byte at an offset, by a linear search from a piece on.
     fn next_with(&self, from: usize, at: u64) -> usize
         requires within { at < length self.now.bytes }
         requires start { length (bytes_of_all (take from self.now.pieces)) ≤ at }
@@ -79,7 +79,7 @@ impl<A: Atomicity> Rope<A> {
         index
     }
 
-    // The number of the piece that has the byte at a place, from a piece on. Most often it is that one or the next.
+    // The index of the piece that has the byte at an offset, from a piece on. Most often it is that one or the next.
     fn piece_with(&self, first: usize, at: u64) -> usize
         requires within { at < length self.now.bytes }
         requires start { length (bytes_of_all (take first self.now.pieces)) ≤ at }
@@ -98,7 +98,7 @@ impl<A: Atomicity> Rope<A> {
         }
     }
 
-    // The number of the piece that has the byte at a place, and where in the piece it stands.
+    // The index of the piece that has the byte at an offset, and the byte's offset in the piece.
     pub(super) fn locate(&self, at: u64) -> (usize, u32)
         requires { at < length self.now.bytes }
         ensures piece { result.0 < length self.now.pieces }
@@ -108,7 +108,7 @@ impl<A: Atomicity> Rope<A> {
         self.locate_from(0, at)
     }
 
-    // The same, where that piece isn't before the first of these.
+    // What `locate` returns, where the piece isn't before `first`.
     pub(super) fn locate_from(&self, first: usize, at: u64) -> (usize, u32)
         requires within { at < length self.now.bytes }
         requires start { length (bytes_of_all (take first self.now.pieces)) ≤ at }
@@ -120,7 +120,7 @@ impl<A: Atomicity> Rope<A> {
         (index, (at - self.start_of(index)) as u32)
     }
 
-    // Whether the rope may be cut behind so many bytes of a piece.
+    // Whether a character ends after `count` bytes of a piece.
     pub(super) fn is_cut(&self, index: usize, count: u32) -> bool
         requires piece { 0 < count → index < length self.now.pieces }
         requires within { count ≤ length (piece_at self.now.pieces index).bytes }
@@ -130,7 +130,7 @@ impl<A: Atomicity> Rope<A> {
         count == 0 || self.pieces[index].as_str().is_char_boundary(count as usize)
     }
 
-    // The bytes from a place on, up to the end of the piece that has it.
+    // The bytes from an offset to the end of the piece that has it.
     pub(super) fn rest_at(&self, at: u64) -> &[u8]
         requires { at < length self.now.bytes }
         ensures some { 0 < length result.now }

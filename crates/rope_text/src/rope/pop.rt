@@ -1,4 +1,4 @@
-//! Characters that are taken out of a rope's front.
+//! Pops of characters at the start of a rope.
 ghost use Rattle.std.specs.Prelude.{◌≡◌, ◌++◌, ◌∷◌, [], chars, encode_utf8, IfSome, IfNone, OnSome};
 ghost use Rattle.rope_text.specs.Parts.{LosesFront};
 
@@ -6,8 +6,15 @@ use crate::rope::Rope;
 use tendril_text::Atomicity;
 
 impl<A: Atomicity> Rope<A> {
-    /// Takes the first character out of the rope, or answers `None` where it is empty. Takes no memory, and amortized
-    /// constant time.
+    /// Removes the first character and returns it, or returns `None` if the rope is empty. Takes amortized constant time, and
+    /// allocates nothing.
+    ///
+    /// ```
+    /// let mut rope = Rope::new(alloc);
+    /// rope.push_tendril(StrTendril::from_slice(alloc, "éa")?)?;
+    /// assert_eq!(rt; rope.pop_front_char(), Some('é'));
+    /// assert_eq!(rt; rope.len64(), 1);
+    /// ```
     pub fn pop_front_char(&mut self) -> Option<char>
         ensures character { IfSome result (λ c. chars self.old.bytes ≡ c ∷ chars self.new.bytes) }
         ensures bytes { IfSome result (λ c. self.old.bytes ≡ encode_utf8 c ++ self.new.bytes) }

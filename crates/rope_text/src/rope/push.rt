@@ -1,4 +1,4 @@
-//! Ropes that grow at their end.
+//! Pushes onto ropes.
 ghost use Rattle.std.specs.Prelude.{◌≡◌, ◌+◌, ◌%◌, ◌^◌, ◌≤◌, ◌<◌, ◌++◌, length, map, IfErr, IsOk};
 ghost use Rattle.std.specs.VecDeque.{deque_capacity, deque_len};
 ghost use Rattle.rope_text.specs.Growth.{Grows, piece_of, without_back};
@@ -10,8 +10,16 @@ use tendril_text::fmt::UTF8;
 use tendril_text::{Atomicity, Tendril};
 
 impl<A: Atomicity> Rope<A> {
-    /// Puts a text at the end, in amortized constant time. An empty text adds no piece. Where it is refused the text
-    /// comes back.
+    /// Appends a text as a piece, without copying it. An empty text adds no piece.
+    ///
+    /// Returns the text with `TooLong` if the rope would have more than 18446744073709551615 bytes, or with `Memory` if an
+    /// allocation fails; then nothing has changed. Takes amortized constant time.
+    ///
+    /// ```
+    /// let mut rope = Rope::new(alloc);
+    /// rope.push_tendril(StrTendril::from_slice(alloc, "one")?)?;
+    /// assert_eq!(rt; rope.len64(), 3);
+    /// ```
     pub fn push_tendril(
         &mut self,
         text: Tendril<UTF8, A>,
@@ -39,8 +47,19 @@ impl<A: Atomicity> Rope<A> {
         }
     }
 
-    /// Puts the pieces of another rope at the end, in time linear in their number, amortized. Where it is refused the
-    /// rope comes back.
+    /// Appends the pieces of another rope, without copying their bytes.
+    ///
+    /// Returns the other rope with `TooLong` if this one would have more than 18446744073709551615 bytes, or with `Memory` if an
+    /// allocation fails; then nothing has changed. Takes amortized constant time for each piece of the other rope.
+    ///
+    /// ```
+    /// let mut rope = Rope::new(alloc);
+    /// let mut other = Rope::new(alloc);
+    /// other.push_tendril(StrTendril::from_slice(alloc, "one")?)?;
+    /// let is_appended = rope.append(other).is_ok();
+    /// assert_eq!(rt; is_appended, true);
+    /// assert_eq!(rt; rope.len64(), 3);
+    /// ```
     pub fn append(&mut self, mut rope: Rope<A>) -> Result<(), (Refusal, Rope<A>)>
         ensures grows { Grows rope.bytes rope.pieces self.old (without_back result) self.new }
         ensures back { IfErr result (λ e. e.1 ≡ rope) }
@@ -63,7 +82,7 @@ impl<A: Atomicity> Rope<A> {
     }
 }
 
-// Puts ends behind others, for which there is room, each moved on by as much.
+// Appends ends to others, which have the spare capacity for them, each increased by `by`.
 fn push_ends(ends: &mut VecDeque<u64>, more: &VecDeque<u64>, by: u64)
     requires { deque_len ends.old + deque_len more.now ≤ deque_capacity ends.old }
     ensures { ends.new.items ≡ ends.old.items ++ map (λ e. (e + by) % 2 ^ 64) more.now.items }

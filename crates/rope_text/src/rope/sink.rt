@@ -1,4 +1,4 @@
-//! A rope as a sink: it takes the texts of a stream, and no errors.
+//! A rope as a sink: it appends the texts of a stream, and ignores the errors in it.
 ghost use Rattle.std.specs.Prelude.{◌≡◌, ◌++◌, length, IfOk, IfErr, OnOk, IsUtf8};
 
 use crate::rope::Rope;
@@ -38,7 +38,7 @@ impl<A: Atomicity> TendrilSink<Tendril<UTF8, A>> for Rope<A> {
     }
 }
 
-/// A rope that was empty has the characters that it was told, without the marks.
+/// A rope that was empty has the characters that it was sent, without the marks.
 impl<A: Atomicity> Tracks<Tendril<UTF8, A>> for Rope<A> {
     ghost use Rattle.rope_text.specs.Sink.{HasCharacters, goes_on_by};
 

@@ -1,4 +1,4 @@
-//! Ropes that are cut in two.
+//! Splits of ropes.
 ghost use Rattle.std.specs.Prelude.{◌≡◌, ◌<◌, ◌≤◌, ◌+◌, [], length, take, drop, IsUtf8};
 ghost use Rattle.std.specs.Str.{IsCharBoundary};
 ghost use Rattle.std.specs.VecDeque.{deque_capacity, deque_len};
@@ -15,9 +15,19 @@ use tendril_text::fmt::UTF8;
 use tendril_text::{Atomicity, StrTendril, SubtendrilError, Tendril};
 
 impl<A: Atomicity> Rope<A> {
-    /// Takes the first `count` bytes out as a rope, where there are so many and they are UTF-8. Whole pieces move, and
-    /// share nothing new; where one is cut, both ropes share its bytes. Takes time for the pieces that move, and
-    /// logarithmic time to find the last.
+    /// Removes the first `count` bytes and returns them as a rope, if they are there and UTF-8.
+    ///
+    /// Returns `OutOfBounds` if the rope has fewer, else `ValidationFailed` if the split cuts a character, else `Memory` if an
+    /// allocation fails, or `Count` if the block of the piece that is cut has as many references as it can have; then nothing has
+    /// changed. Whole pieces move; a piece of more than 8 bytes that is cut is shared. Takes logarithmic time to find the last
+    /// piece, and constant time for each piece that moves.
+    ///
+    /// ```
+    /// let mut rope = Rope::new(alloc);
+    /// rope.push_tendril(StrTendril::from_slice(alloc, "one, two")?)?;
+    /// assert_eq!(rt; rope.try_split_to(5)?.to_tendril()?.as_str(), "one, ");
+    /// assert_eq!(rt; rope.to_tendril()?.as_str(), "two");
+    /// ```
     pub fn try_split_to(&mut self, count: u64) -> Result<Self, Refusal>
         ensures { SplitsOff count self.old result self.new }
     {
@@ -34,7 +44,7 @@ impl<A: Atomicity> Rope<A> {
         self.split_to(whole, within, count)
     }
 
-    // Takes the first bytes out, which may be cut off: so many pieces, and so many bytes of the next.
+    // Removes the first bytes, at the end of which a character ends: `whole` pieces, and `within` bytes of the next.
     fn split_to(&mut self, whole: usize, within: u32, count: u64) -> Result<Self, Refusal>
         requires some { 0 < count }
         requires there { count ≤ length self.old.bytes }
@@ -81,7 +91,7 @@ impl<A: Atomicity> Rope<A> {
         })
     }
 
-    // How many pieces end before a place, and how many bytes of the next stand before it.
+    // How many pieces end at or before an offset, and how many bytes of the next are before it.
     fn place_of_cut(&self, at: u64) -> (usize, u32)
         requires { at ≤ length self.now.bytes }
         ensures piece { result.0 ≤ length self.now.pieces }
@@ -96,7 +106,7 @@ impl<A: Atomicity> Rope<A> {
     }
 }
 
-// The first bytes of the piece of a number, or no bytes behind the last piece.
+// The first bytes of the piece of an index, or no bytes after the last piece.
 fn front_at<A: Atomicity>(
     alloc: Global,
     pieces: &VecDeque<Tendril<UTF8, A>>,
@@ -113,7 +123,7 @@ fn front_at<A: Atomicity>(
     }
 }
 
-// Moves the first so many of a list to an empty one, which has room for them.
+// Moves the first `count` items of a list to an empty one, which has the capacity for them.
 fn move_front<T>(from: &mut VecDeque<T>, to: &mut VecDeque<T>, count: usize)
     requires there { count ≤ deque_len from.old }
     requires room { count ≤ deque_capacity to.old }

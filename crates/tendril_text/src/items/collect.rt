@@ -1,4 +1,4 @@
-//! Texts that grow by std's `extend`, and that `collect` makes.
+//! std's `extend` and `collect` for texts.
 
 use crate::items::pushable::Pushable;
 use crate::tendril::Tendril;
@@ -6,9 +6,15 @@ use std::alloc::{AllocError, Global};
 use tendril_block::Atomicity;
 use tendril_fmt::fmt::Format;
 
-/// Pushes the items until one is refused. Those before it stay.
+/// `extend` appends the items up to the first whose push returns an error. The items before it stay appended.
 ///
-/// Every refusal is `AllocError`. `extend_chars` and its kin say which it was.
+/// Every error is `AllocError`; `extend_chars` and the other `extend_` calls say which it was.
+///
+/// ```
+/// let mut text = StrTendril::from_slice(alloc, "a")?;
+/// text.extend(['b', 'c'])?;
+/// assert_eq!(rt; text.as_str(), "abc");
+/// ```
 impl<F: Format, A: Atomicity, P: Pushable<F, A>> Extend<P> for Tendril<F, A> {
     ghost use Rattle.std.specs.Prelude.{◌≡◌};
     ghost use Rattle.tendril_text.specs.Items.{joined};
@@ -20,7 +26,9 @@ impl<F: Format, A: Atomicity, P: Pushable<F, A>> Extend<P> for Tendril<F, A> {
     }
 }
 
-/// The items joined. Every refusal is `AllocError`; `from_chars` and its kin say which it was.
+/// `collect` returns a text of the items, joined in order.
+///
+/// Every error is `AllocError`; `from_chars` and the other `from_` calls say which it was.
 impl<F: Format, A: Atomicity, P: Pushable<F, A>> FromIterator<P> for Tendril<F, A> {
     ghost use Rattle.std.specs.Prelude.{◌≡◌, []};
     ghost use Rattle.tendril_text.specs.Items.{joined};

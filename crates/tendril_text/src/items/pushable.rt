@@ -1,11 +1,11 @@
-//! What can be put at the end of a text as one of its items.
+//! Items that can be appended to a text.
 
 use crate::tendril::Tendril;
 use std::slice;
 use tendril_block::{Atomicity, MAX_LEN, Refusal};
 use tendril_fmt::fmt::{Bytes, Format, UTF8};
 
-/// An item that a text of the format `F` takes whole.
+/// An item that is appended to a text of the format `F` as a whole.
 pub(crate) trait Pushable<F: Format, A: Atomicity>: Drop {
     ghost use Rattle.std.specs.Prelude.{ℕ, List};
     ghost use Rattle.tendril_text.specs.Pushes.{Joins};
@@ -13,7 +13,7 @@ pub(crate) trait Pushable<F: Format, A: Atomicity>: Drop {
     /// The bytes of the item.
     ghost bytes: { Self → List ℕ };
 
-    /// Puts the bytes at the end by the format's join.
+    /// Appends the bytes by the format's join.
     fn push_to(self, text: &mut Tendril<F, A>) -> Result<(), Refusal>
         ensures { Joins F.join (bytes self) text.old result text.new };
 }

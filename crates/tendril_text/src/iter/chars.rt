@@ -8,7 +8,7 @@ use std::iter::FusedIterator;
 use tendril_block::Atomicity;
 use tendril_fmt::fmt::CharFormat;
 
-/// The characters of a text, from the front on. Takes no memory.
+/// The characters of a text, in order. Allocates nothing.
 #[derive(Drop)]
 pub struct IntoChars<F: CharFormat, A: Atomicity> {
     /// What is left of the text.
@@ -31,7 +31,14 @@ impl<F: CharFormat, A: Atomicity> Iterator for IntoChars<F, A> {
 impl<F: CharFormat, A: Atomicity> FusedIterator for IntoChars<F, A> {}
 
 impl<F: CharFormat, A: Atomicity> Tendril<F, A> {
-    /// The characters of the text, for a `for`.
+    /// Returns an iterator of the text's characters, in order. It owns the text and allocates nothing.
+    ///
+    /// ```
+    /// let mut characters = StrTendril::from_slice(alloc, "aé")?.into_chars();
+    /// assert_eq!(rt; characters.next(), Some('a'));
+    /// assert_eq!(rt; characters.next(), Some('é'));
+    /// assert_eq!(rt; characters.next(), None);
+    /// ```
     pub fn into_chars(self) -> IntoChars<F, A>
         ensures { result.rest ≡ self }
     {

@@ -1,4 +1,4 @@
-//! The parts of a text between the characters of a set, and these characters, one by one.
+//! The characters of a set in a text and what is between them, one by one.
 ghost use Rattle.std.specs.Prelude.{◌≡◌, false};
 ghost use Rattle.std.specs.Iterator.{at_most};
 ghost use Rattle.tendril_text.specs.Iterators.{NextPart, parts_left};
@@ -10,10 +10,10 @@ use crate::tendril::Tendril;
 use tendril_block::{Atomicity, Refusal};
 use tendril_fmt::fmt::{CharFormat, CutsAtAscii};
 
-/// The characters of a set by themselves and what lies between them, up to the first part that is refused.
+/// The characters of a set and what is between them, in order, up to the first error.
 #[derive(Drop)]
 pub struct SplitAtAny<'s, F: CharFormat, A: Atomicity> {
-    /// What is left of the text. A part that is refused stays here.
+    /// What is left of the text. A part that is returned as an error is still in it.
     pub rest: Tendril<F, A>,
     set: &'s ByteSet,
     is_refused: bool,
@@ -43,7 +43,20 @@ impl<'s, F: CharFormat + CutsAtAscii, A: Atomicity> Iterator for SplitAtAny<'s, 
 }
 
 impl<F: CharFormat, A: Atomicity> Tendril<F, A> {
-    /// The characters of the set by themselves and what lies between them, for a `for`, each as `pop_except_from` takes it.
+    /// Returns an iterator of the characters of the set and of the texts between them, each as `pop_except_from` returns it. It
+    /// owns the text.
+    ///
+    /// Allocates nothing: texts of more than 8 bytes share the block. An item is `Count` only where the text and what follows it
+    /// both have more than 8 bytes and the block as many references as it can have; no item follows it, and the text that is
+    /// left is in `rest`.
+    ///
+    /// ```
+    /// let set = ByteSet::new(b",");
+    /// let mut parts = StrTendril::from_slice(alloc, "one,two")?.split_at_any(&set);
+    /// assert_eq!(rt; matches!(parts.next().transpose()?, Some(SetResult::NotFromSet(_))), true);
+    /// assert_eq!(rt; matches!(parts.next().transpose()?, Some(SetResult::FromSet(','))), true);
+    /// assert_eq!(rt; parts.rest.as_str(), "two");
+    /// ```
     pub fn split_at_any<'s>(self, set: &'s ByteSet) -> SplitAtAny<'s, F, A>
         ensures rest { result.rest ≡ self }
         ensures set { result.set.now ≡ set.now }

@@ -7,10 +7,10 @@ use crate::tendril::Tendril;
 use tendril_block::{Atomicity, Refusal};
 use tendril_fmt::fmt::CharFormat;
 
-/// The runs of characters of one class, each with its class, up to the first that is refused.
+/// The runs of characters of one class, each with its class, up to the first error.
 #[derive(Drop)]
 pub struct IntoCharRuns<F: CharFormat, A: Atomicity, C: Drop> {
-    /// What is left of the text. A run that is refused stays here.
+    /// What is left of the text. A run that is returned as an error is still in it.
     pub rest: Tendril<F, A>,
     classify: C,
     is_refused: bool,
@@ -43,7 +43,21 @@ impl<F: CharFormat, A: Atomicity, C: FnMut(char) -> R, R: PartialEq + Drop> Iter
 }
 
 impl<F: CharFormat, A: Atomicity> Tendril<F, A> {
-    /// The runs of characters of one class, for a `for`, each as `pop_front_char_run` takes it.
+    /// Returns an iterator of the runs of characters of one class, each with its class as `pop_front_char_run` returns it. It
+    /// owns the text.
+    ///
+    /// Allocates nothing: runs of more than 8 bytes share the block. An item is `Count` only where the run and what follows it
+    /// both have more than 8 bytes and the block as many references as it can have; no item follows it, and the text that is
+    /// left is in `rest`.
+    ///
+    /// ```
+    /// let mut words = 0;
+    /// for run in StrTendril::from_slice(alloc, "two words")?.into_char_runs(char::is_whitespace) {
+    ///     let (_, is_space) = run?;
+    ///     words += if is_space { 0 } else { 1 };
+    /// }
+    /// assert_eq!(rt; words, 2);
+    /// ```
     pub fn into_char_runs<C: Drop>(self, classify: C) -> IntoCharRuns<F, A, C>
         ensures rest { result.rest ≡ self }
         ensures classify { result.classify ≡ classify }

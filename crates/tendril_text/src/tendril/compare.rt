@@ -1,4 +1,4 @@
-//! Texts compared and hashed by their bytes, whatever was copied for them and whatever they share.
+//! Comparison and hashing of texts, by their bytes alone: `copied` and what is shared don't count.
 ghost use Rattle.std.specs.Prelude.{◌≡◌, ◌↔◌, IsTrue, Some, refl};
 ghost use Rattle.std.specs.Cmp.{partial_equiv_from_equiv, on_per, on_equiv, on_po, on_total};
 ghost use Rattle.std.specs.Cmp.Lexicographic.{bytes_decides, nat_list_eq_equiv, nat_list_cmp_total, texts_po, texts_ties};
@@ -11,6 +11,12 @@ use std::hash::{Hash, Hasher};
 use tendril_block::Atomicity;
 use tendril_fmt::fmt::{ASCII, Bytes, Format, UTF8};
 
+/// Two texts are equal if their bytes are.
+///
+/// ```
+/// let text = StrTendril::from_slice(alloc, "abc")?;
+/// assert_eq!(rt; text == text.clone()?, true);
+/// ```
 impl<F: Format, A: Atomicity> PartialEq for Tendril<F, A> {
     ghost eq = { have_equal_bytes };
 
@@ -25,6 +31,7 @@ impl<F: Format, A: Atomicity> Eq for Tendril<F, A> {
     ghost laws = { on_equiv (λ t. t.bytes) nat_list_eq_equiv };
 }
 
+/// Hashes the number of bytes and then the bytes, in one pass.
 impl<F: Format, A: Atomicity> Hash for Tendril<F, A> {
     ghost hash_input = { λ t. hashed_bytes t.bytes };
 
@@ -33,7 +40,7 @@ impl<F: Format, A: Atomicity> Hash for Tendril<F, A> {
     fn hash<H: Hasher>(&self, state: &mut H) {
         let bytes = self.as_byte_slice();
         state.write_usize(bytes.len());
-        // In one write: a write for each byte would take the hasher a multiplication each.
+        // In one write: with a write for each byte the hasher would multiply once for each.
         state.write(bytes);
     }
 }
@@ -48,6 +55,12 @@ impl<A: Atomicity> PartialOrd for Tendril<UTF8, A> {
     }
 }
 
+/// Texts are ordered as strings are: byte by byte, which in UTF-8 is the order of the code points.
+///
+/// ```
+/// let text = StrTendril::from_slice(alloc, "abc")?;
+/// assert_eq!(rt; text < StrTendril::from_slice(alloc, "b")?, true);
+/// ```
 impl<A: Atomicity> Ord for Tendril<UTF8, A> {
     ghost cmp = { bytes_order };
 
@@ -72,6 +85,7 @@ impl<A: Atomicity> PartialOrd for Tendril<Bytes, A> {
     }
 }
 
+/// Texts are ordered byte by byte, as slices are.
 impl<A: Atomicity> Ord for Tendril<Bytes, A> {
     ghost cmp = { bytes_order };
 
@@ -87,7 +101,12 @@ impl<A: Atomicity> Ord for Tendril<Bytes, A> {
 }
 
 impl<A: Atomicity> Tendril<UTF8, A> {
-    /// Whether the text is this string.
+    /// Whether the text equals the string. One pass to the first difference.
+    ///
+    /// ```
+    /// let text = StrTendril::from_slice(alloc, "abc")?;
+    /// assert_eq!(rt; text.eq_str("abc"), true);
+    /// ```
     pub fn eq_str(&self, text: &str) -> bool
         ensures { IsTrue result ↔ (self.now.bytes ≡ text.now) }
     {
@@ -96,7 +115,12 @@ impl<A: Atomicity> Tendril<UTF8, A> {
 }
 
 impl<A: Atomicity> Tendril<ASCII, A> {
-    /// Whether the text is this string.
+    /// Whether the text equals the string. One pass to the first difference.
+    ///
+    /// ```
+    /// let text = Tendril::<ASCII>::try_from_byte_slice(alloc, b"abc")?;
+    /// assert_eq!(rt; text.eq_str("abc"), true);
+    /// ```
     pub fn eq_str(&self, text: &str) -> bool
         ensures { IsTrue result ↔ (self.now.bytes ≡ text.now) }
     {

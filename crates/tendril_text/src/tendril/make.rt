@@ -1,4 +1,4 @@
-//! Texts that are made: empty ones, and copies of bytes, strings and other texts.
+//! Constructors: empty texts, and copies of bytes, strings and other texts.
 ghost use Rattle.std.specs.Prelude.{◌≡◌, ◌<◌, ◌≤◌, [], length, string_bytes};
 ghost use Rattle.tendril_text.specs.Making.{IsTextOf, MakesText, MakesValidText};
 ghost use Rattle.tendril_text.specs.Parts.{Clones};
@@ -8,12 +8,17 @@ use crate::tendril::{ByteTendril, StrTendril, Tendril};
 use std::alloc::{AllocError, Global};
 use std::default::MadeWith;
 use std::marker::PhantomData;
-use tendril_block::{Atomicity, MAX_LEN, Refusal};
+use tendril_block::{Atomicity, INLINE_LEN, MAX_LEN, Refusal};
 use tendril_fmt::fmt::{Bytes, Format, UTF8};
 use tendril_storage::Storage;
 
 impl<F: Format, A: Atomicity> Tendril<F, A> {
-    /// The empty text. Takes no memory.
+    /// Returns the empty text. Allocates nothing.
+    ///
+    /// ```
+    /// let text = StrTendril::new(alloc);
+    /// assert_eq!(rt; text.as_str(), "");
+    /// ```
     pub fn new(alloc: Global) -> Self
         ensures bytes { result.bytes ≡ [] }
         ensures copied { result.copied ≡ 0 }
@@ -24,7 +29,15 @@ impl<F: Format, A: Atomicity> Tendril<F, A> {
         }
     }
 
-    /// The empty text, with room for so many bytes.
+    /// Returns the empty text, with capacity for `capacity` bytes.
+    ///
+    /// Returns `Memory` if the allocation fails. Up to 8 bytes it allocates nothing.
+    ///
+    /// ```
+    /// let mut text = StrTendril::with_capacity(alloc, 100)?;
+    /// text.push_slice("the first push allocates nothing")?;
+    /// assert_eq!(rt; text.len32(), 32);
+    /// ```
     pub fn with_capacity(alloc: Global, capacity: u32) -> Result<Self, Refusal>
         ensures { Gives NoneMust (MemoryMay capacity) (IsTextOf []) result }
     {
@@ -34,7 +47,16 @@ impl<F: Format, A: Atomicity> Tendril<F, A> {
         })
     }
 
-    /// A text of these bytes, where they are valid in the format.
+    /// Returns a text with a copy of the bytes if they are valid in the format.
+    ///
+    /// Returns `Invalid` if they aren't, else `TooLong` if there are more than 4294967295, else `Memory` if an allocation fails.
+    /// Validates and copies in one pass each, and allocates only for more than 8 bytes.
+    ///
+    /// ```
+    /// let text = StrTendril::try_from_byte_slice(alloc, b"abc")?;
+    /// assert_eq!(rt; text.as_str(), "abc");
+    /// assert_eq!(rt; StrTendril::try_from_byte_slice(alloc, b"\xFF").err(), Some(Refusal::Invalid));
+    /// ```
     pub fn try_from_byte_slice(alloc: Global, bytes: &[u8]) -> Result<Self, Refusal>
         ensures { MakesValidText F.valid bytes.now result }
     {
@@ -44,7 +66,9 @@ impl<F: Format, A: Atomicity> Tendril<F, A> {
         Self::from_byte_slice_without_validating(alloc, bytes)
     }
 
-    /// A text of these bytes, which are valid in the format.
+    /// Returns a text with a copy of the bytes, which the caller proves to be valid in the format.
+    ///
+    /// Returns `TooLong` if there are more than 4294967295, else `Memory` if an allocation fails.
     pub fn from_byte_slice_without_validating(alloc: Global, bytes: &[u8]) -> Result<Self, Refusal>
         requires { F.valid bytes.now }
         ensures { MakesText bytes.now result }
@@ -58,17 +82,26 @@ impl<F: Format, A: Atomicity> Tendril<F, A> {
         })
     }
 
-    /// The same text once more, which shares the bytes of a long one.
+    /// Returns another text with the same bytes. More than 8 bytes are shared, not copied.
+    ///
+    /// Takes constant time and allocates nothing. Returns `Count` if the block has as many references as it can have, which is
+    /// possible only for more than 8 bytes.
+    ///
+    /// ```
+    /// let text = StrTendril::from_slice(alloc, "shared by both")?;
+    /// let copy = text.clone()?;
+    /// assert_eq!(rt; copy.as_str(), "shared by both");
+    /// ```
     pub fn clone(&self) -> Result<Self, Refusal>
         ensures { Clones self.now.bytes result }
     {
         share(&self.storage)
     }
 
-    // A text of at most 8 bytes, with the allocator of this one.
+    // Returns a text of at most 8 bytes, with this text's allocator.
     #[inline(always)]
     pub(crate) fn short(&self, text: &str) -> Tendril<UTF8, A>
-        requires { length text.now ≤ 8 }
+        requires { length text.now ≤ INLINE_LEN }
         ensures bytes { result.bytes ≡ text.now }
         ensures copied { result.copied ≡ length text.now }
     {
@@ -76,7 +109,7 @@ impl<F: Format, A: Atomicity> Tendril<F, A> {
     }
 }
 
-/// `Tendril::clone` for derives and generic code, which call std's `Clone`. A full count is std's error, as it is of an `Rc`.
+/// `Tendril::clone` for derives and generic code, which call std's `Clone`. `Count` is std's error, as for an `Rc`.
 impl<F: Format, A: Atomicity> Clone for Tendril<F, A> {
     ghost use Rattle.tendril_text.specs.Parts.{IsShareOf};
 
@@ -99,7 +132,15 @@ impl<F: Format, A: Atomicity> MadeWith<Global> for Tendril<F, A> {
 }
 
 impl<A: Atomicity> Tendril<Bytes, A> {
-    /// A text of these bytes.
+    /// Returns a text with a copy of the bytes.
+    ///
+    /// Returns `TooLong` if there are more than 4294967295, else `Memory` if an allocation fails. Allocates only for more than
+    /// 8 bytes.
+    ///
+    /// ```
+    /// let text = ByteTendril::from_slice(alloc, b"\xFF\x00")?;
+    /// assert_eq!(rt; text.as_byte_slice(), b"\xFF\x00".as_slice());
+    /// ```
     pub fn from_slice(alloc: Global, bytes: &[u8]) -> Result<Self, Refusal>
         ensures { MakesText bytes.now result }
     {
@@ -108,17 +149,32 @@ impl<A: Atomicity> Tendril<Bytes, A> {
 }
 
 impl<A: Atomicity> Tendril<UTF8, A> {
-    /// A text of this string.
+    /// Returns a text with a copy of the string.
+    ///
+    /// Returns `TooLong` if it has more than 4294967295 bytes, else `Memory` if an allocation fails. Allocates only for more
+    /// than 8 bytes.
+    ///
+    /// ```
+    /// let text = StrTendril::from_slice(alloc, "a copy of the string")?;
+    /// assert_eq!(rt; text.as_str(), "a copy of the string");
+    /// ```
     pub fn from_slice(alloc: Global, text: &str) -> Result<Self, Refusal>
         ensures { MakesText text.now result }
     {
         Self::from_byte_slice_without_validating(alloc, text.as_bytes())
     }
 
-    /// A text of at most 8 bytes. Never allocates; of a literal it is one word.
+    /// Returns a text with a copy of a string of at most 8 bytes, and can't fail.
+    ///
+    /// Allocates nothing. Called with a literal it compiles to a constant of one word.
+    ///
+    /// ```
+    /// let text = StrTendril::from_short_str(alloc, "script");
+    /// assert_eq!(rt; text.as_str(), "script");
+    /// ```
     #[inline(always)]
     pub fn from_short_str(alloc: Global, text: &str) -> Self
-        requires { length text.now ≤ 8 }
+        requires { length text.now ≤ INLINE_LEN }
         ensures bytes { result.bytes ≡ text.now }
         ensures copied { result.copied ≡ length text.now }
     {
@@ -128,8 +184,16 @@ impl<A: Atomicity> Tendril<UTF8, A> {
         }
     }
 
-    /// The text of a string that is handed over. The bytes of a long one stay where they are, and so does the room
-    /// behind them.
+    /// Turns a `String` into a text. More than 8 bytes aren't copied: the text keeps the string's allocation and its capacity.
+    ///
+    /// Takes constant time, and allocates only the block's header. Returns `TooLong` if the string has more than 4294967295
+    /// bytes, else `Memory` if that allocation fails.
+    ///
+    /// ```
+    /// let string = String::from_str(alloc, "not copied again")?;
+    /// let text = StrTendril::from_string(alloc, string)?;
+    /// assert_eq!(rt; text.as_str(), "not copied again");
+    /// ```
     pub fn from_string(alloc: Global, string: String) -> Result<Self, Refusal>
         ensures { MakesText (string_bytes string) result }
     {
@@ -142,7 +206,14 @@ impl<A: Atomicity> Tendril<UTF8, A> {
         })
     }
 
-    /// The text of a string that is lent, as `from_slice` makes it.
+    /// Returns a text with a copy of the string, as `from_slice` does.
+    ///
+    /// Returns `TooLong` if it has more than 4294967295 bytes, else `Memory` if an allocation fails.
+    ///
+    /// ```
+    /// let text = StrTendril::from_str(alloc, "abc")?;
+    /// assert_eq!(rt; text.as_str(), "abc");
+    /// ```
     pub fn from_str(alloc: Global, text: &str) -> Result<Self, Refusal>
         ensures { MakesText text.now result }
     {
@@ -150,21 +221,35 @@ impl<A: Atomicity> Tendril<UTF8, A> {
     }
 }
 
-/// A text of a string, over `NonAtomic` blocks.
+/// Returns a text in UTF-8 with a copy of the string, over `NonAtomic` blocks.
+///
+/// Returns `TooLong` if it has more than 4294967295 bytes, else `Memory` if an allocation fails.
+///
+/// ```
+/// let text = str_to_tendril(alloc, "abc")?;
+/// assert_eq!(rt; text.as_str(), "abc");
+/// ```
 pub fn str_to_tendril(alloc: Global, text: &str) -> Result<StrTendril, Refusal>
     ensures { MakesText text.now result }
 {
     StrTendril::from_slice(alloc, text)
 }
 
-/// A text of bytes, over `NonAtomic` blocks.
+/// Returns a text of any bytes with a copy of these, over `NonAtomic` blocks.
+///
+/// Returns `TooLong` if there are more than 4294967295, else `Memory` if an allocation fails.
+///
+/// ```
+/// let text = slice_to_tendril(alloc, b"abc")?;
+/// assert_eq!(rt; text.as_byte_slice(), b"abc".as_slice());
+/// ```
 pub fn slice_to_tendril(alloc: Global, bytes: &[u8]) -> Result<ByteTendril, Refusal>
     ensures { MakesText bytes.now result }
 {
     ByteTendril::from_slice(alloc, bytes)
 }
 
-/// A text of stored bytes, which are valid in the format. Long ones are shared.
+/// Returns a text of stored bytes, which are valid in the format. More than 8 bytes are shared.
 pub(crate) fn share<F: Format, A: Atomicity>(storage: &Storage<A>) -> Result<Tendril<F, A>, Refusal>
     requires { F.valid storage.now.bytes }
     ensures { Clones storage.now.bytes result }

@@ -1,4 +1,4 @@
-//! Parts of texts: slices that are given, and pops that leave the rest.
+//! Slices, pops and splits.
 ghost use Rattle.std.specs.Prelude.{◌≡◌, ◌<◌, ◌≤◌, ◌+◌, ◌-◌, ◌↔◌, ◌++◌, [], length, take, drop, IfOk, IsTrue, IsUtf8};
 ghost use Rattle.tendril_storage.specs.Partings.{TakesFew};
 ghost use Rattle.tendril_text.specs.Parts.{Slices, SlicesValid, PopsValid, Splits, SplitsValid};
@@ -7,7 +7,7 @@ use crate::error::SubtendrilError;
 use crate::tendril::Tendril;
 use std::marker::PhantomData;
 use std::mem;
-use tendril_block::{Atomicity, Refusal};
+use tendril_block::{Atomicity, INLINE_LEN, Refusal};
 use tendril_fmt::fmt::{Bytes, Format, UTF8};
 use tendril_storage::Storage;
 
@@ -15,8 +15,17 @@ impl<F: Format, A: Atomicity> Tendril<F, A> {
     ghost use Rattle.tendril_storage.specs.Texts.{Keeps};
     ghost use Rattle.tendril_storage.specs.Partings.{TakesFront};
 
-    /// The part of so many bytes from the offset on, where it is there and valid in the format. A long part shares the
-    /// text's bytes.
+    /// Returns a text of the `count` bytes from `offset` on, if they are there and valid in the format.
+    ///
+    /// Returns `OutOfBounds` if the text ends before, else `ValidationFailed` if the slice isn't valid, else `Count` if it has
+    /// more than 8 bytes and the block as many references as it can have. Takes constant time and allocates nothing: more than
+    /// 8 bytes are shared.
+    ///
+    /// ```
+    /// let text = StrTendril::from_slice(alloc, "a slice shares the block")?;
+    /// assert_eq!(rt; text.try_subtendril(2, 12)?.as_str(), "slice shares");
+    /// assert_eq!(rt; text.try_subtendril(20, 5).err(), Some(SubtendrilError::OutOfBounds));
+    /// ```
     #[inline(always)]
     pub fn try_subtendril(&self, offset: u32, count: u32) -> Result<Self, SubtendrilError>
         ensures { SlicesValid F.valid self.now.bytes offset count result }
@@ -24,7 +33,15 @@ impl<F: Format, A: Atomicity> Tendril<F, A> {
         try_part(&self.storage, offset, count)
     }
 
-    /// The part of so many bytes from the offset on, which is there and valid in the format.
+    /// Returns a text of the `count` bytes from `offset` on, which the caller proves to be there and valid in the format.
+    ///
+    /// Returns `Count` if the slice has more than 8 bytes and the block as many references as it can have. Takes constant time
+    /// and allocates nothing: more than 8 bytes are shared.
+    ///
+    /// ```
+    /// let text = StrTendril::from_slice(alloc, "0123456789")?;
+    /// assert_eq!(rt; text.subtendril(2, 3)?.as_str(), "234");
+    /// ```
     pub fn subtendril(&self, offset: u32, count: u32) -> Result<Self, SubtendrilError>
         requires within { offset + count ≤ length self.now.bytes }
         requires valid { F.valid (take count (drop offset self.now.bytes)) }
@@ -33,7 +50,7 @@ impl<F: Format, A: Atomicity> Tendril<F, A> {
         valid_part(&self.storage, offset, count)
     }
 
-    /// The same as `subtendril`, whose conditions are proved at each call.
+    /// Returns what `subtendril` does: its conditions are proved at each call, so no call is unsafe.
     pub fn unsafe_subtendril(&self, offset: u32, count: u32) -> Result<Self, SubtendrilError>
         requires within { offset + count ≤ length self.now.bytes }
         requires valid { F.valid (take count (drop offset self.now.bytes)) }
@@ -42,7 +59,17 @@ impl<F: Format, A: Atomicity> Tendril<F, A> {
         self.subtendril(offset, count)
     }
 
-    /// Drops the first `count` bytes, where what is left is valid in the format. Takes no memory and adds no holder.
+    /// Drops the first `count` bytes, if they are there and the remainder is valid in the format.
+    ///
+    /// Returns `OutOfBounds` if the text has fewer, else `ValidationFailed` if the remainder isn't valid; then nothing has
+    /// changed. Takes constant time and allocates nothing.
+    ///
+    /// ```
+    /// let mut text = StrTendril::from_slice(alloc, "é!")?;
+    /// assert_eq!(rt; text.try_pop_front(1).err(), Some(SubtendrilError::ValidationFailed));
+    /// text.try_pop_front(2)?;
+    /// assert_eq!(rt; text.as_str(), "!");
+    /// ```
     pub fn try_pop_front(&mut self, count: u32) -> Result<(), SubtendrilError>
         ensures { PopsValid F.valid count (drop count self.old.bytes) self.old result self.new }
     {
@@ -57,7 +84,16 @@ impl<F: Format, A: Atomicity> Tendril<F, A> {
         Ok(())
     }
 
-    /// Drops the last `count` bytes, where what is left is valid in the format. Takes no memory and adds no holder.
+    /// Drops the last `count` bytes, if they are there and the remainder is valid in the format.
+    ///
+    /// Returns `OutOfBounds` if the text has fewer, else `ValidationFailed` if the remainder isn't valid; then nothing has
+    /// changed. Takes constant time and allocates nothing.
+    ///
+    /// ```
+    /// let mut text = StrTendril::from_slice(alloc, "hello!")?;
+    /// text.try_pop_back(1)?;
+    /// assert_eq!(rt; text.as_str(), "hello");
+    /// ```
     pub fn try_pop_back(&mut self, count: u32) -> Result<(), SubtendrilError>
         ensures { let rest = take (length self.old.bytes - count) self.old.bytes in
             PopsValid F.valid count rest self.old result self.new }
@@ -73,7 +109,15 @@ impl<F: Format, A: Atomicity> Tendril<F, A> {
         Ok(())
     }
 
-    /// Drops the first `count` bytes. What is left is valid in the format.
+    /// Drops the first `count` bytes, which the caller proves to be there and to leave a valid text.
+    ///
+    /// Takes constant time and allocates nothing.
+    ///
+    /// ```
+    /// let mut text = StrTendril::from_slice(alloc, "/path")?;
+    /// text.pop_front(1);
+    /// assert_eq!(rt; text.as_str(), "path");
+    /// ```
     pub fn pop_front(&mut self, count: u32)
         requires within { count ≤ length self.old.bytes }
         requires valid { F.valid (drop count self.old.bytes) }
@@ -83,7 +127,15 @@ impl<F: Format, A: Atomicity> Tendril<F, A> {
         self.unsafe_pop_front(count);
     }
 
-    /// Drops the last `count` bytes. What is left is valid in the format.
+    /// Drops the last `count` bytes, which the caller proves to be there and to leave a valid text.
+    ///
+    /// Takes constant time and allocates nothing.
+    ///
+    /// ```
+    /// let mut text = StrTendril::from_slice(alloc, "line\n")?;
+    /// text.pop_back(1);
+    /// assert_eq!(rt; text.as_str(), "line");
+    /// ```
     pub fn pop_back(&mut self, count: u32)
         requires within { count ≤ length self.old.bytes }
         requires valid { F.valid (take (length self.old.bytes - count) self.old.bytes) }
@@ -93,7 +145,7 @@ impl<F: Format, A: Atomicity> Tendril<F, A> {
         self.unsafe_pop_back(count);
     }
 
-    /// The same as `pop_front`, whose conditions are proved at each call.
+    /// Drops the first `count` bytes, as `pop_front` does: its conditions are proved at each call, so no call is unsafe.
     pub fn unsafe_pop_front(&mut self, count: u32)
         requires within { count ≤ length self.old.bytes }
         requires valid { F.valid (drop count self.old.bytes) }
@@ -104,7 +156,7 @@ impl<F: Format, A: Atomicity> Tendril<F, A> {
         self.storage.keep_part(count, rest);
     }
 
-    /// The same as `pop_back`, whose conditions are proved at each call.
+    /// Drops the last `count` bytes, as `pop_back` does: its conditions are proved at each call, so no call is unsafe.
     pub fn unsafe_pop_back(&mut self, count: u32)
         requires within { count ≤ length self.old.bytes }
         requires valid { F.valid (take (length self.old.bytes - count) self.old.bytes) }
@@ -115,8 +167,18 @@ impl<F: Format, A: Atomicity> Tendril<F, A> {
         self.storage.keep_part(0, rest);
     }
 
-    /// Takes the first `count` bytes out of the text, where both parts are valid in the format. Two long parts share the
-    /// text's bytes; where either has at most 8 no holder is added.
+    /// Removes the first `count` bytes and returns them, if they are there and both parts are valid in the format.
+    ///
+    /// Returns `OutOfBounds` if the text has fewer, else `ValidationFailed` if either part isn't valid, else `Count` if both have
+    /// more than 8 bytes and the block as many references as it can have; then nothing has changed. Takes constant time and
+    /// allocates nothing: parts of more than 8 bytes keep sharing the block.
+    ///
+    /// ```
+    /// let mut text = StrTendril::from_slice(alloc, "key=value")?;
+    /// let key = text.try_split_to(3)?;
+    /// assert_eq!(rt; key.as_str(), "key");
+    /// assert_eq!(rt; text.as_str(), "=value");
+    /// ```
     pub fn try_split_to(&mut self, count: u32) -> Result<Self, SubtendrilError>
         ensures parts { SplitsValid F.valid count self.old result self.new }
         ensures joined { IfOk result (λ front. self.old.bytes ≡ front.bytes ++ self.new.bytes) }
@@ -131,7 +193,16 @@ impl<F: Format, A: Atomicity> Tendril<F, A> {
         self.split_to(count)
     }
 
-    /// Takes the first `count` bytes out of the text. Both parts are valid in the format.
+    /// Removes the first `count` bytes and returns them. The caller proves that they are there and that both parts are valid.
+    ///
+    /// Returns `Count` if both have more than 8 bytes and the block as many references as it can have; then nothing has changed.
+    /// Takes constant time and allocates nothing.
+    ///
+    /// ```
+    /// let mut text = StrTendril::from_slice(alloc, "key=value")?;
+    /// let key = text.split_to(3)?;
+    /// assert_eq!(rt; key.as_str(), "key");
+    /// ```
     pub fn split_to(&mut self, count: u32) -> Result<Self, SubtendrilError>
         requires within { count ≤ length self.old.bytes }
         requires front_valid { F.valid (take count self.old.bytes) }
@@ -145,17 +216,23 @@ impl<F: Format, A: Atomicity> Tendril<F, A> {
         }
     }
 
-    /// Takes all of the text, and leaves an empty one. Takes no memory and adds no holder.
+    /// Returns the whole text, and leaves an empty one. Allocates nothing and can't fail.
+    ///
+    /// ```
+    /// let mut text = StrTendril::from_slice(alloc, "taken")?;
+    /// assert_eq!(rt; text.take().as_str(), "taken");
+    /// assert_eq!(rt; text.as_str(), "");
+    /// ```
     pub fn take(&mut self) -> Self
         ensures text { result ≡ self.old }
         ensures empty { self.new.bytes ≡ [] }
-        ensures copied { self.new.copied ≤ 8 }
+        ensures copied { self.new.copied ≤ INLINE_LEN }
     {
         let empty = Tendril::new(self.storage.allocator());
         mem::replace(self, empty)
     }
 
-    // The same as `split_to`, with the refusal's own type.
+    // `split_to`, with `Refusal` as the type of its error.
     pub(crate) fn take_front(&mut self, count: u32) -> Result<Self, Refusal>
         requires within { count ≤ length self.old.bytes }
         requires front_valid { F.valid (take count self.old.bytes) }
@@ -170,8 +247,8 @@ impl<F: Format, A: Atomicity> Tendril<F, A> {
 }
 
 impl<A: Atomicity> Tendril<Bytes, A> {
-    // Takes the first bytes, which are text, out of a long text, and drops the `skip` bytes after them: where they are few, and
-    // many are left then. Else it returns `None`, and nothing is changed.
+    // Removes the first `count` bytes, which are UTF-8, from a long text and returns them, and drops the `skip` bytes after them,
+    // where these are few and many bytes are left. Else it returns `None`, and nothing has changed.
     #[inline(always)]
     pub(crate) fn take_few_text(&mut self, count: u32, skip: u32) -> Option<Tendril<UTF8, A>>
         requires within { count + skip ≤ length self.old.bytes }
@@ -186,7 +263,7 @@ impl<A: Atomicity> Tendril<Bytes, A> {
     }
 }
 
-/// A text of a part of stored bytes, where it is there and valid in the format.
+/// Returns a text of a slice of stored bytes, if it is there and valid in the format.
 #[inline(always)]
 pub(crate) fn try_part<F: Format, A: Atomicity>(
     storage: &Storage<A>,
@@ -206,7 +283,7 @@ pub(crate) fn try_part<F: Format, A: Atomicity>(
     valid_part(storage, offset, count)
 }
 
-// A text of a part that is there and valid in the format.
+// Returns a text of a slice that is there and valid in the format.
 #[inline(always)]
 fn valid_part<F: Format, A: Atomicity>(
     storage: &Storage<A>,
@@ -245,7 +322,7 @@ fn are_parts_valid<F: Format>(bytes: &[u8], count: usize) -> bool
     is_front_valid::<F>(bytes, count) && is_end_valid::<F>(bytes, count)
 }
 
-// Whether the end of valid bytes is valid.
+// Whether a suffix of valid bytes is valid.
 #[inline(always)]
 fn is_end_valid<F: Format>(bytes: &[u8], offset: usize) -> bool
     requires valid { F.valid bytes.now }
@@ -255,7 +332,7 @@ fn is_end_valid<F: Format>(bytes: &[u8], offset: usize) -> bool
     F::validate_suffix(&bytes[offset..])
 }
 
-// Whether the front of valid bytes is valid.
+// Whether a prefix of valid bytes is valid.
 #[inline(always)]
 fn is_front_valid<F: Format>(bytes: &[u8], count: usize) -> bool
     requires valid { F.valid bytes.now }

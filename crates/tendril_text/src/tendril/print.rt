@@ -1,4 +1,4 @@
-//! How texts are printed, and texts that values are printed into.
+//! Printing texts, and printing values into texts.
 ghost use Rattle.std.specs.Prelude.{◌++◌, Some, IfErr, IfSome, OnOk};
 ghost use Rattle.std.specs.Fmt.{styled_text};
 ghost use Rattle.tendril_text.specs.Writes.{IsGrowthRefusal, IsPrinted, Prints, TakesPiece};
@@ -10,6 +10,12 @@ use tendril_block::{Atomicity, Refusal};
 use tendril_fmt::fmt::{Bytes, UTF8};
 use tendril_storage::Storage;
 
+/// Prints the text as a string prints, with its width and fill. Allocates nothing.
+///
+/// ```
+/// let text = StrTendril::from_slice(alloc, "ab")?;
+/// assert_eq!(rt; format_tendril!(in alloc; "{text:>4}|")?.as_str(), "  ab|");
+/// ```
 impl<A: Atomicity> Display for Tendril<UTF8, A> {
     ghost output = { λ t. Some t.bytes };
 
@@ -20,46 +26,66 @@ impl<A: Atomicity> Display for Tendril<UTF8, A> {
     }
 }
 
+/// Prints the format, where the bytes are stored (`inline`, `owned` or `shared`), and the text in quotes.
+///
+/// ```
+/// let text = StrTendril::from_slice(alloc, "foobar")?;
+/// assert_eq!(rt; format_tendril!(in alloc; "{text:?}")?.as_str(), "Tendril<UTF8>(inline: \"foobar\")");
+/// ```
 impl<A: Atomicity> Debug for Tendril<UTF8, A> {
     fn fmt<W: Write>(&self, f: &mut Formatter<W>) -> fmt::Result {
         debug::<UTF8, A, &str, W>(&self.storage, &self.as_str(), f)
     }
 }
 
+/// Prints the format, where the bytes are stored (`inline`, `owned` or `shared`), and the bytes as a slice.
 impl<A: Atomicity> Debug for Tendril<Bytes, A> {
     fn fmt<W: Write>(&self, f: &mut Formatter<W>) -> fmt::Result {
         debug::<Bytes, A, &[u8], W>(&self.storage, &self.as_byte_slice(), f)
     }
 }
 
-/// Prints the format, where the bytes are, and what they are seen as: `Tendril<UTF8>(inline: "foobar")`.
+/// Prints the format, where the bytes are stored, and what they are seen as: `Tendril<UTF8>(inline: "foobar")`.
 pub(crate) fn debug<F: Default + Debug + Drop, A: Atomicity, T: Debug, W: Write>(
     storage: &Storage<A>,
     text: &T,
     f: &mut Formatter<W>,
 ) -> fmt::Result {
     let format = F::default();
-    let standing = storage.standing();
-    write!(f, "Tendril<{format:?}>({standing}: ")?;
+    let kind = storage.storage_kind();
+    write!(f, "Tendril<{format:?}>({kind}: ")?;
     text.fmt(f)?;
     f.write_str(")")
 }
 
 impl<A: Atomicity> Tendril<UTF8, A> {
-    /// The text that a value prints, or why a push of it was refused. Where the value's own `Display` fails without a
-    /// refused push, it is what was printed before.
+    /// Returns the text that a value prints.
     ///
-    /// `print` answers what `Display` did too, and so says exactly when a push is refused.
+    /// Returns `TooLong` if it would have more than 4294967295 bytes, or `Memory` if an allocation fails. Where the value's own
+    /// `Display` fails and no push has, it is the text printed before. `print` returns what `Display` returned too, so its
+    /// contract says exactly when a push fails.
+    ///
+    /// ```
+    /// let text = StrTendril::format(alloc, &42)?;
+    /// assert_eq!(rt; text.as_str(), "42");
+    /// ```
     pub fn format<T: Display>(alloc: Global, value: &T) -> Result<Self, Refusal>
         ensures refusal { IfErr result IsGrowthRefusal }
     {
         Self::print(alloc, value).0
     }
 
-    /// The text that a value prints, or why a push of it was refused, and beside it what its `Display` answered.
+    /// Returns the text that a value prints, and what the value's `Display` returned.
     ///
-    /// A value's `Display` sees no refused push: what it prints after one is dropped. Where it fails of itself, the text
-    /// is what was printed before.
+    /// The first is `TooLong` if the text would have more than 4294967295 bytes, or `Memory` if an allocation fails. A value's
+    /// `Display` doesn't see an error of a push: what it prints afterwards is dropped. Where it fails itself, the text is what
+    /// was printed before.
+    ///
+    /// ```
+    /// let (text, printed) = StrTendril::print(alloc, &42);
+    /// assert_eq!(rt; text?.as_str(), "42");
+    /// assert_eq!(rt; printed.is_ok(), true);
+    /// ```
     pub fn print<T: Display>(alloc: Global, value: &T) -> (Result<Self, Refusal>, fmt::Result)
         ensures whole { OnOk result.1 (IfSome (T.output value.now) (λ bytes. Prints bytes result.0)) }
         ensures refusal { IfErr result.0 IsGrowthRefusal }
@@ -68,13 +94,13 @@ impl<A: Atomicity> Tendril<UTF8, A> {
         let text = match refused {
             None => Ok(text),
             Some(Refusal::TooLong) => Err(Refusal::TooLong),
-            Some(_) => Err(Refusal::Memory), // a push is refused for no other reason
+            Some(_) => Err(Refusal::Memory), // a push of UTF-8 returns no other error
         };
         (text, answered)
     }
 }
 
-// A text that is printed into, and why a push was refused.
+// A text that is printed into, and the first error of its pushes.
 #[derive(Drop)]
 struct Printer<A: Atomicity> {
     text: Tendril<UTF8, A>,
@@ -82,7 +108,7 @@ struct Printer<A: Atomicity> {
 }
 
 impl<A: Atomicity> Printer<A> {
-    // What a value prints, and what its `Display` answered.
+    // Returns what a value prints, and what its `Display` returned.
     fn print_value<T: Display>(alloc: Global, value: &T) -> (Self, fmt::Result)
         ensures { OnOk result.1 (IfSome (T.output value.now)
             (λ bytes. IsPrinted bytes result.0.text.bytes result.0.refused)) }
@@ -95,7 +121,7 @@ impl<A: Atomicity> Printer<A> {
         (formatter.into_inner(), printed)
     }
 
-    // Pushes a piece, or keeps why that is refused. Once a push was refused, nothing changes.
+    // Pushes a piece, or keeps the error of that push. Nothing changes after a push has failed.
     fn push(&mut self, piece: &str)
         ensures { TakesPiece self.old.text.bytes self.old.refused piece.now self.new.text.bytes self.new.refused }
     {
@@ -105,8 +131,8 @@ impl<A: Atomicity> Printer<A> {
     }
 }
 
-// Every piece is accepted. So a `Display` that answers Ok has written its whole text, and what is known of all calls says
-// where in it a push was refused.
+// Every piece is accepted. So a `Display` that returns Ok has written its whole text, and the contract of all calls says
+// at which of its pieces a push failed.
 impl<A: Atomicity> fmt::Write for Printer<A> {
     ghost write_str_gives = { λ p piece q. TakesPiece p.text.bytes p.refused piece q.text.bytes q.refused };
 

@@ -1,20 +1,28 @@
-//! Texts that grow, and texts that become empty.
+//! Pushes, `reserve` and `clear`.
 ghost use Rattle.std.specs.Prelude.{◌≡◌, ◌≤◌, ◌+◌, ◌++◌, [], true, false, length};
 ghost use Rattle.tendril_text.specs.Pushes.{Joins, JoinsValid, PushesZeros, Reserves};
 
 use crate::tendril::Tendril;
-use tendril_block::{Atomicity, MAX_LEN, Refusal};
+use tendril_block::{Atomicity, INLINE_LEN, MAX_LEN, Refusal};
 use tendril_fmt::fmt::{Bytes, Format, UTF8};
 
-/// A text of so many bytes may stand inline, and is copied.
-const SHORT: usize = 8;
-
 impl<F: Format, A: Atomicity> Tendril<F, A> {
-    /// Puts bytes at the end by the format's join, where they are valid by themselves.
+    /// Appends bytes by the format's join if they are valid by themselves.
     ///
-    /// The bytes of a text that has its block for itself stay where they are, or are moved to the front of the block where
-    /// far more bytes were popped off there. Else the text is copied into a new block first. n pushes of one byte take
-    /// O(n) time, and so do n pushes and pops in turn.
+    /// Returns `Invalid` if they aren't, else `TooLong` if the text would have more than 4294967295 bytes, else `Memory` if an
+    /// allocation fails; then nothing has changed. In most formats the join is concatenation. In WTF-8 a trail surrogate that
+    /// follows a lead becomes one character with it (the WTF-8 specification, 'Concatenating').
+    ///
+    /// A text that is its block's only reference grows in place; where far more bytes were popped off its start than are left, it
+    /// moves to the start of the block. Any other text is copied to a new block first. n pushes of one byte take O(n) time, and
+    /// so do n pushes and pops in turn.
+    ///
+    /// ```
+    /// let mut text = StrTendril::from_slice(alloc, "a")?;
+    /// text.try_push_bytes("é".as_bytes())?;
+    /// assert_eq!(rt; text.as_str(), "aé");
+    /// assert_eq!(rt; text.try_push_bytes(b"\xC3").err(), Some(Refusal::Invalid));
+    /// ```
     pub fn try_push_bytes(&mut self, more: &[u8]) -> Result<(), Refusal>
         ensures { JoinsValid F.valid F.join more.now self.old result self.new }
     {
@@ -24,7 +32,10 @@ impl<F: Format, A: Atomicity> Tendril<F, A> {
         self.push_bytes_without_validating(more)
     }
 
-    /// Puts bytes at the end by the format's join, where they are known to be valid by themselves.
+    /// Appends bytes by the format's join, which the caller proves to be valid by themselves.
+    ///
+    /// Returns `TooLong` if the text would have more than 4294967295 bytes, else `Memory` if an allocation fails; then nothing
+    /// has changed. Costs what `try_push_bytes` costs, without the validation.
     pub fn push_bytes_without_validating(&mut self, more: &[u8]) -> Result<(), Refusal>
         requires { F.valid more.now }
         ensures { Joins F.join more.now self.old result self.new }
@@ -42,24 +53,34 @@ impl<F: Format, A: Atomicity> Tendril<F, A> {
         self.storage.replace_end(keep, middle, right)
     }
 
-    /// Puts a text at the end by the format's join, as `try_push_bytes` puts bytes.
+    /// Appends another text by the format's join.
     ///
-    /// Where both texts are marked shared and the other's bytes stand right behind this one's in its block, which is seen
-    /// by comparing them, this text sees them there: no memory is asked for, and nothing is copied.
+    /// Returns `TooLong` if the text would have more than 4294967295 bytes, else `Memory` if an allocation fails; then nothing
+    /// has changed. Where both texts are shared and the other's bytes follow this one's in its block, which is found by
+    /// comparing them, this text is extended over them: it allocates and copies nothing. Else it costs what `try_push_bytes`
+    /// costs, without the validation.
+    ///
+    /// ```
+    /// let mut text = StrTendril::from_slice(alloc, "one, ")?;
+    /// text.push_tendril(&StrTendril::from_slice(alloc, "two")?)?;
+    /// assert_eq!(rt; text.as_str(), "one, two");
+    /// ```
     #[inline(always)]
     pub fn push_tendril(&mut self, other: &Tendril<F, A>) -> Result<(), Refusal>
         ensures { Joins F.join other.now.bytes self.old result self.new }
     {
         let more = other.as_byte_slice();
-        if self.is_shared() && other.is_shared() && self.grows_over(more) {
+        if self.is_shared() && other.is_shared() && self.try_grow_over(more) {
             return Ok(());
         }
         self.push_bytes_without_validating(more)
     }
 
-    // Sees bytes behind the text in its block too, where both are long, they equal `more`, and the join changes neither.
+    // Extends the text over the bytes that follow it in its block, where both texts are long, those bytes equal `more`, and the
+    // join changes neither. The caller calls it only where both texts are shared: a text that isn't is its block's only
+    // reference, so the two can't be neighbours. The comparison reads all bytes, about what a copy costs without its writing.
     #[inline(always)]
-    fn grows_over(&mut self, more: &[u8]) -> bool
+    fn try_grow_over(&mut self, more: &[u8]) -> bool
         requires { F.valid more.now }
         ensures bytes { result ≡ true → self.new.bytes ≡ F.join self.old.bytes more.now }
         ensures fits { result ≡ true → length (F.join self.old.bytes more.now) ≤ length self.old.bytes + length more.now }
@@ -68,8 +89,8 @@ impl<F: Format, A: Atomicity> Tendril<F, A> {
         ensures unchanged { result ≡ false → self.new ≡ self.old }
     {
         let text = self.storage.as_slice();
-        if text.len() <= SHORT
-            || more.len() <= SHORT
+        if text.len() <= INLINE_LEN
+            || more.len() <= INLINE_LEN
             || more.len() > MAX_LEN as usize - text.len()
         {
             return false;
@@ -78,11 +99,19 @@ impl<F: Format, A: Atomicity> Tendril<F, A> {
         if join.drop_left > 0 || join.insert_len > 0 || join.drop_right > 0 {
             return false;
         }
-        self.storage.grows_over(more)
+        self.storage.try_grow_over(more)
     }
 
-    /// Asks for room for so many more bytes at once. Room is what contracts don't see. A text that is marked shared is
-    /// left as it is: its next push may copy it.
+    /// Reserves capacity for `more` further bytes. The text's bytes don't change.
+    ///
+    /// Returns `TooLong` if the text would have more than 4294967295 bytes with them, else `Memory` if an allocation fails. Does
+    /// nothing for a shared text, whose next push may copy it. Contracts don't see capacity.
+    ///
+    /// ```
+    /// let mut text = StrTendril::from_slice(alloc, "abc")?;
+    /// text.reserve(100)?;
+    /// assert_eq!(rt; text.as_str(), "abc");
+    /// ```
     pub fn reserve(&mut self, more: u32) -> Result<(), Refusal>
         ensures { Reserves more self.old result self.new }
     {
@@ -92,7 +121,13 @@ impl<F: Format, A: Atomicity> Tendril<F, A> {
         self.storage.reserve(more as usize)
     }
 
-    /// Makes the text empty. It keeps its block for the next bytes where no other holds it.
+    /// Makes the text empty. It keeps its block for the next bytes if it is the block's only reference.
+    ///
+    /// ```
+    /// let mut text = StrTendril::from_slice(alloc, "a text of 19 bytes.")?;
+    /// text.clear();
+    /// assert_eq!(rt; text.is_empty(), true);
+    /// ```
     pub fn clear(&mut self)
         ensures bytes { self.new.bytes ≡ [] }
         ensures copied { self.new.copied ≤ self.old.copied }
@@ -102,14 +137,32 @@ impl<F: Format, A: Atomicity> Tendril<F, A> {
 }
 
 impl<A: Atomicity> Tendril<Bytes, A> {
-    /// Puts bytes at the end, as `try_push_bytes` does.
+    /// Appends bytes.
+    ///
+    /// Returns `TooLong` if the text would have more than 4294967295 bytes, else `Memory` if an allocation fails; then nothing
+    /// has changed. Grows in place or copies as `try_push_bytes` does.
+    ///
+    /// ```
+    /// let mut text = ByteTendril::from_slice(alloc, b"ab")?;
+    /// text.push_slice(b"\xFF")?;
+    /// assert_eq!(rt; text.as_byte_slice(), b"ab\xFF".as_slice());
+    /// ```
     pub fn push_slice(&mut self, slice: &[u8]) -> Result<(), Refusal>
         ensures { Joins ◌++◌ slice.now self.old result self.new }
     {
         self.push_bytes_without_validating(slice)
     }
 
-    /// Puts so many zeros at the end, to be written over. They are made where they stand.
+    /// Appends `count` zeros, to be written over.
+    ///
+    /// Returns `TooLong` if the text would have more than 4294967295 bytes, else `Memory` if an allocation fails; then nothing
+    /// has changed. The zeros are written in place.
+    ///
+    /// ```
+    /// let mut text = ByteTendril::from_slice(alloc, b"ab")?;
+    /// text.push_uninitialized(2)?;
+    /// assert_eq!(rt; text.as_byte_slice(), b"ab\0\0".as_slice());
+    /// ```
     pub fn push_uninitialized(&mut self, count: u32) -> Result<(), Refusal>
         ensures { PushesZeros count self.old result self.new }
     {
@@ -121,7 +174,16 @@ impl<A: Atomicity> Tendril<Bytes, A> {
 }
 
 impl<A: Atomicity> Tendril<UTF8, A> {
-    /// Puts a string at the end. It isn't validated.
+    /// Appends a string.
+    ///
+    /// Returns `TooLong` if the text would have more than 4294967295 bytes, else `Memory` if an allocation fails; then nothing
+    /// has changed. Grows in place or copies as `try_push_bytes` does, and validates nothing.
+    ///
+    /// ```
+    /// let mut text = StrTendril::from_slice(alloc, "hello, ")?;
+    /// text.push_slice("world")?;
+    /// assert_eq!(rt; text.as_str(), "hello, world");
+    /// ```
     pub fn push_slice(&mut self, more: &str) -> Result<(), Refusal>
         ensures { Joins ◌++◌ more.now self.old result self.new }
     {

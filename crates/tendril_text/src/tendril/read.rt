@@ -1,4 +1,4 @@
-//! What is read of a text.
+//! Calls that read a text.
 ghost use Rattle.std.specs.Prelude.{◌≡◌, ◌≤◌, ◌↔◌, [], length, string_bytes, IfOk, IfErr, IsTrue};
 
 use crate::tendril::Tendril;
@@ -8,34 +8,59 @@ use tendril_block::{Atomicity, MAX_LEN, Refusal};
 use tendril_fmt::fmt::{Bytes, Format, UTF8};
 
 impl<F: Format, A: Atomicity> Tendril<F, A> {
-    /// The number of bytes.
+    /// Returns the number of bytes, which fits in 32 bits.
+    ///
+    /// ```
+    /// assert_eq!(rt; StrTendril::from_slice(alloc, "é")?.len32(), 2);
+    /// ```
     pub fn len32(&self) -> u32
         ensures { result ≡ length self.now.bytes }
     {
         self.storage.len32()
     }
 
-    /// The number of bytes, for what counts by `usize`.
+    /// Returns the number of bytes, as `usize`.
+    ///
+    /// ```
+    /// assert_eq!(rt; StrTendril::from_slice(alloc, "abc")?.len(), 3);
+    /// ```
     pub fn len(&self) -> usize
         ensures { result ≡ length self.now.bytes }
     {
         self.len32() as usize
     }
 
-    /// Whether the text has no byte.
+    /// Whether the text has no bytes.
+    ///
+    /// ```
+    /// assert_eq!(rt; StrTendril::new(alloc).is_empty(), true);
+    /// ```
     pub fn is_empty(&self) -> bool
         ensures { IsTrue result ↔ (self.now.bytes ≡ []) }
     {
         self.len32() == 0
     }
 
-    /// Whether a clone or a long slice of this text was made, or a byte popped from it while it is long, since its bytes
-    /// were last written. An inline text is never shared. No contract speaks of it.
+    /// Whether the text may share its block: whether it was cloned, split, sliced or popped while long since its bytes were last
+    /// written.
+    ///
+    /// A text stored inline is never shared. No contract says when this is true.
+    ///
+    /// ```
+    /// let text = StrTendril::from_slice(alloc, "shared by both")?;
+    /// let _copy = text.clone()?;
+    /// assert_eq!(rt; text.is_shared(), true);
+    /// ```
     pub fn is_shared(&self) -> bool {
         self.storage.is_shared()
     }
 
-    /// The bytes.
+    /// Borrows the text's bytes.
+    ///
+    /// ```
+    /// let text = StrTendril::from_slice(alloc, "é")?;
+    /// assert_eq!(rt; text.as_byte_slice(), b"\xC3\xA9".as_slice());
+    /// ```
     pub fn as_byte_slice(&self) -> &[u8]
         ensures value { result.now ≡ self.now.bytes }
         ensures valid { F.valid self.now.bytes }
@@ -46,7 +71,12 @@ impl<F: Format, A: Atomicity> Tendril<F, A> {
 }
 
 impl<A: Atomicity> Tendril<UTF8, A> {
-    /// The text as a string. It isn't validated.
+    /// Borrows the text as a string. It isn't validated again.
+    ///
+    /// ```
+    /// let text = StrTendril::from_slice(alloc, "abc")?;
+    /// assert_eq!(rt; text.as_str(), "abc");
+    /// ```
     pub fn as_str(&self) -> &str
         ensures value { result.now ≡ self.now.bytes }
         ensures short { length self.now.bytes ≤ MAX_LEN }
@@ -54,7 +84,14 @@ impl<A: Atomicity> Tendril<UTF8, A> {
         unsafe { str::from_utf8_unchecked(self.as_byte_slice()) }
     }
 
-    /// A string of the text's own: one pass to copy the bytes.
+    /// Returns a `String` with a copy of the text, in one pass.
+    ///
+    /// Returns `Memory` if the allocation fails.
+    ///
+    /// ```
+    /// let string = StrTendril::from_slice(alloc, "abc")?.to_string_value()?;
+    /// assert_eq!(rt; string.as_str(), "abc");
+    /// ```
     pub fn to_string_value(&self) -> Result<String, Refusal>
         ensures bytes { IfOk result (λ s. string_bytes s ≡ self.now.bytes) }
         ensures refusal { IfErr result (λ r. r ≡ Refusal.Memory) }

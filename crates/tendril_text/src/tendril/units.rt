@@ -7,12 +7,19 @@ ghost use Rattle.tendril_text.specs.Making.{MakesText};
 use crate::tendril::Tendril;
 use std::alloc::Global;
 use std::marker::PhantomData;
-use tendril_block::{Atomicity, FEW, MAX_LEN, Refusal};
+use tendril_block::{Atomicity, MAX_LEN, NODE_CAPACITY, Refusal};
 use tendril_fmt::fmt::{WTF8, decode_wtf8, encode_wtf8, wtf8_len};
 use tendril_storage::Storage;
 
 impl<A: Atomicity> Tendril<WTF8, A> {
-    /// The text's units, a lone surrogate as itself, in a vector with room for as many as the text has bytes.
+    /// Returns the text's UTF-16 units, a lone surrogate as itself (the WTF-8 specification).
+    ///
+    /// Returns `Memory` if the allocation fails: one of two bytes for each byte of the text. Takes one pass.
+    ///
+    /// ```
+    /// let text = StrTendril::from_slice(alloc, "é😀")?.into_superset::<WTF8>();
+    /// assert_eq!(rt; text.to_units()?.as_slice(), [0xE9, 0xD83D, 0xDE00].as_slice());
+    /// ```
     pub fn to_units(&self) -> Result<Vec<u16>, Refusal>
         ensures units { IfOk result (λ v. v.items ≡ units_of self.now.bytes) }
         ensures refusal { IfErr result (λ r. r ≡ Refusal.Memory) }
@@ -22,8 +29,16 @@ impl<A: Atomicity> Tendril<WTF8, A> {
         Ok(decode_wtf8(bytes, units))
     }
 
-    /// The text of units: a lead and the trail right after it become one character of four bytes, a lone surrogate its
-    /// three bytes. Up to 8 bytes take no memory.
+    /// Returns the text of UTF-16 units in WTF-8: a lead and the trail right after it are one character of four bytes, a lone
+    /// surrogate is three bytes (the WTF-8 specification).
+    ///
+    /// Returns `TooLong` if it would have more than 4294967295 bytes, else `Memory` if an allocation fails. Allocates only for
+    /// more than 8 bytes. Takes one pass to count the bytes and one to write them.
+    ///
+    /// ```
+    /// let text = Tendril::<WTF8>::from_units(alloc, &[0xE9, 0xD83D, 0xDE00])?;
+    /// assert_eq!(rt; text.try_as_subset::<UTF8>()?.as_str(), "é😀");
+    /// ```
     pub fn from_units(alloc: Global, units: &[u16]) -> Result<Self, Refusal>
         ensures { MakesText (wtf8 units.now) result }
     {
@@ -38,7 +53,8 @@ impl<A: Atomicity> Tendril<WTF8, A> {
     }
 }
 
-// The WTF-8 of units, which has so many bytes. Few bytes aren't made twice.
+// Returns the WTF-8 of units, which has `len` bytes. Where that is short it is written to an array and copied from there:
+// it needs no vector.
 fn encoded<A: Atomicity>(alloc: Global, units: &[u16], len: usize) -> Result<Storage<A>, Refusal>
     requires len { len ≡ length (wtf8 units.now) }
     requires fits { len ≤ MAX_LEN }
@@ -46,8 +62,8 @@ fn encoded<A: Atomicity>(alloc: Global, units: &[u16], len: usize) -> Result<Sto
     ensures copied { IfOk result (λ s. s.copied ≡ len) }
     ensures refusal { IfErr result (MemoryMay len) }
 {
-    if len <= FEW {
-        let mut buffer = [0; FEW];
+    if len <= NODE_CAPACITY {
+        let mut buffer = [0; NODE_CAPACITY];
         encode_wtf8(units, &mut buffer[..len]);
         return Storage::from_slice(alloc, &buffer[..len]);
     }

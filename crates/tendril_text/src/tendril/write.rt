@@ -1,4 +1,4 @@
-//! Texts that are written to: over their bytes, or at their end by std's traits.
+//! Writing over a text's bytes, and appending by std's `Write` traits.
 ghost use Rattle.std.specs.Prelude.{◌≡◌, ◌<◌, ◌≤◌, ◌+◌, ◌++◌, ◌↔◌, length, map, max, Some, IfOk, IfErr, IsFalse, OnOk, OnErr, IsOk};
 ghost use Rattle.std.specs.Char.{to_ascii_lowercase};
 ghost use Rattle.std.specs.Fn.{CalledAtMut};
@@ -12,14 +12,21 @@ ghost use Rattle.tendril_storage.specs.Edits.{TakesAtMut};
 use crate::tendril::Tendril;
 use std::io::ErrorKind;
 use std::{fmt, io};
-use tendril_block::{Atomicity, MAX_LEN, Refusal};
+use tendril_block::{Atomicity, INLINE_LEN, MAX_LEN, Refusal};
 use tendril_fmt::fmt::{Bytes, UTF8};
 
 impl<A: Atomicity> Tendril<Bytes, A> {
-    /// Lends the bytes to `edit`, and answers what it answers. What it leaves there are the text's bytes.
+    /// Passes the bytes to `edit`, which may write over them, and returns what it returns.
     ///
-    /// They are written where they stand if no other text has their block; else they alone are copied into a new one
-    /// first, before `edit` sees them. `edit` isn't called where that is refused.
+    /// They are written in place if no other text shares them; else they are copied to a new block before `edit` is called.
+    /// Returns `Memory` if that allocation fails, which is possible only for more than 8 bytes; then `edit` isn't called and
+    /// nothing has changed.
+    ///
+    /// ```
+    /// let mut text = ByteTendril::from_slice(alloc, b"abc")?;
+    /// text.bytes_mut(|bytes| bytes[0] = b'x')?;
+    /// assert_eq!(rt; text.as_byte_slice(), b"xbc".as_slice());
+    /// ```
     pub fn bytes_mut<R, E: FnMut(&mut [u8]) -> R>(&mut self, mut edit: E) -> Result<R, Refusal>
         requires { TakesAtMut E.FnMut edit self.old.bytes }
         ensures bytes { IfOk result (λ r. (last : E) × CalledAtMut E.FnMut edit self.old.bytes r last self.new.bytes) }
@@ -31,7 +38,16 @@ impl<A: Atomicity> Tendril<Bytes, A> {
         self.bytes_mut_with(&mut edit)
     }
 
-    /// Lends the bytes as `bytes_mut` does, to a closure that is lent, so that a caller knows what became of it.
+    /// Passes the bytes to a borrowed closure, as `bytes_mut` does, so that contracts see what became of the closure.
+    ///
+    /// Returns `Memory` if the bytes are shared and the allocation of their copy fails; then `edit` isn't called.
+    ///
+    /// ```
+    /// let mut text = ByteTendril::from_slice(alloc, b"abc")?;
+    /// let mut edit = |bytes: &mut [u8]| bytes.reverse();
+    /// text.bytes_mut_with(&mut edit)?;
+    /// assert_eq!(rt; text.as_byte_slice(), b"cba".as_slice());
+    /// ```
     pub fn bytes_mut_with<R, E: FnMut(&mut [u8]) -> R>(
         &mut self,
         edit: &mut E,
@@ -48,8 +64,16 @@ impl<A: Atomicity> Tendril<Bytes, A> {
 }
 
 impl<A: Atomicity> Tendril<UTF8, A> {
-    /// Makes the capital letters of ASCII small. They are written where they stand if no other text has their block, else
-    /// in a copy; a text that has none is left as it is, and asks for no memory.
+    /// Makes the capital letters of ASCII small.
+    ///
+    /// They are written in place if no other text shares them, else in a copy. Returns `Memory` if that allocation fails; then
+    /// nothing has changed. A text without capital letters stays as it is, and nothing is allocated.
+    ///
+    /// ```
+    /// let mut text = StrTendril::from_slice(alloc, "<DIV É>")?;
+    /// text.make_ascii_lowercase()?;
+    /// assert_eq!(rt; text.as_str(), "<div É>");
+    /// ```
     pub fn make_ascii_lowercase(&mut self) -> Result<(), Refusal>
         ensures outcome { Outcome NoneMust (MemoryMay (length self.old.bytes))
             (λ _ t. t.bytes ≡ map to_ascii_lowercase self.old.bytes) self.old result self.new }
@@ -66,14 +90,20 @@ impl<A: Atomicity> Tendril<UTF8, A> {
     }
 }
 
-// Whether a capital letter of ASCII is among the bytes.
+// Whether one of the bytes is a capital letter of ASCII.
 fn has_capital(bytes: &[u8]) -> bool
     ensures { IsFalse result ↔ (map to_ascii_lowercase bytes.now ≡ bytes.now) }
 {
     bytes.iter().any(|byte| byte.is_ascii_uppercase())
 }
 
-/// A string is put at the end whole, as by `push_slice`, or not at all.
+/// `write_str` appends the whole string, as `push_slice` does, or returns an error and changes nothing.
+///
+/// ```
+/// let mut text = StrTendril::new(alloc);
+/// std::fmt::Write::write_str(&mut text, "written")?;
+/// assert_eq!(rt; text.as_str(), "written");
+/// ```
 impl<A: Atomicity> fmt::Write for Tendril<UTF8, A> {
     ghost write_str_gives = { λ t bytes u. u.bytes ≡ t.bytes ++ bytes };
 
@@ -81,16 +111,22 @@ impl<A: Atomicity> fmt::Write for Tendril<UTF8, A> {
         ensures ok { IsOk result → self.new.bytes ≡ self.old.bytes ++ text.now }
         ensures short { OnOk result (length self.old.bytes + length text.now ≤ MAX_LEN) }
         ensures copied { self.new.copied ≤ max self.old.copied (length self.old.bytes) + length text.now + 4 }
-        ensures refused { OnErr result (8 < length self.old.bytes + length text.now) }
+        ensures refused { OnErr result (INLINE_LEN < length self.old.bytes + length text.now) }
         ensures err { OnErr result (self.new ≡ self.old) }
     {
         self.push_slice(text).map_err(|_| fmt::Error)
     }
 }
 
-/// Bytes are put at the end whole, as by `push_slice`, or not at all.
+/// `write` and `write_all` append all bytes, as `push_slice` does, or return an error and change nothing.
 ///
-/// An error is `FileTooLarge` where the text would be longer than a text can be, else `OutOfMemory`.
+/// The error is `FileTooLarge` if the text would have more than 4294967295 bytes, else `OutOfMemory`.
+///
+/// ```
+/// let mut text = ByteTendril::new(alloc);
+/// std::io::Write::write_all(&mut text, b"written")?;
+/// assert_eq!(rt; text.as_byte_slice(), b"written".as_slice());
+/// ```
 impl<A: Atomicity> io::Write for Tendril<Bytes, A> {
     ghost contents = { λ t. Some t.bytes };
 
@@ -128,7 +164,7 @@ impl<A: Atomicity> io::Write for Tendril<Bytes, A> {
     }
 }
 
-// What a writer says of a refused push.
+// The error of a writer for a push's error.
 fn write_error(refusal: Refusal) -> io::Error
     ensures too_long { refusal ≡ Refusal.TooLong → error_kind result ≡ ErrorKind.FileTooLarge }
     ensures memory { refusal ≡ Refusal.Memory → error_kind result ≡ ErrorKind.OutOfMemory }

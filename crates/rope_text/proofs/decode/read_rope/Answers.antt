@@ -36,6 +36,6 @@ returns-clause-stopped g c = IfErr-weaker c.read_decoded.result _ _ (λ s h. (
       v)
       h.2,
   let d = c.new-decoder.result in
-      stream_stops _ _ (λ d. d.inner_sink) (λ d. d.kept) (λ d. d.failed) _ HasCharacters goes_on_by c.new.result d c.args.most h.0 s.refusal s.sink
+      stream_stops _ _ (λ d. d.inner_sink) (λ d. d.kept) (λ d. d.failed) _ HasCharacters goes_on_by c.new.result d c.args.max_reads h.0 s.refusal s.sink
       c.new-decoder.ensures.sink c.new-decoder.ensures.kept c.new-decoder.ensures.failed (new_has c.new.result c.new.ensures.bytes) h.2,
 )) c.read_decoded.ensures.stopped

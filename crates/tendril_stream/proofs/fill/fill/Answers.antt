@@ -7,11 +7,11 @@ returns-in-Ok-Ok-eq0-clause-read g c =
     let e = c.in-Ok-Ok-eq0.ensures in
     let buffer = drop c.loop-filled.filled c.read_into.new.text.bytes in
     let is : c.in-Ok-Ok-eq0.field-0 ≡ Ok 0 = c.in-Ok-Ok-eq0.field-0-is ∙ ap Ok c.in-Ok-Ok-eq0.field-0-0-test in
-    let left = c.if-made-most.false in
+    let left = c.if-made-max_reads.false in
     let reads = c.loop-filled.invariant.reads in
     let short = c.in_default.ensures.short in
     let room = c.in_default.ensures.room in
-    filled_end g.R.CountedRead.history g.R.CountedRead.remaining c.args.reader.now c.args.text.now.bytes (tt {0}) c.args.most c.loop-filled.made c.loop-filled.filled c.loop-filled.text.bytes c.read_into.new.text.bytes c.loop-filled.reader c.read_into.new.reader
+    filled_end g.R.CountedRead.history g.R.CountedRead.remaining c.args.reader.now c.args.text.now.bytes (tt {0}) c.args.max_reads c.loop-filled.made c.loop-filled.filled c.loop-filled.text.bytes c.read_into.new.text.bytes c.loop-filled.reader c.read_into.new.reader
     c.loop-filled.invariant.filled (e.front ∙ c.in_default.ensures.front) (read_ended g.R.CountedRead.history g.R.CountedRead.remaining c.loop-filled.reader c.read_into.new.reader c.in-Ok-Ok-eq0.field-0 buffer e.history e.consumes is) (omega (arith, left, reads)) (omega (arith, room, short))
 
 pub overflow_cast-filled-in-Ok-Ok : goal.overflow_cast-filled-in-Ok-Ok
@@ -35,7 +35,7 @@ loop-filled-preserved-in-Ok-Ok g c =
     let e = c.in-Ok-Ok.ensures in
     let buffer = drop c.loop-filled.filled c.read_into.new.text.bytes in
     let some = c.in-Ok-Ok.count-test.1 in
-    let left = c.if-made-most.false in
+    let left = c.if-made-max_reads.false in
     let reads = c.loop-filled.invariant.reads in
     record {
       filled = filled_more g.R.CountedRead.history g.R.CountedRead.remaining c.args.reader.now c.args.text.now.bytes c.loop-filled.made c.loop-filled.filled c.in-Ok-Ok.count c.loop-filled.text.bytes c.read_into.new.text.bytes c.loop-filled.reader c.read_into.new.reader
@@ -51,7 +51,7 @@ loop-filled-preserved g c =
     let e = c.in-Ok-Err-Interrupted.ensures in
     let buffer = drop c.loop-filled.filled c.read_into.new.text.bytes in
     let is : c.in-Ok-Err-Interrupted.field-0 ≡ Err c.in-Ok-Err-Interrupted.field-0-0 = c.in-Ok-Err-Interrupted.field-0-is in
-    let left = c.if-made-most.false in
+    let left = c.if-made-max_reads.false in
     let reads = c.loop-filled.invariant.reads in
     let within = c.in_default.ensures.within in
     let len = e.len in
@@ -71,7 +71,7 @@ returns-in-Ok-Err-Failed-clause-read g c =
     let is : c.in-Ok-Err-Failed.field-0 ≡ Err c.in-Ok-Err-Failed.field-0-0 = c.in-Ok-Err-Failed.field-0-is in
     let room = c.in_default.ensures.room in
     let short = c.in_default.ensures.short in
-    let left = c.if-made-most.false in
+    let left = c.if-made-max_reads.false in
     let reads = c.loop-filled.invariant.reads in
-    filled_failed g.R.CountedRead.history g.R.CountedRead.remaining c.args.reader.now c.args.text.now.bytes (Unit {0}) c.args.most c.loop-filled.made c.loop-filled.filled c.loop-filled.text.bytes c.read_into.new.text.bytes c.loop-filled.reader c.read_into.new.reader
+    filled_failed g.R.CountedRead.history g.R.CountedRead.remaining c.args.reader.now c.args.text.now.bytes (Unit {0}) c.args.max_reads c.loop-filled.made c.loop-filled.filled c.loop-filled.text.bytes c.read_into.new.text.bytes c.loop-filled.reader c.read_into.new.reader
     c.loop-filled.invariant.filled (e.front ∙ c.in_default.ensures.front) (read_failed g.R.CountedRead.history g.R.CountedRead.remaining c.loop-filled.reader c.read_into.new.reader c.in-Ok-Err-Failed.field-0 buffer e.history e.consumes (is ∙ ap Err c.in-Ok-Err-Failed.field-0-0-is)) (omega (arith, left, reads)) (omega (arith, room, short))

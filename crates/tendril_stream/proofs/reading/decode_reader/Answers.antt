@@ -35,6 +35,6 @@ returns-clause-stopped g c = IfErr-weaker c.read_decoded.result _ _ (λ s h. (
       v)
       h.2,
   let d = c.new-decoder.result in
-      stream_stops _ _ (λ d. d.inner_sink) (λ d. d.kept) (λ d. d.failed) _ (λ a t. told (sent a.events.items) ≡ t) (λ t a e b is_sent h c. stored_on (sent a.events.items) (sent b.events.items) e t c h) c.new.result d c.args.most h.0 s.refusal s.sink
+      stream_stops _ _ (λ d. d.inner_sink) (λ d. d.kept) (λ d. d.failed) _ (λ a t. told (sent a.events.items) ≡ t) (λ t a e b is_sent h c. stored_on (sent a.events.items) (sent b.events.items) e t c h) c.new.result d c.args.max_reads h.0 s.refusal s.sink
       c.new-decoder.ensures.sink c.new-decoder.ensures.kept c.new-decoder.ensures.failed (ap (λ l. told (sent l)) c.new.ensures) h.2,
 )) c.read_decoded.ensures.stopped

@@ -17,17 +17,17 @@ pub returns-in-Ok-clause-ok : goal.returns-in-Ok-clause-ok
 returns-in-Ok-clause-ok g c =
     let test = c.loop-made-test.true in
     let once = subst (ReadsOnce g.R.CountedRead.history g.R.CountedRead.remaining c.loop-made.reader c.read_once.new.reader c.loop-made.sink c.read_once.new.sink g.S.TendrilSink.takes) c.in-Ok-true.field-0-test c.in-Ok-true.ensures.ok in
-    reads_all g.R.CountedRead.history g.R.CountedRead.remaining g.S.TendrilSink.takes c.args.sink c.args.reader.now g.S.TendrilSink.finishes c.args.most
+    reads_all g.R.CountedRead.history g.R.CountedRead.remaining g.S.TendrilSink.takes c.args.sink c.args.reader.now g.S.TendrilSink.finishes c.args.max_reads
     c.loop-made.made c.loop-made.sink c.read_once.new.sink c.loop-made.reader c.read_once.new.reader c.in-Ok.out c.loop-made.invariant.fed once c.in-Ok.ensures.ok (omega (arith, test))
 
 pub returns-in-Err-finish-clause-stopped : goal.returns-in-Err-finish-clause-stopped
 returns-in-Err-finish-clause-stopped g c =
     let test = c.loop-made-test.true in
     let once = subst (ReadsOnce g.R.CountedRead.history g.R.CountedRead.remaining c.loop-made.reader c.read_once.new.reader c.loop-made.sink c.read_once.new.sink g.S.TendrilSink.takes) c.in-Ok-true.field-0-test c.in-Ok-true.ensures.ok in
-    halts_at_end g.R.CountedRead.history g.R.CountedRead.remaining g.S.TendrilSink.takes c.args.sink c.args.reader.now g.S.TendrilSink.refuses g.S.TendrilSink.ends c.args.most
+    halts_at_end g.R.CountedRead.history g.R.CountedRead.remaining g.S.TendrilSink.takes c.args.sink c.args.reader.now g.S.TendrilSink.refuses g.S.TendrilSink.ends c.args.max_reads
     c.loop-made.made c.loop-made.sink c.read_once.new.sink c.loop-made.reader c.read_once.new.reader c.in-Err-finish.refusal c.loop-made.invariant.fed once c.in-Err-finish.ensures.err (omega (arith, test))
 
 pub returns-in-Err-clause-stopped : goal.returns-in-Err-clause-stopped
 returns-in-Err-clause-stopped g c =
-    halts_once g.R.CountedRead.history g.R.CountedRead.remaining g.S.TendrilSink.takes c.args.sink c.args.reader.now g.S.TendrilSink.refuses g.S.TendrilSink.ends c.args.most
+    halts_once g.R.CountedRead.history g.R.CountedRead.remaining g.S.TendrilSink.takes c.args.sink c.args.reader.now g.S.TendrilSink.refuses g.S.TendrilSink.ends c.args.max_reads
     c.loop-made.made c.loop-made.sink c.read_once.new.sink c.loop-made.reader c.read_once.new.reader c.in-Err.refusal c.loop-made.invariant.fed c.in-Err.ensures.err c.loop-made-test.true

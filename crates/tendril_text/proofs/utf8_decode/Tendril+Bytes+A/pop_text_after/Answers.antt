@@ -9,8 +9,8 @@ use Rattle.tendril_storage.specs.Partings.{IsParted}
 use Rattle.tendril_text.proofs.utf8_decode.Tendril+Bytes+A.pop_text_after.Goals.{in-0, in_default-count+in_ok-text-in_default-count, in-Broken+in_default-take_few_text, in_default, in-Broken-ending, in-Whole}
 use Rattle.tendril_text.proofs.utf8_decode.Tendril+Bytes+A.pop_text_after.Goals as goal
 
-pub returns : goal.returns
-returns g c =
+pub returns-clause-pops : goal.returns-clause-pops
+returns-clause-pops g c =
     let old = c.args.self.now in
     let start = c.match-ending.self in
     let mid = c.match-count.self in
@@ -57,8 +57,8 @@ returns g c =
       ],
     )
 
-pub returns-in_err-text-in_default-count : goal.returns-in_err-text-in_default-count
-returns-in_err-text-in_default-count g c =
+pub returns-in_err-text-in_default-count-clause-pops : goal.returns-in_err-text-in_default-count-clause-pops
+returns-in_err-text-in_default-count-clause-pops g c =
     let old = c.args.self.now in
     let start = c.match-ending.self in
     let front = c.first_part_by-ending.result.0.now in
@@ -71,4 +71,4 @@ returns-in_err-text-in_default-count g c =
     let refused = rw stays at c.in_err-text-in_default-count.ensures in
     let why = refused.0 in
     let same : c.from_residual.result ≡ Err c.in_err-text-in_default-count.field-0.0 = search rules in
-    rw same (⊎_elim absurd (λ w. inr (tt, (w.1.0, (0, both_share old.bytes front ending part w.1.1 w.1.2)))) why, refused.1)
+    rw same (⊎_elim absurd (λ w. inr (tt, (w.1.0, both_share old.bytes front ending part w.1.1 w.1.2))) why, refused.1)

@@ -1,0 +1,14 @@
+-- Lemmas that a caller's proofs cite: of prefixes and characters of a format, of lines and splits, of 16-bit units,
+-- of what is sent, of a sink after a decoder, and of reading.
+pub use Rattle.tendril_fmt.proofs.Parts
+pub use Rattle.tendril_fmt.proofs.Splits
+pub use Rattle.tendril_text.proofs.Splits as TextSplits
+pub use Rattle.tendril_fmt.proofs.UnitCounts
+pub use Rattle.tendril_fmt.proofs.UnitSplits
+pub use Rattle.tendril_fmt.proofs.Wtf8Joins
+pub use Rattle.tendril_lossy.proofs.Told
+pub use Rattle.tendril_lossy.specs.Laws
+pub use Rattle.tendril_stream.proofs.Fed
+pub use Rattle.tendril_stream.proofs.Halted
+pub use Rattle.tendril_stream.proofs.Refused
+pub use Rattle.tendril_stream.proofs.Stands

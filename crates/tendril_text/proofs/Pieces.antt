@@ -1,0 +1,151 @@
+-- Pieces at the front of a text: parts up to a byte of a set, and lines.
+use Rattle.std.proofs.Common.{
+  ◌≡◌,
+  ◌↔◌,
+  ℕ,
+  suc,
+  ◌+◌,
+  ◌-◌,
+  ◌<◌,
+  ◌≤◌,
+  ◌==◌,
+  Bool,
+  true,
+  false,
+  List,
+  [],
+  ◌∷◌,
+  ◌++◌,
+  length,
+  take,
+  drop,
+  slice_index,
+  IsTrue,
+  refl,
+  sym,
+  ap,
+  ap₂,
+  subst,
+  ◌∙◌,
+  arith,
+  inl,
+  inr,
+  ⊎_elim,
+  eq-eqb,
+  eq-or-lt_of_le,
+  add-one,
+  length-append,
+  length-take,
+  length-drop,
+  get_or-take,
+  get_or-append-add,
+  take-append-drop,
+  true≢false,
+}
+use Rattle.std.proofs.Math.Seq.{drop-cons}
+use Rattle.std.proofs.lemmas.Bool.{eqb-true}
+use Rattle.std.proofs.lemmas.List.{nil_from_length, take_all}
+use Rattle.std.specs.Str.Iter.{LacksByte}
+use Rattle.memchr.specs.Find.{Nowhere, Passes, is_byte}
+use Rattle.tendril_fmt.specs.Parts.{IsEndOf}
+use Rattle.tendril_text.specs.Search.{EndsBefore}
+use Rattle.tendril_text.specs.Splits.{LacksSet, TakesLine, TakesSplit}
+
+-- Parts
+
+lacks_front : (set : ℕ → Bool) (text : List ℕ) (n : ℕ) → n ≤ length text → Nowhere (Passes set text) 0 n
+    → LacksSet set (take n text)
+lacks_front set text n within none k low below passes =
+    let less : k < n = omega (arith, below, length-take n text) in
+    none k low less (ap set (sym (get_or-take n text k 0 less)) ∙ passes)
+
+takes_split : (set : ℕ → Bool) (text part rest : List ℕ) (n ending : ℕ) → EndsBefore set text n
+    → (n < length text → ending ≡ 1) → (n ≡ length text → ending ≡ 0) → part ≡ take n text → rest ≡ drop (n + ending) text
+    → TakesSplit set text part rest (ending == 0)
+takes_split set text part rest n ending ends ended last front end = ⊎_elim
+    (λ all. let none = last all in
+    let whole : text ≡ part = sym (front ∙ take_all n text (omega (arith, all))) in
+    let long = length-drop (n + ending) text in
+    let nothing : rest ≡ [] = nil_from_length rest (omega (arith, ap length end, long, all)) in
+    subst (λ e. TakesSplit set text part rest (e == 0)) (sym none) (lacks, whole, nothing))
+    (λ less. let one = ended less in
+    let next : suc n ≡ n + ending = omega arith in
+    let after : drop n text ≡ slice_index text n ∷ rest =
+    drop-cons text n 0 less ∙ ap (λ l. slice_index text n ∷ l) (ap (λ m. drop m text) next ∙ sym end) in
+    let joined : text ≡ part ++ ((slice_index text n ∷ []) ++ rest) =
+    sym (take-append-drop n text) ∙ ap₂ (λ a b. a ++ b) (sym front) after in
+    subst (λ e. TakesSplit set text part rest (e == 0)) (sym one)
+    (slice_index text n ∷ [], (lacks, (slice_index text n, ends.next less, refl)), joined))
+    (eq-or-lt_of_le ends.within)
+  where
+    lacks : LacksSet set part
+    lacks = subst (LacksSet set) (sym front) (lacks_front set text n ends.within ends.others)
+
+-- the same, where the end was found in a slice of the text's bytes
+pub split_of : (set : ℕ → Bool) (slice text part rest : List ℕ) (n ending : ℕ) → slice ≡ text → EndsBefore set slice n
+    → (n < length slice → ending ≡ 1) → (n ≡ length slice → ending ≡ 0) → part ≡ take n text → rest ≡ drop (n + ending) text
+    → TakesSplit set text part rest (ending == 0)
+split_of set slice text part rest n ending same ends ended last =
+    takes_split set text part rest n ending (subst (λ b. EndsBefore set b n) same ends)
+    (subst (λ b. n < length b → ending ≡ 1) same ended) (subst (λ b. n ≡ length b → ending ≡ 0) same last)
+
+-- Lines
+
+lacks_feed : (text : List ℕ) (n m : ℕ) → n ≤ m → n ≤ length text → Nowhere (Passes (is_byte 10) text) 0 m
+    → LacksByte 10 (take n text)
+lacks_feed text n m le within none k below is =
+    let less : k < n = omega (arith, below, length-take n text) in
+    none k (omega arith) (omega arith) (eq-eqb (slice_index text k) 10 (sym (get_or-take n text k 0 less) ∙ is))
+
+feed_follows : (text : List ℕ) (n : ℕ) → n < length text → Passes (is_byte 10) text n
+    → drop n text ≡ 10 ∷ drop (n + 1) text
+feed_follows text n less is =
+    rw add-one (drop-cons text n 0 less ∙ ap (λ b. b ∷ drop (suc n) text) (eqb-true (slice_index text n) 10 is))
+
+-- the first n bytes end with a CR
+abbrev pub FollowsCr : Bool → List ℕ → ℕ → Type 0
+FollowsCr cr text n = IsTrue cr ↔ ((0 < n) × (slice_index text (n - 1) ≡ 13))
+
+pub line_lf : (text : List ℕ) (n : ℕ) (cr : Bool) → n < length text → Nowhere (Passes (is_byte 10) text) 0 n
+    → Passes (is_byte 10) text n → FollowsCr cr text n → cr ≡ false → TakesLine text (take n text) (drop (n + 1) text)
+line_lf text n cr less none is follows is_no = inl (
+  10 ∷ [],
+  (lacks_feed text n n (omega arith) (omega arith) none, inr (refl, ends_in_cr)),
+  sym (take-append-drop n text) ∙ ap (λ l. take n text ++ l) (feed_follows text n less is),
+)
+  where
+    ends_in_cr : IsEndOf (13 ∷ []) (take n text) → ⊥
+    ends_in_cr end =
+        let front = end.0 in
+        let lengths = length-append front (13 ∷ []) in
+        let long : n ≡ length front + 1 = omega (arith, ap length end.1, lengths, length-take n text) in
+        let place : n - 1 ≡ length front + 0 = omega arith in
+        let byte : slice_index text (n - 1) ≡ 13 =
+        sym (get_or-take n text (n - 1) 0 (omega arith)) ∙ ap (λ l. slice_index l (n - 1)) end.1
+        ∙ ap (slice_index (front ++ 13 ∷ [])) place ∙ get_or-append-add front (13 ∷ []) 0 0 in
+        true≢false (sym (follows.1 (omega arith, byte)) ∙ is_no)
+
+pub line_crlf : (text : List ℕ) (n : ℕ) (cr : Bool) → n < length text → Nowhere (Passes (is_byte 10) text) 0 n
+    → Passes (is_byte 10) text n → FollowsCr cr text n → cr ≡ true
+    → TakesLine text (take (n - 1) text) (drop (n - 1 + 2) text)
+line_crlf text n cr less none is follows is_yes =
+    let some = (follows.0 is_yes).0 in
+    let byte = (follows.0 is_yes).1 in
+    let next : suc (n - 1) ≡ n = omega arith in
+    let rest : n + 1 ≡ n - 1 + 2 = omega arith in
+    let feed = ap (λ m. drop m text) next ∙ feed_follows text n less is ∙ ap (λ m. 10 ∷ drop m text) rest in
+    let after : drop (n - 1) text ≡ 13 ∷ (10 ∷ drop (n - 1 + 2) text) =
+    drop-cons text (n - 1) 0 (omega arith) ∙ ap₂ (λ b l. b ∷ l) byte feed in
+    inl (
+      13 ∷ 10 ∷ [],
+      (lacks_feed text (n - 1) n (omega arith) (omega arith) none, inl refl),
+      sym (take-append-drop (n - 1) text) ∙ ap (λ l. take (n - 1) text ++ l) after,
+    )
+
+-- a line that was found in a slice of the text's bytes
+pub line_of : (slice text line rest : List ℕ) (n m : ℕ) → slice ≡ text → TakesLine slice (take n slice) (drop m slice)
+    → line ≡ take n text → rest ≡ drop m text → TakesLine text line rest
+line_of slice text line rest n m same takes front end =
+    subst (λ r. TakesLine text line r) (sym end)
+    (subst (λ l. TakesLine text l (drop m text)) (sym front)
+    (subst (λ b. TakesLine b (take n b) (drop m b)) same takes))

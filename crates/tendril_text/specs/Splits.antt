@@ -1,0 +1,118 @@
+-- Texts that are split: at bytes of a set, and into lines.
+use Rattle.std.specs.Prelude.{
+  ℕ,
+  ◌≡◌,
+  ◌<◌,
+  ◌⊎◌,
+  Bool,
+  true,
+  false,
+  List,
+  [],
+  ◌∷◌,
+  ◌++◌,
+  length,
+  map,
+  flat_map,
+  All,
+  Option,
+  Some,
+  None,
+  Result,
+  Ok,
+  Err,
+}
+use Rattle.std.specs.Str.Iter.{LacksByte}
+use Rattle.memchr.specs.Find.{Nowhere, Passes}
+use Rattle.tendril_block.specs.declared.refusal.Refusal.{Refusal}
+use Rattle.tendril_fmt.specs.Parts.{IsEndOf}
+use Rattle.tendril_storage.specs.Partings.{BothLong}
+use Rattle.tendril_storage.specs.Texts.{Text, Parts}
+use Rattle.tendril_text.specs.Iterators.{IsOver, IsRefusedNow, PartComes}
+use Rattle.tendril_text.specs.Search.{HasLongPartBefore}
+
+-- no byte of the part is in the set
+abbrev pub LacksSet : (ℕ → Bool) → List ℕ → Type 0
+LacksSet set part = Nowhere (Passes set part) 0 (length part)
+
+-- a part between bytes of a set, and the byte of it that ends the part
+abbrev pub EndsPart : (ℕ → Bool) → List ℕ → List ℕ → Type 0
+EndsPart set part ending = LacksSet set part × ((b : ℕ) × (set b ≡ true) × (ending ≡ b ∷ []))
+
+-- a line, and the line ending after it: a CR and an LF, or an LF by itself
+abbrev pub EndsLine : List ℕ → List ℕ → Type 0
+EndsLine line ending =
+    LacksByte 10 line × ((ending ≡ 13 ∷ 10 ∷ []) ⊎ ((ending ≡ 10 ∷ []) × (IsEndOf (13 ∷ []) line → ⊥)))
+
+-- pieces and their endings are the front of a text, and the rest comes after them
+pub record AreTaken (Ends : List ℕ → List ℕ → Type 0) (pieces : List (List ℕ)) (text rest : List ℕ) : Type 0 where
+  pub ended : List (List ℕ × List ℕ)
+  pub pieces_are : map (λ p. p.0) ended ≡ pieces
+  pub each : All (λ p. Ends p.0 p.1) ended
+  pub joined : text ≡ flat_map (λ p. p.0 ++ p.1) ended ++ rest
+
+-- the parts of a text between the bytes of a set: joined, with a byte of the set between each two, they are the text,
+-- and no part has one
+pub record AreParts (set : ℕ → Bool) (parts : List (List ℕ)) (text : List ℕ) : Type 0 where
+  pub others : List (List ℕ)
+  pub last : List ℕ
+  pub parts_are : parts ≡ others ++ last ∷ []
+  pub taken : AreTaken (EndsPart set) others text last
+  pub lacks : LacksSet set last
+
+-- what follows the last line ending is a line too where it isn't empty
+abbrev pub line_after : List ℕ → List (List ℕ)
+line_after [] = []
+line_after (b ∷ bs) = (b ∷ bs) ∷ []
+
+-- the lines of a text: joined with their line endings they are the text, and no line has an LF
+pub record AreLines (lines : List (List ℕ)) (text : List ℕ) : Type 0 where
+  pub ended : List (List ℕ)
+  pub last : List ℕ
+  pub lines_are : lines ≡ ended ++ line_after last
+  pub taken : AreTaken EndsLine ended text last
+  pub lacks : LacksByte 10 last
+
+-- the next piece is taken off a text with its ending
+abbrev pub TakesEnded : (List ℕ → List ℕ → Type 0) → List ℕ → List ℕ → List ℕ → Type 0
+TakesEnded Ends text piece rest = (ending : List ℕ) × Ends piece ending × (text ≡ piece ++ (ending ++ rest))
+
+-- the next part is taken off a text, up to a byte of the set, or as the last one
+abbrev pub TakesSplit : (ℕ → Bool) → List ℕ → List ℕ → List ℕ → Bool → Type 0
+TakesSplit set text part rest false = TakesEnded (EndsPart set) text part rest
+TakesSplit set text part rest true = LacksSet set part × (text ≡ part) × (rest ≡ [])
+
+-- the next line is taken off a text, with its line ending, or as what follows the last one
+abbrev pub TakesLine : List ℕ → List ℕ → List ℕ → Type 0
+TakesLine text line rest =
+    TakesEnded EndsLine text line rest ⊎ (LacksByte 10 line × (0 < length line) × (text ≡ line) × (rest ≡ []))
+
+-- the first line of a text has more than 8 bytes, and more than 8 bytes follow
+pub record HasLongLine (text : List ℕ) (r : Refusal) : Type 0 where
+  pub line : List ℕ
+  pub rest : List ℕ
+  pub takes : TakesLine text line rest
+  pub long : BothLong (length line) (length text) r
+
+-- the next part between bytes of a set comes
+abbrev pub NextSplit : (ℕ → Bool) → Text → Bool → Option (Result Text Refusal) → Text → Bool → Type 0
+NextSplit set text over None rest then = (over ≡ true) × (rest ≡ text) × (then ≡ over)
+NextSplit set text over (Some (Ok part)) rest then =
+    (over ≡ false) × TakesSplit set text.bytes part.bytes rest.bytes then × Parts text part rest
+NextSplit set text over (Some (Err r)) rest then = IsRefusedNow text over rest then × HasLongPartBefore set text.bytes r
+
+-- the next line comes
+abbrev pub NextLine : Text → Bool → Option (Result Text Refusal) → Text → Bool → Type 0
+NextLine text refused None rest then = IsOver text refused rest then
+NextLine text refused (Some (Ok line)) rest then =
+    PartComes refused then × TakesLine text.bytes line.bytes rest.bytes × Parts text line rest
+NextLine text refused (Some (Err r)) rest then = IsRefusedNow text refused rest then × HasLongLine text.bytes r
+
+-- parts were taken off a text and the rest is left, or they are all its parts
+abbrev pub SplitsSoFar : (ℕ → Bool) → List (List ℕ) → List ℕ → List ℕ → Bool → Type 0
+SplitsSoFar set parts text rest false = AreTaken (EndsPart set) parts text rest
+SplitsSoFar set parts text rest true = AreParts set parts text × (rest ≡ [])
+
+-- lines were taken off a text and the rest is left, or they are all its lines
+abbrev pub LinesSoFar : List (List ℕ) → List ℕ → List ℕ → Type 0
+LinesSoFar lines text rest = AreTaken EndsLine lines text rest ⊎ (AreLines lines text × (rest ≡ []))
