@@ -51,7 +51,7 @@ impl Lines for RopeLines {
     fn answer(&mut self, alloc: Global, line: &[u8]) -> Result<String, Refusal> {
         match parse_rope_line(alloc, line)? {
             Some(command) => print_rope_reply(alloc, &self.reply(&command)),
-            None => String::from_str(alloc, "malformed").map_err(|_| Refusal::Memory),
+            None => Ok(String::from_str(alloc, "malformed")?),
         }
     }
 }

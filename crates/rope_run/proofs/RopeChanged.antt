@@ -3,17 +3,16 @@ use Rattle.std.proofs.Common.{◌≡◌, ℕ, ◌<◌, ◌≤◌, ◌⊎◌, Lis
 use Rattle.std.proofs.lemmas.List.{map-append, map-set, get_or-map, get_or_past, length-map}
 use Rattle.std.proofs.lemmas.List.Elements.{All-set, All-push, All-get_or}
 use Rattle.std.proofs.Math.Seq.{map-set_same}
-use Rattle.tendril_block.specs.declared.refusal.Refusal.{Refusal}
-use Rattle.tendril_block.specs.declared.refusal.Refusal.TheVariants.{NoSuchSlot}
 use Rattle.tendril_lines.specs.declared.command.Reply.{Reply}
 use Rattle.tendril_lines.specs.declared.command.Reply.TheVariants.{Refused}
 use Rattle.rope_text.specs.Ropes.{RopeText}
 use Rattle.rope_run.specs.declared.command.RopeReply.TheVariants.{Plain}
 use Rattle.rope_run.specs.RopeCells.{Cells, RopeCell, IsRopeCell, gone, rope_at}
 use Rattle.rope_run.specs.RopeOf.{rope_cell_of}
-use Rattle.rope_run.specs.RopeSteps.{RopeReplied, LeavesRope}
+use Rattle.rope_run.specs.RopeSteps.{RopeReplied, at_rope}
 use Rattle.tendril_run.specs.Cells.{Cell}
 use Rattle.rope_run.specs.RopeRules.{Answered}
+use Rattle.tendril_run.specs.Rules.{Rule}
 
 -- the cells of slots and ropes
 abbrev pub cells_of : List Cell → List (Option RopeText) → Cells
@@ -32,25 +31,23 @@ one_rope items number s t within found = record {
   kept = λ same. map-set_same rope_cell_of items number t s (same ∙ ap rope_cell_of found);
 }
 
-changed : (must : RopeCell → Option Refusal → Type 0) (said : RopeCell → Reply) (effect : RopeCell → RopeCell) (slots : List Cell) (items after : List (Option RopeText)) (number : ℕ) (old new : RopeCell) (reply : Reply) → OneRope items number old new after → must old None × ((reply ≡ said old) × (new ≡ effect old)) → must (rope_at (map rope_cell_of items) number) None × LeavesRope (cells_of slots items) number (said (rope_at (map rope_cell_of items) number)) (effect (rope_at (map rope_cell_of items) number)) (Plain reply) (cells_of slots after)
-changed must said effect slots items after number old new reply one h = (
-  subst (λ c. must c None) (sym one.here) h.0,
+-- what one rope answers and becomes is what its table does
+answered : (by : RopeCell → Rule RopeCell) (said : RopeCell → Reply) (slots : List Cell) (items after : List (Option RopeText)) (number : ℕ) (old new : RopeCell) (reply : Reply) → OneRope items number old new after → Answered by said old reply new → RopeReplied (at_rope number said by) (cells_of slots items) (Plain reply) (cells_of slots after)
+answered by said slots items after number old new (Refused r) one h =
+    (subst (λ c. (by c).must (Some r) ⊎ ((by c).must None × (by c).may r)) (sym one.here) h.0, ap (λ ropes. record { slots = slots; ropes = ropes }) (one.kept h.1))
+answered by said slots items after number old new reply one h = (
+  subst (λ c. (by c).must None) (sym one.here) h.0,
   (
     ap Plain (h.1.0 ∙ ap said (sym one.here)),
-    (one.there ∙ ap (λ c. set (map rope_cell_of items) number c) (h.1.1 ∙ ap effect (sym one.here)), refl),
+    (one.there ∙ ap (λ c. set (map rope_cell_of items) number c) (h.1.1 ∙ ap (λ c. (by c).effect) (sym one.here)), refl),
   ),
 )
 
-answered : (must : RopeCell → Option Refusal → Type 0) (may : RopeCell → Refusal → Type 0) (said : RopeCell → Reply) (effect : RopeCell → RopeCell) (slots : List Cell) (items after : List (Option RopeText)) (number : ℕ) (old new : RopeCell) (reply : Reply) → OneRope items number old new after → Answered (must old) (may old) (said old) (effect old) old reply new → RopeReplied (must (rope_at (map rope_cell_of items) number)) (may (rope_at (map rope_cell_of items) number)) (LeavesRope (cells_of slots items) number (said (rope_at (map rope_cell_of items) number)) (effect (rope_at (map rope_cell_of items) number))) (cells_of slots items) (Plain reply) (cells_of slots after)
-answered must may said effect slots items after number old new (Refused r) one h =
-    (subst (λ c. must c (Some r) ⊎ (must c None × may c r)) (sym one.here) h.0, ap (λ ropes. record { slots = slots; ropes = ropes }) (one.kept h.1))
-answered must may said effect slots items after number old new reply one h = changed must said effect slots items after number old new reply one h
-
--- what one rope answers and becomes is what its table does
-pub table_answered : (must : RopeCell → Option Refusal → Type 0) (may : RopeCell → Refusal → Type 0) (said : RopeCell → Reply) (effect : RopeCell → RopeCell) (before : Cells) (slots : List Cell) (items after : List (Option RopeText)) (number : ℕ) (old new : RopeCell) (reply : Reply) → cells_of slots items ≡ before → OneRope items number old new after → Answered (must old) (may old) (said old) (effect old) old reply new → RopeReplied (must (rope_at before.ropes number)) (may (rope_at before.ropes number)) (LeavesRope before number (said (rope_at before.ropes number)) (effect (rope_at before.ropes number))) before (Plain reply) (cells_of slots after)
-table_answered must may said effect before slots items after number old new reply is one h =
-    subst (λ (b : Cells). RopeReplied (must (rope_at b.ropes number)) (may (rope_at b.ropes number)) (LeavesRope b number (said (rope_at b.ropes number)) (effect (rope_at b.ropes number))) b (Plain reply) (cells_of slots after)) is
-    (answered must may said effect slots items after number old new reply one h)
+-- the same, by the cells that a table is seen as
+pub table_answered : (by : RopeCell → Rule RopeCell) (said : RopeCell → Reply) (before : Cells) (slots : List Cell) (items after : List (Option RopeText)) (number : ℕ) (old new : RopeCell) (reply : Reply) → cells_of slots items ≡ before → OneRope items number old new after → Answered by said old reply new → RopeReplied (at_rope number said by) before (Plain reply) (cells_of slots after)
+table_answered by said before slots items after number old new reply is one h =
+    subst (λ (b : Cells). RopeReplied (at_rope number said by) b (Plain reply) (cells_of slots after)) is
+    (answered by said slots items after number old new reply one h)
 
 -- a rope that isn't there is gone
 pub past_gone : (before : Cells) (slots : List Cell) (items : List (Option RopeText)) (number : ℕ) → cells_of slots items ≡ before → length items ≤ number → rope_at before.ropes number ≡ gone

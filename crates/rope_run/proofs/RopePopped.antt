@@ -1,5 +1,5 @@
 -- A character that is taken out of a rope.
-use Rattle.std.proofs.Common.{◌≡◌, ℕ, List, [], ◌∷◌, ◌++◌, length, drop, refl, sym, ap, ◌∙◌, subst, Option, Some, None}
+use Rattle.std.proofs.Common.{◌≡◌, ℕ, [], ◌∷◌, ◌++◌, length, drop, sym, ap, ◌∙◌, Option, Some, None}
 use Rattle.std.specs.Prelude.{IfSome, IfNone, chars, encode_utf8}
 use Rattle.std.proofs.Math.Seq.{drop-append_seam}
 use Rattle.std.proofs.lemmas.Str.{chars-nil}

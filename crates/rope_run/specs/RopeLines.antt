@@ -1,5 +1,5 @@
--- Lines of commands over ropes: the words that stand for each command.
-use Rattle.std.specs.Prelude.{ℕ, ◌≡◌, List, [], ◌∷◌, codes}
+-- Lines of commands over ropes: the verb of each command, and what the words after it stand for.
+use Rattle.std.specs.Prelude.{ℕ, List, codes}
 use Rattle.rope_run.specs.declared.command.RopeCommand.{RopeCommand}
 use Rattle.rope_run.specs.declared.command.RopeCommand.TheVariants.{
   OnSlots,
@@ -12,40 +12,37 @@ use Rattle.rope_run.specs.declared.command.RopeCommand.TheVariants.{
   RopeTake,
   RopeDrop,
 }
-use Rattle.rope_run.specs.declared.line.RopeVerb.{RopeVerb}
-use Rattle.rope_run.specs.declared.line.RopeVerb.TheVariants as verbs
-use Rattle.tendril_lines.specs.Lines.{Word, number, long, AreWords, words_of}
-use Rattle.tendril_words.specs.Words.{words}
+use Rattle.tendril_lines.specs.Lines.{words_of}
+use Rattle.tendril_lines.specs.Shapes.{AreVerbAndWords}
+use Rattle.tendril_lines.specs.Words.{words}
+use Rattle.tendril_lines.specs.declared.shape.Value.TheVariants.{Long, Slot}
+use Rattle.tendril_lines.specs.declared.shape.Values.{Values}
+use Rattle.tendril_lines.specs.declared.shape.Values.TheVariants.{Empty, One, Two, Three}
 
--- the first word of a rope command's line
-abbrev pub rope_verb_name : RopeVerb → List ℕ
-rope_verb_name verbs.New = codes "rope"
-rope_verb_name verbs.Push = codes "rpush"
-rope_verb_name verbs.Join = codes "rjoin"
-rope_verb_name verbs.Len = codes "rlen"
-rope_verb_name verbs.Pop = codes "rpop"
-rope_verb_name verbs.Sub = codes "rsub"
-rope_verb_name verbs.Take = codes "rtake"
-rope_verb_name verbs.Drop = codes "rdrop"
+-- the verb of a command, and what the words after it stand for; a command on slots has those of its own line
+abbrev pub rope_words_of : RopeCommand → List ℕ × Values
+rope_words_of (OnSlots command) = words_of command
+rope_words_of RopeNew = (codes "rope", Empty)
+rope_words_of (RopePush rope slot) = (codes "rpush", Two (Slot rope) (Slot slot))
+rope_words_of (RopeAppend to from) = (codes "rjoin", Two (Slot to) (Slot from))
+rope_words_of (RopeLen rope) = (codes "rlen", One (Slot rope))
+rope_words_of (RopePopChar rope) = (codes "rpop", One (Slot rope))
+rope_words_of (RopeSub rope offset count) = (codes "rsub", Three (Slot rope) (Long offset) (Long count))
+rope_words_of (RopeTake rope) = (codes "rtake", One (Slot rope))
+rope_words_of (RopeDrop rope) = (codes "rdrop", One (Slot rope))
 
--- the name of the verb, and one word for each operand
-abbrev pub AreVerbAnd : RopeVerb → List Word → List (List ℕ) → Type 0
-AreVerbAnd verb operands [] = ⊥
-AreVerbAnd verb operands (first ∷ rest) = (first ≡ rope_verb_name verb) × AreWords operands rest
-
--- the words are the command's; a command on slots has those of its own line
-abbrev pub AreRopeWords : RopeCommand → List (List ℕ) → Type 0
-AreRopeWords (OnSlots command) line = AreWords (words_of command) line
-AreRopeWords RopeNew line = AreVerbAnd verbs.New [] line
-AreRopeWords (RopePush rope slot) line = AreVerbAnd verbs.Push (number rope ∷ number slot ∷ []) line
-AreRopeWords (RopeAppend to from) line = AreVerbAnd verbs.Join (number to ∷ number from ∷ []) line
-AreRopeWords (RopeLen rope) line = AreVerbAnd verbs.Len (number rope ∷ []) line
-AreRopeWords (RopePopChar rope) line = AreVerbAnd verbs.Pop (number rope ∷ []) line
-AreRopeWords (RopeSub rope offset count) line =
-    AreVerbAnd verbs.Sub (number rope ∷ long offset ∷ long count ∷ []) line
-AreRopeWords (RopeTake rope) line = AreVerbAnd verbs.Take (number rope ∷ []) line
-AreRopeWords (RopeDrop rope) line = AreVerbAnd verbs.Drop (number rope ∷ []) line
+-- it is one of the commands on ropes
+abbrev pub OnRopes : RopeCommand → Type 0
+OnRopes (OnSlots command) = ⊥
+OnRopes RopeNew = Unit {0}
+OnRopes (RopePush rope slot) = Unit {0}
+OnRopes (RopeAppend to from) = Unit {0}
+OnRopes (RopeLen rope) = Unit {0}
+OnRopes (RopePopChar rope) = Unit {0}
+OnRopes (RopeSub rope offset count) = Unit {0}
+OnRopes (RopeTake rope) = Unit {0}
+OnRopes (RopeDrop rope) = Unit {0}
 
 -- the line is the command's
 abbrev pub IsRopeLine : RopeCommand → List ℕ → Type 0
-IsRopeLine command line = AreRopeWords command (words line)
+IsRopeLine command line = AreVerbAndWords (rope_words_of command) (words line)

@@ -1,16 +1,14 @@
--- Replies as outcomes: a call on one rope is refused and changes nothing, or has its effect.
-use Rattle.std.specs.Prelude.{◌≡◌, Option}
-use Rattle.tendril_block.specs.Outcomes.{Outcome}
-use Rattle.tendril_block.specs.declared.refusal.Refusal.{Refusal}
+-- Rules of one rope, by the reply to a call.
+use Rattle.std.specs.Prelude.{◌≡◌}
 use Rattle.tendril_lines.specs.declared.command.Reply.{Reply}
 use Rattle.tendril_lines.specs.declared.command.Reply.TheVariants.{Done}
-use Rattle.tendril_run.specs.Rules.{answer_of}
+use Rattle.tendril_run.specs.Rules.{Rule, with_effect, Follows, answer_of}
 
--- a call that gives one reply and leaves one thing, or is refused and changes nothing
-abbrev pub Answered : {X : Type 0} → (Option Refusal → Type 0) → (Refusal → Type 0) → Reply → X → X → Reply → X → Type 0
-Answered must may said left old reply new =
-    Outcome must may (λ reply new. (reply ≡ said) × (new ≡ left)) old (answer_of reply) new
+-- a call is refused by the rule of what it finds, and changes nothing, or says this and leaves what the rule says
+abbrev pub Answered : {X : Type 0} → (X → Rule X) → (X → Reply) → X → Reply → X → Type 0
+Answered by said old reply new =
+    Follows (λ x. with_effect (λ left answer y. (answer ≡ said x) × (y ≡ left)) (by x)) old (answer_of reply) new
 
 -- the same, where the reply is that it is done
-abbrev pub Changed : {X : Type 0} → (Option Refusal → Type 0) → (Refusal → Type 0) → X → X → Reply → X → Type 0
-Changed must may left old reply new = Answered must may Done left old reply new
+abbrev pub Changed : {X : Type 0} → (X → Rule X) → X → Reply → X → Type 0
+Changed by old reply new = Answered by (λ x. Done) old reply new

@@ -17,7 +17,7 @@ pub enum RopeCommand {
     RopeLen(usize),
     /// The first character is taken out of the rope.
     RopePopChar(usize),
-    /// A new rope with the part of the text that begins at the offset and has so many bytes.
+    /// A new rope with the slice of the text from the offset on, of this length.
     RopeSub(usize, u64, u64),
     /// A new slot with the rope's text.
     RopeTake(usize),

@@ -1,27 +1,13 @@
 //! The lines of commands.
-ghost use Rattle.std.specs.Prelude.{◌≡◌, ◌↔◌, ◌∷◌, ℕ, [], drop, map, Some, IfOk, IfErr};
-ghost use Rattle.rope_run.specs.RopeLines.{AreRopeWords, IsRopeLine, rope_verb_name};
-ghost use Rattle.tendril_lines.specs.Lines.{AreWords, number as number_word, long as long_word};
-ghost use Rattle.tendril_words.specs.Words.{words};
+ghost use Rattle.std.specs.Prelude.{◌≡◌, ◌↔◌, Some, IfOk, IfErr, IsSomeAnd};
+ghost use Rattle.rope_run.specs.RopeLines.{IsRopeLine, OnRopes, rope_words_of};
+ghost use Rattle.tendril_lines.specs.Shapes.{Spells, shape_of};
+ghost use Rattle.tendril_lines.specs.declared.shape.Values.TheVariants.{Empty, One, Three, Two};
 
 use crate::command::RopeCommand;
 use std::alloc::Global;
 use tendril_block::Refusal;
-use tendril_lines::{one_number, parse_line, two_slots};
-use tendril_words::{long_number, number, split_words};
-
-// The first word of a rope command's line.
-#[derive(Clone, Copy, Debug, PartialEq, Eq)]
-enum RopeVerb {
-    New,
-    Push,
-    Join,
-    Len,
-    Pop,
-    Sub,
-    Take,
-    Drop,
-}
+use tendril_lines::{Command, LineCommand, Value, Values, Word, parse};
 
 /// The command of a line without its line feed, or `None` where no command has this line.
 ///
@@ -29,80 +15,122 @@ enum RopeVerb {
 /// leading zeros, the offset and the number of bytes of `rsub` are such numbers up to 18446744073709551615: `rope`,
 /// `rpush R S`, `rjoin R R`, `rlen R`, `rpop R`, `rsub R O N`, `rtake R`, `rdrop R`, and every line of `parse_line`.
 ///
-/// Takes memory for the words of the line, once, and for what the command carries. Refuses Memory alone.
+/// Allocates for the words of the line, once, and for what the command carries. Returns Memory only.
 pub fn parse_rope_line(alloc: Global, line: &[u8]) -> Result<Option<RopeCommand>, Refusal>
     ensures found { IfOk result (λ found. (c : _) → (found ≡ Some c) ↔ IsRopeLine c line.now) }
     ensures refusal { IfErr result (λ r. r ≡ Refusal.Memory) }
 {
-    // The first word decides, so that a line of another command is split by `parse_line` alone.
-    match rope_verb_of(first_word(line)) {
-        Some(verb) => {
-            let words = split_words(alloc, line)?;
-            Ok(read(verb, &words.as_slice()[1..]))
-        }
-        None => Ok(parse_line(alloc, line)?.map(|command| RopeCommand::OnSlots(command))),
+    parse::<RopeCommand>(alloc, line)
+}
+
+impl LineCommand for RopeCommand {
+    ghost use Rattle.rope_run.specs.RopeLines.{rope_words_of};
+
+    ghost spelling = { rope_words_of };
+
+    fn shape(verb: &[u8]) -> Option<&'static [Word]> {
+        shape(verb)
+    }
+
+    fn from_values(verb: &[u8], values: Values) -> Option<Self> {
+        from_values(verb, values)
     }
 }
 
-// The word before the first space.
-fn first_word(line: &[u8]) -> &[u8]
-    ensures { words line.now ≡ result.now ∷ drop 1 (words line.now) }
+// What the words after a verb may stand for.
+fn shape(verb: &[u8]) -> Option<&'static [Word]>
+    ensures { (c : _) → verb.now ≡ (rope_words_of c).0
+        → IsSomeAnd result (λ shape. shape.now ≡ shape_of (rope_words_of c).1) }
 {
-    match line.iter().position(|byte| *byte == b' ') {
-        Some(end) => &line[..end],
-        None => line,
+    use Word::{Long, Slot};
+    match verb {
+        b"rope" => Some(&[]),
+        b"rlen" | b"rpop" | b"rtake" | b"rdrop" => Some(&[Slot]),
+        b"rpush" | b"rjoin" => Some(&[Slot, Slot]),
+        b"rsub" => Some(&[Slot, Long, Long]),
+        _ => <Command as LineCommand>::shape(verb),
     }
 }
 
-// The verb of a word.
-fn rope_verb_of(word: &[u8]) -> Option<RopeVerb>
-    ensures { (verb : _) → (result ≡ Some verb) ↔ (word.now ≡ rope_verb_name verb) }
+// The command of a verb and what the words after it stand for.
+fn from_values(verb: &[u8], values: Values) -> Option<RopeCommand>
+    ensures { (c : _) → (result ≡ Some c) ↔ Spells (rope_words_of c) verb.now values }
 {
-    match word {
-        b"rope" => Some(RopeVerb::New),
-        b"rpush" => Some(RopeVerb::Push),
-        b"rjoin" => Some(RopeVerb::Join),
-        b"rlen" => Some(RopeVerb::Len),
-        b"rpop" => Some(RopeVerb::Pop),
-        b"rsub" => Some(RopeVerb::Sub),
-        b"rtake" => Some(RopeVerb::Take),
-        b"rdrop" => Some(RopeVerb::Drop),
+    if let Some(command) = on_ropes(verb, &values) {
+        return Some(command);
+    }
+    let command = <Command as LineCommand>::from_values(verb, values)?;
+    Some(RopeCommand::OnSlots(command))
+}
+
+// The command on ropes of a verb and what the words after it stand for.
+fn on_ropes(verb: &[u8], values: &Values) -> Option<RopeCommand>
+    ensures { (c : _) → (result ≡ Some c) ↔ OnRopes c × Spells (rope_words_of c) verb.now values.now }
+{
+    match values {
+        Values::Empty => of_none(verb),
+        Values::One(value) => of_one(verb, value),
+        Values::Two(first, second) => of_two(verb, first, second),
+        Values::Three(first, second, third) => of_three(verb, first, second, third),
+    }
+}
+
+fn of_none(verb: &[u8]) -> Option<RopeCommand>
+    ensures { (c : _) → (result ≡ Some c) ↔ OnRopes c × Spells (rope_words_of c) verb.now Empty }
+{
+    match verb {
+        b"rope" => Some(RopeCommand::RopeNew),
         _ => None,
     }
 }
 
-// The command of a verb and the words after it.
-fn read(verb: RopeVerb, arguments: &[&[u8]]) -> Option<RopeCommand>
-    ensures { (c : _) → (result ≡ Some c)
-        ↔ AreRopeWords c (rope_verb_name verb ∷ map (λ word. word.now) arguments.now) }
+fn of_one(verb: &[u8], value: &Value) -> Option<RopeCommand>
+    ensures { (c : _) → (result ≡ Some c) ↔ OnRopes c × Spells (rope_words_of c) verb.now (One value.now) }
 {
+    let Value::Slot(rope) = value else {
+        return None;
+    };
     match verb {
-        RopeVerb::New => arguments.is_empty().then_some(RopeCommand::RopeNew),
-        RopeVerb::Push => two_slots(arguments).map(|(rope, slot)| RopeCommand::RopePush(
-            rope, slot,
-        )),
-        RopeVerb::Join => two_slots(arguments).map(|(to, from)| RopeCommand::RopeAppend(to, from)),
-        RopeVerb::Len => one_number(arguments).map(|rope| RopeCommand::RopeLen(rope)),
-        RopeVerb::Pop => one_number(arguments).map(|rope| RopeCommand::RopePopChar(rope)),
-        RopeVerb::Sub => rope_and_part(arguments).map(|(rope, offset, count)| RopeCommand::RopeSub(
-            rope, offset, count,
-        )),
-        RopeVerb::Take => one_number(arguments).map(|rope| RopeCommand::RopeTake(rope)),
-        RopeVerb::Drop => one_number(arguments).map(|rope| RopeCommand::RopeDrop(rope)),
+        b"rlen" => Some(RopeCommand::RopeLen(*rope)),
+        b"rpop" => Some(RopeCommand::RopePopChar(*rope)),
+        b"rtake" => Some(RopeCommand::RopeTake(*rope)),
+        b"rdrop" => Some(RopeCommand::RopeDrop(*rope)),
+        _ => None,
     }
 }
 
-// The rope, the offset and the number of bytes that the words are.
-fn rope_and_part(arguments: &[&[u8]]) -> Option<(usize, u64, u64)>
-    ensures { (a b c : ℕ) → (result ≡ Some (a, b, c))
-        ↔ AreWords (number_word a ∷ long_word b ∷ long_word c ∷ []) (map (λ word. word.now) arguments.now) }
+fn of_two(verb: &[u8], first: &Value, second: &Value) -> Option<RopeCommand>
+    ensures { (c : _) → (result ≡ Some c)
+        ↔ OnRopes c × Spells (rope_words_of c) verb.now (Two first.now second.now) }
 {
-    let [rope, offset, count] = arguments else {
+    let Value::Slot(first) = first else {
         return None;
     };
-    Some((
-        number(rope)? as usize,
-        long_number(offset)?,
-        long_number(count)?,
-    ))
+    let Value::Slot(second) = second else {
+        return None;
+    };
+    match verb {
+        b"rpush" => Some(RopeCommand::RopePush(*first, *second)),
+        b"rjoin" => Some(RopeCommand::RopeAppend(*first, *second)),
+        _ => None,
+    }
+}
+
+fn of_three(verb: &[u8], rope: &Value, offset: &Value, count: &Value) -> Option<RopeCommand>
+    ensures { (c : _) → (result ≡ Some c)
+        ↔ OnRopes c × Spells (rope_words_of c) verb.now (Three rope.now offset.now count.now) }
+{
+    let Value::Slot(rope) = rope else {
+        return None;
+    };
+    let Value::Long(offset) = offset else {
+        return None;
+    };
+    let Value::Long(count) = count else {
+        return None;
+    };
+    match verb {
+        b"rsub" => Some(RopeCommand::RopeSub(*rope, *offset, *count)),
+        _ => None,
+    }
 }

@@ -1,12 +1,11 @@
 //! What a command does to one rope, or where one is gone.
-ghost use Rattle.std.specs.Prelude.{◌≡◌, ◌+◌, ◌++◌, length, IfErr, OnOk};
-ghost use Rattle.tendril_block.specs.Outcomes.{NoneMay, Outcome};
-ghost use Rattle.rope_text.specs.Growth.{TotalMust};
+ghost use Rattle.std.specs.Prelude.{◌≡◌, IfErr, OnOk};
 ghost use Rattle.rope_run.specs.RopeCells.{IsRopeCell, gone as gone_cell, rope as rope_cell};
 ghost use Rattle.rope_run.specs.RopeOf.{rope_cell_of};
-ghost use Rattle.rope_run.specs.RopeRows.{AppendMay, AppendMust, RopeMust, RopePushMay, RopePushMust, ShareMay, rope_appended, rope_char, rope_popped, rope_pushed};
+ghost use Rattle.rope_run.specs.RopeRows.{append_rule, rope_push_rule, rope_pop_rule, rope_drop_rule, rope_char, share_rule};
 ghost use Rattle.tendril_run.specs.CellOf.{cell_of};
 ghost use Rattle.rope_run.specs.RopeRules.{Answered, Changed};
+ghost use Rattle.tendril_run.specs.Rules.{Changes};
 
 use rope_text::{MAX_TOTAL, Rope};
 use tendril_run::{Reply, Slot};
@@ -16,10 +15,7 @@ use tendril_text::{Atomicity, Tendril};
 
 /// Puts the text of a slot at the end of the rope.
 pub(crate) fn push<A: Atomicity>(rope: &mut Option<Rope<A>>, slot: &Slot<A>) -> Reply
-    ensures done { Changed (RopePushMust (rope_cell_of rope.old) (cell_of slot.now))
-        (RopePushMay (rope_cell_of rope.old) (cell_of slot.now))
-        (rope_pushed (rope_cell_of rope.old) (cell_of slot.now))
-        (rope_cell_of rope.old) result (rope_cell_of rope.new) }
+    ensures done { Changed (rope_push_rule (cell_of slot.now)) (rope_cell_of rope.old) result (rope_cell_of rope.new) }
     ensures kept { IsRopeCell (rope_cell_of rope.old) → IsRopeCell (rope_cell_of rope.new) }
 {
     match (rope, slot) {
@@ -31,8 +27,7 @@ pub(crate) fn push<A: Atomicity>(rope: &mut Option<Rope<A>>, slot: &Slot<A>) -> 
 
 // Puts a text at the rope's end, which shares it.
 fn push_text<A: Atomicity>(rope: &mut Rope<A>, text: &Tendril<UTF8, A>) -> Result<(), Refusal>
-    ensures done { Outcome (TotalMust (length rope.old.bytes + length text.now.bytes)) (ShareMay (length text.now.bytes))
-        (λ _ b. b ≡ rope.old.bytes ++ text.now.bytes) rope.old.bytes result rope.new.bytes }
+    ensures done { Changes (share_rule text.now.bytes) rope.old.bytes result rope.new.bytes }
     ensures kept { IsRopeCell (rope_cell rope.old.bytes) → IsRopeCell (rope_cell rope.new.bytes) }
 {
     if text.len32() as u64 > MAX_TOTAL - rope.len64() {
@@ -48,10 +43,7 @@ fn push_text<A: Atomicity>(rope: &mut Rope<A>, text: &Tendril<UTF8, A>) -> Resul
 
 /// Puts the pieces of another rope at the end of the rope.
 pub(crate) fn append<A: Atomicity>(rope: &mut Option<Rope<A>>, more: Rope<A>) -> Reply
-    ensures done { Changed (AppendMust (rope_cell_of rope.old) (rope_cell more.bytes))
-        (AppendMay (rope_cell_of rope.old) (rope_cell more.bytes))
-        (rope_appended (rope_cell_of rope.old) (rope_cell more.bytes))
-        (rope_cell_of rope.old) result (rope_cell_of rope.new) }
+    ensures done { Changed (append_rule (rope_cell more.bytes)) (rope_cell_of rope.old) result (rope_cell_of rope.new) }
     ensures kept { IsRopeCell (rope_cell_of rope.old) → IsRopeCell (rope_cell_of rope.new) }
 {
     match rope {
@@ -61,8 +53,7 @@ pub(crate) fn append<A: Atomicity>(rope: &mut Option<Rope<A>>, more: Rope<A>) ->
 }
 
 fn append_pieces<A: Atomicity>(rope: &mut Rope<A>, more: Rope<A>) -> Result<(), Refusal>
-    ensures done { Outcome (TotalMust (length rope.old.bytes + length more.bytes)) (ShareMay (length more.bytes))
-        (λ _ b. b ≡ rope.old.bytes ++ more.bytes) rope.old.bytes result rope.new.bytes }
+    ensures done { Changes (share_rule more.bytes) rope.old.bytes result rope.new.bytes }
     ensures kept { IsRopeCell (rope_cell rope.old.bytes) → IsRopeCell (rope_cell rope.new.bytes) }
 {
     if let Err((refusal, _)) = rope.append(more) {
@@ -74,8 +65,7 @@ fn append_pieces<A: Atomicity>(rope: &mut Rope<A>, more: Rope<A>) -> Result<(), 
 
 /// Takes the first character out of the rope.
 pub(crate) fn pop_char<A: Atomicity>(rope: &mut Option<Rope<A>>) -> Reply
-    ensures done { Answered (RopeMust (rope_cell_of rope.old)) NoneMay
-        (Reply.Char (rope_char (rope_cell_of rope.old))) (rope_popped (rope_cell_of rope.old))
+    ensures done { Answered rope_pop_rule (λ cell. Reply.Char (rope_char cell))
         (rope_cell_of rope.old) result (rope_cell_of rope.new) }
     ensures valid { IsRopeCell (rope_cell_of rope.new) }
 {
@@ -91,8 +81,7 @@ pub(crate) fn pop_char<A: Atomicity>(rope: &mut Option<Rope<A>>) -> Reply
 
 /// The rope is gone.
 pub(crate) fn drop_rope<A: Atomicity>(rope: &mut Option<Rope<A>>) -> Reply
-    ensures done { Changed (RopeMust (rope_cell_of rope.old)) NoneMay gone_cell
-        (rope_cell_of rope.old) result (rope_cell_of rope.new) }
+    ensures done { Changed rope_drop_rule (rope_cell_of rope.old) result (rope_cell_of rope.new) }
     ensures gone { rope_cell_of rope.new ≡ gone_cell }
 {
     if let None = rope {

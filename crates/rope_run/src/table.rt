@@ -1,11 +1,12 @@
 //! Texts in numbered slots, and ropes with numbers of their own.
 ghost use Rattle.std.specs.Prelude.{◌≡◌, ◌≤◌, ◌+◌, [], length, All, IfErr, OnOk, MatchOption, MatchResult};
 ghost use Rattle.rope_run.specs.RopeCells.{IsRopeCell, gone as gone_cell, rope as rope_cell, rope_at};
-ghost use Rattle.rope_run.specs.RopeRows.{AppendMay, AppendMust, RopeSubMust, RopeTakeMay, RopeTakeMust, ShareMay, rope_part, rope_taken};
+ghost use Rattle.rope_run.specs.RopeRows.{append_rule, rope_part_rule, rope_take_rule};
 ghost use Rattle.rope_run.specs.RopeSteps.{AddsRope, AddsSlot, IsRefused, RopeStep};
 ghost use Rattle.tendril_block.specs.Outcomes.{Gives};
 ghost use Rattle.tendril_lines.specs.declared.command.Kind.TheVariants as kind;
 ghost use Rattle.tendril_run.specs.Cells.{text as text_cell};
+ghost use Rattle.tendril_run.specs.Rules.{GivesBy};
 
 use crate::command::{RopeCommand, RopeReply};
 use crate::one_rope;
@@ -75,7 +76,7 @@ impl<A: Atomicity> RopeTable<A> {
         self.ropes.get(number)?.as_ref()
     }
 
-    /// Makes room for so many more slots, and so many more ropes. Room that was there stays.
+    /// Makes capacity for `slots` more slots and `ropes` more ropes. Capacity that was there stays.
     pub fn reserve(&mut self, more: usize) -> Result<(), Refusal>
         ensures slots { OnOk result (more ≤ self.new.slot_room) }
         ensures ropes { OnOk result (more ≤ self.new.rope_room) }
@@ -174,8 +175,7 @@ impl<A: Atomicity> RopeTable<A> {
 
     // A part of a rope, which shares its pieces.
     fn part(&self, rope: usize, offset: u64, count: u64) -> Result<Rope<A>, Refusal>
-        ensures { Gives (RopeSubMust (rope_at self.now.cells.ropes rope) offset count) (ShareMay count)
-            (λ r. rope_cell r.bytes ≡ rope_part (rope_at self.now.cells.ropes rope) offset count) result }
+        ensures { GivesBy (rope_part_rule offset count (rope_at self.now.cells.ropes rope)) (λ r. rope_cell r.bytes) result }
     {
         match self.rope(rope) {
             Some(rope) => rope.sub_rope(offset, count),
@@ -185,9 +185,7 @@ impl<A: Atomicity> RopeTable<A> {
 
     // The bytes of a rope as one text, copied.
     fn whole(&self, rope: usize) -> Result<Tendril<UTF8, A>, Refusal>
-        ensures { Gives (RopeTakeMust (rope_at self.now.cells.ropes rope))
-            (RopeTakeMay (rope_at self.now.cells.ropes rope))
-            (λ t. text_cell kind.Utf8 t.bytes ≡ rope_taken (rope_at self.now.cells.ropes rope)) result }
+        ensures { GivesBy (rope_take_rule (rope_at self.now.cells.ropes rope)) (λ t. text_cell kind.Utf8 t.bytes) result }
     {
         match self.rope(rope) {
             Some(rope) => rope.to_tendril(),
@@ -197,8 +195,9 @@ impl<A: Atomicity> RopeTable<A> {
 
     // A clone of a rope, to be put at the end of another, where both together aren't too long.
     fn shared(&self, to: usize, from: usize) -> Result<Rope<A>, Refusal>
-        ensures { let to = rope_at self.now.cells.ropes to in let from = rope_at self.now.cells.ropes from in
-            Gives (AppendMust to from) (AppendMay to from) (λ r. rope_cell r.bytes ≡ from) result }
+        ensures { let from = rope_at self.now.cells.ropes from in
+            let by = append_rule from (rope_at self.now.cells.ropes to) in
+            Gives by.must by.may (λ r. rope_cell r.bytes ≡ from) result }
     {
         match (self.rope(to), self.rope(from)) {
             (Some(to), Some(from)) => {

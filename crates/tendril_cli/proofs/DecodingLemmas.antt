@@ -146,19 +146,19 @@ module _ {D S : Type 0} (inner : D → S) (held : D → List ℕ) (failed : D �
   end_refused d r (inr h) whole = ⊎_elim (λ v. ⊎_elim (λ k. absurd (omega (arith, long-some [] r k.0))) (λ k. k.refused.0) v.1.stop) (λ v. v.2) h.1
 
   -- the read stops it
-  module _ {R : Type 0} (history : R → List OneRead) (remaining : R → Option (List ℕ)) (reader reader' : R) (most : ℕ) (before now : Option (List ℕ)) (these : List OneRead) (on : All MayReadOn these) (some : length these < most) (w : WritesAll these before now) where
+  module _ {R : Type 0} (history : R → List OneRead) (remaining : R → Option (List ℕ)) (reader reader' : R) (max_reads : ℕ) (before now : Option (List ℕ)) (these : List OneRead) (on : All MayReadOn these) (some : length these < max_reads) (w : WritesAll these before now) where
     abbrev Stopped : Refusal → Type 0
-    Stopped r = (more : List OneRead) × MakesReads history remaining reader more reader' × DecodeStops most (these ++ more) (remaining reader') before now r
+    Stopped r = (more : List OneRead) × MakesReads history remaining reader more reader' × DecodeStops max_reads (these ++ more) (remaining reader') before now r
 
     -- for want of memory
     stops_memory : reader' ≡ reader → Stopped Memory
     stops_memory same = (
       [],
       subst (MakesReads history remaining reader []) (sym same) (MakesReads-none history remaining reader),
-      subst (λ l. DecodeStops most l (remaining reader') before now Memory) (sym (append-nil these)) (w, on, some),
+      subst (λ l. DecodeStops max_reads l (remaining reader') before now Memory) (sym (append-nil these)) (w, on, some),
     )
 
-    one_more : (r : OneRead) → length (these ++ r ∷ []) ≤ most
+    one_more : (r : OneRead) → length (these ++ r ∷ []) ≤ max_reads
     one_more r = omega (arith, length-append these (r ∷ []), some)
 
     -- since it failed
@@ -211,15 +211,15 @@ module _ {D S : Type 0} (inner : D → S) (held : D → List ℕ) (failed : D �
 pub given_end : (these : List OneRead) → given (these ++ CameToEnd ∷ []) ≡ given these
 given_end these = given-push these CameToEnd ∙ append-nil (given these)
 
-pub decoded : (most : ℕ) (these : List OneRead) (before after : Option (List ℕ)) → All MayReadOn these → length these < most → WritesText (characters (due (given these))) before after → Decoded most (these ++ CameToEnd ∷ []) before after
-decoded most these before after on some w = record {
+pub decoded : (max_reads : ℕ) (these : List OneRead) (before after : Option (List ℕ)) → All MayReadOn these → length these < max_reads → WritesText (characters (due (given these))) before after → Decoded max_reads (these ++ CameToEnd ∷ []) before after
+decoded max_reads these before after on some w = record {
   writes = subst (λ l. WritesText (characters (due l)) before after) (sym (given_end these)) w;
   ends = record { before = these; on = on; is = refl };
   within = omega (arith, length-append these (CameToEnd ∷ []), some);
 }
 
-pub end_stops : (most : ℕ) (these : List OneRead) (left before after : Option (List ℕ)) (r : Refusal) → All MayReadOn these → length these < most → IsAtEnd left → (r ≡ SinkRefused) × WritesFrontOfText (characters (due (given these))) before after → DecodeStops most (these ++ CameToEnd ∷ []) left before after r
-end_stops most these left before after r on some at_end h = subst (DecodeStops most (these ++ CameToEnd ∷ []) left before after) (sym h.0) (
+pub end_stops : (max_reads : ℕ) (these : List OneRead) (left before after : Option (List ℕ)) (r : Refusal) → All MayReadOn these → length these < max_reads → IsAtEnd left → (r ≡ SinkRefused) × WritesFrontOfText (characters (due (given these))) before after → DecodeStops max_reads (these ++ CameToEnd ∷ []) left before after r
+end_stops max_reads these left before after r on some at_end h = subst (DecodeStops max_reads (these ++ CameToEnd ∷ []) left before after) (sym h.0) (
   inr (subst (λ l. WritesFrontOfText (characters (due l)) before after) (sym (given_end these)) h.1, at_end, record { before = these; on = on; is = refl }),
   omega (arith, length-append these (CameToEnd ∷ []), some),
 )

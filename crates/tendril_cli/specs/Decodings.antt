@@ -52,10 +52,10 @@ pub record WritesFrontOfText (characters : List ℕ) (before after : Option (Lis
   pub front : AppendsFront before after bytes
 
 -- all is read, and what is due of it is written; so many reads at most
-pub record Decoded (most : ℕ) (these : List OneRead) (before after : Option (List ℕ)) : Type 0 where
+pub record Decoded (max_reads : ℕ) (these : List OneRead) (before after : Option (List ℕ)) : Type 0 where
   pub writes : WritesText (characters (due (given these))) before after
   pub ends : StopsWith CameToEnd these
-  pub within : length these ≤ most
+  pub within : length these ≤ max_reads
 
 -- what is due of these reads is written, before their end
 abbrev pub WritesAll : List OneRead → Option (List ℕ) → Option (List ℕ) → Type 0
@@ -78,16 +78,17 @@ WritesUpTo these left before after =
 -- Where each refusal ends a decoding, and what is written then. No read was left; there was no memory for one that was
 -- left; one failed; a piece could be shared no more; or the rest, of which no clause can say what was in the way.
 abbrev pub DecodeStops : ℕ → List OneRead → Option (List ℕ) → Option (List ℕ) → Option (List ℕ) → Refusal → Type 0
-DecodeStops most these left before after TooManyReads =
-    WritesAll these before after × All MayReadOn these × (length these ≡ most)
-DecodeStops most these left before after Memory =
-    WritesAll these before after × All MayReadOn these × (length these < most)
-DecodeStops most these left before after Io =
-    WritesAll these before after × StopsWith HasFailed these × (length these ≤ most)
-DecodeStops most these left before after Count =
-    WritesBefore these before after × All MayReadOn these × (length these ≤ most)
-DecodeStops most these left before after SinkRefused = WritesUpTo these left before after × (length these ≤ most)
-DecodeStops most these left before after other = ⊥
+DecodeStops max_reads these left before after TooManyReads =
+    WritesAll these before after × All MayReadOn these × (length these ≡ max_reads)
+DecodeStops max_reads these left before after Memory =
+    WritesAll these before after × All MayReadOn these × (length these < max_reads)
+DecodeStops max_reads these left before after Io =
+    WritesAll these before after × StopsWith HasFailed these × (length these ≤ max_reads)
+DecodeStops max_reads these left before after Count =
+    WritesBefore these before after × All MayReadOn these × (length these ≤ max_reads)
+DecodeStops max_reads these left before after SinkRefused =
+    WritesUpTo these left before after × (length these ≤ max_reads)
+DecodeStops max_reads these left before after other = ⊥
 
 -- What is due of these reads is written. A decoder that hasn't failed keeps what they leave open, over a sink that has
 -- nothing to be written.
@@ -100,10 +101,10 @@ pub record IsReady (these : List OneRead) (before now : Option (List ℕ)) (held
 
 -- A refusal ended the program: standard error has taken its line or a front of that, and what was written before
 -- stands. Some reads gave what the reader gave; how many those were, the reader of a program can't tell.
-pub record DecodingEnded (most : ℕ) (input before after told told' : Option (List ℕ)) : Type 0 where
+pub record DecodingEnded (max_reads : ℕ) (input before after told told' : Option (List ℕ)) : Type 0 where
   pub refusal : Refusal
   pub these : List OneRead
   pub left : Option (List ℕ)
   pub gave : Consumes input left (given these)
-  pub stops : DecodeStops most these left before after refusal
+  pub stops : DecodeStops max_reads these left before after refusal
   pub tells : AppendsFront told told' (complaint program_name refusal)

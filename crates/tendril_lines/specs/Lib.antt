@@ -2,3 +2,5 @@
 pub mod Names
 pub mod Lines
 pub mod Printed
+pub mod Shapes
+pub mod Words

@@ -14,7 +14,7 @@ use Rattle.tendril_lines.specs.declared.command.Reply.TheVariants.{
   Units,
   Refused,
 }
-use Rattle.tendril_words.specs.Words.{hex_text, big_endian}
+use Rattle.tendril_lines.specs.Words.{hex_text, big_endian}
 
 -- a reply's line
 abbrev pub printed : Reply → List ℕ

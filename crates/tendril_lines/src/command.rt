@@ -1,7 +1,8 @@
 //! What a table is asked, and what it answers.
 
+use crate::byte_list::ByteList;
+use crate::unit_list::UnitList;
 use tendril_block::Refusal;
-use tendril_words::{ByteList, UnitList};
 
 /// A format, by its name.
 #[derive(Clone, Copy, Debug, PartialEq, Eq)]
@@ -38,7 +39,7 @@ pub enum Command {
     PushChar(usize, char),
     /// So many zeros at the end of the slot's bytes.
     PushZeros(usize, u32),
-    /// A new slot with the part of the text that begins at the offset and has so many bytes.
+    /// A new slot with the slice of the text from the offset on, of this length.
     Slice(usize, u32, u32),
     /// So many bytes are dropped from the front of the slot's text.
     PopFront(usize, u32),
@@ -52,7 +53,7 @@ pub enum Command {
     Clone(usize),
     /// The slot's text becomes empty.
     Clear(usize),
-    /// Room for so many more bytes in the slot's text.
+    /// Spare capacity in the slot's text, for a number of bytes.
     Reserve(usize, u32),
     /// The slot's bytes in another format, where they are valid in it.
     Reinterpret(usize, Kind),

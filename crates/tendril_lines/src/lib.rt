@@ -3,13 +3,24 @@
 //! What a command does stands above, in `tendril_run`.
 #![tactic(auto)]
 
+mod byte_list;
 mod command;
+mod hexadecimal;
 mod line;
+mod line_command;
+mod numbers;
 mod reply;
-mod words;
+mod shape;
+mod split;
+mod unit_list;
 
+pub use byte_list::ByteList;
 pub use command::{Command, Comparison, Kind, Reply};
+pub use hexadecimal::{byte, bytes, hex_of};
 pub use line::parse_line;
+pub use line_command::{LineCommand, parse};
+pub use numbers::{long_number, number, scalar};
 pub use reply::print_reply;
-pub use tendril_words::{ByteList, UnitList};
-pub use words::{one_number, two_slots};
+pub use shape::{Value, Values, Word};
+pub use split::split_words;
+pub use unit_list::{UnitList, hex_of_units, units};

@@ -1,44 +1,17 @@
 //! The lines of commands.
-ghost use Rattle.std.specs.Prelude.{◌≡◌, ◌↔◌, ◌∷◌, ℕ, map, Some, IfOk, IfErr};
-ghost use Rattle.tendril_lines.specs.Lines.{AreWords, IsLine, verb_name, words_of};
+ghost use Rattle.std.specs.Prelude.{◌≡◌, ◌↔◌, Some, IfOk, IfErr, IsSomeAnd};
+ghost use Rattle.tendril_lines.specs.Lines.{IsLine, words_of};
+ghost use Rattle.tendril_lines.specs.Shapes.{Spells, shape_of};
+ghost use Rattle.tendril_lines.specs.declared.shape.Value.TheVariants.{Byte, Bytes, Character, Format, Number, Slot, Units16};
+ghost use Rattle.tendril_lines.specs.declared.shape.Values.TheVariants.{One, Two, Three};
 
-use crate::command::Command;
-use crate::words::{
-    kind_and_bytes, number_and_bytes, number_and_char, number_and_kind, one_kind, one_number,
-    three_numbers, two_numbers, two_numbers_and_byte, two_slots, units_alone,
-};
-use std::alloc::{AllocError, Global};
+use crate::byte_list::ByteList;
+use crate::command::{Command, Kind};
+use crate::line_command::{LineCommand, parse};
+use crate::shape::{Value, Values, Word};
+use crate::unit_list::UnitList;
+use std::alloc::Global;
 use tendril_block::Refusal;
-use tendril_words::split_words;
-
-// The first word of a command's line.
-#[derive(Clone, Copy, Debug, PartialEq, Eq)]
-enum Verb {
-    New,
-    From,
-    Push,
-    Join,
-    Char,
-    Zeros,
-    Slice,
-    Front,
-    Back,
-    Pop,
-    Run,
-    Clone,
-    Clear,
-    Reserve,
-    As,
-    Up,
-    Down,
-    Set,
-    Compare,
-    Text,
-    Send,
-    Drop,
-    From16,
-    Units,
-}
 
 /// The command of a line without its line feed, or `None` where no command has this line.
 ///
@@ -51,110 +24,210 @@ pub fn parse_line(alloc: Global, line: &[u8]) -> Result<Option<Command>, Refusal
     ensures found { IfOk result (λ found. (c : _) → (found ≡ Some c) ↔ IsLine c line.now) }
     ensures refusal { IfErr result (λ r. r ≡ Refusal.Memory) }
 {
-    let words = split_words(alloc, line)?;
-    Ok(read_words(alloc, words.as_slice())?)
+    parse::<Command>(alloc, line)
 }
 
-fn read_words(alloc: Global, words: &[&[u8]]) -> Result<Option<Command>, AllocError>
-    ensures { IfOk result (λ found. (c : _) → (found ≡ Some c) ↔ AreWords (words_of c) (map (λ word. word.now) words.now)) }
-{
-    let Some((first, arguments)) = words.split_first() else {
-        return Ok(None);
-    };
-    let Some(verb) = verb_of(first) else {
-        return Ok(None);
-    };
-    read(alloc, verb, arguments)
+impl LineCommand for Command {
+    ghost use Rattle.tendril_lines.specs.Lines.{words_of};
+
+    ghost spelling = { words_of };
+
+    fn shape(verb: &[u8]) -> Option<&'static [Word]> {
+        shape(verb)
+    }
+
+    fn from_values(verb: &[u8], values: Values) -> Option<Self> {
+        match values {
+            Values::Empty => None,
+            Values::One(value) => of_one(verb, value),
+            Values::Two(first, second) => of_two(verb, first, second),
+            Values::Three(first, second, third) => of_three(verb, first, second, third),
+        }
+    }
 }
 
-// The verb of a word.
-fn verb_of(word: &[u8]) -> Option<Verb>
-    ensures { (verb : _) → (result ≡ Some verb) ↔ (word.now ≡ verb_name verb) }
+// What the words after a verb may stand for.
+fn shape(verb: &[u8]) -> Option<&'static [Word]>
+    ensures { (c : _) → verb.now ≡ (words_of c).0
+        → IsSomeAnd result (λ shape. shape.now ≡ shape_of (words_of c).1) }
 {
-    match word {
-        b"new" => Some(Verb::New),
-        b"from" => Some(Verb::From),
-        b"push" => Some(Verb::Push),
-        b"join" => Some(Verb::Join),
-        b"char" => Some(Verb::Char),
-        b"zeros" => Some(Verb::Zeros),
-        b"slice" => Some(Verb::Slice),
-        b"front" => Some(Verb::Front),
-        b"back" => Some(Verb::Back),
-        b"pop" => Some(Verb::Pop),
-        b"run" => Some(Verb::Run),
-        b"clone" => Some(Verb::Clone),
-        b"clear" => Some(Verb::Clear),
-        b"reserve" => Some(Verb::Reserve),
-        b"as" => Some(Verb::As),
-        b"up" => Some(Verb::Up),
-        b"down" => Some(Verb::Down),
-        b"set" => Some(Verb::Set),
-        b"cmp" => Some(Verb::Compare),
-        b"text" => Some(Verb::Text),
-        b"send" => Some(Verb::Send),
-        b"drop" => Some(Verb::Drop),
-        b"from16" => Some(Verb::From16),
-        b"units" => Some(Verb::Units),
+    use Word::{Byte, Bytes, Character, Format, Number, Slot, Units16};
+    match verb {
+        b"pop" | b"run" | b"clone" | b"clear" | b"text" | b"send" | b"drop" | b"units" => Some(&[
+            Slot,
+        ]),
+        b"new" => Some(&[Format]),
+        b"from16" => Some(&[Units16]),
+        b"join" | b"cmp" => Some(&[Slot, Slot]),
+        b"zeros" | b"front" | b"back" | b"reserve" => Some(&[Slot, Number]),
+        b"char" => Some(&[Slot, Character]),
+        b"as" | b"up" | b"down" => Some(&[Slot, Format]),
+        b"push" => Some(&[Slot, Bytes]),
+        b"from" => Some(&[Format, Bytes]),
+        b"slice" => Some(&[Slot, Number, Number]),
+        b"set" => Some(&[Slot, Number, Byte]),
         _ => None,
     }
 }
 
-// The command of a verb and the words after it.
-fn read(alloc: Global, verb: Verb, arguments: &[&[u8]]) -> Result<Option<Command>, AllocError>
-    ensures { IfOk result (λ found. (c : _) → (found ≡ Some c)
-        ↔ AreWords (words_of c) (verb_name verb ∷ map (λ word. word.now) arguments.now)) }
+// The command of a verb and one word.
+fn of_one(verb: &[u8], value: Value) -> Option<Command>
+    ensures { (c : _) → (result ≡ Some c) ↔ Spells (words_of c) verb.now (One value) }
+{
+    match value {
+        Value::Slot(slot) => of_slot(verb, slot),
+        Value::Format(kind) => of_format(verb, kind),
+        Value::Units16(units) => of_units(verb, units),
+        _ => None,
+    }
+}
+
+// The command of a verb and two words.
+fn of_two(verb: &[u8], first: Value, second: Value) -> Option<Command>
+    ensures { (c : _) → (result ≡ Some c) ↔ Spells (words_of c) verb.now (Two first second) }
+{
+    match (first, second) {
+        (Value::Slot(first), Value::Slot(second)) => of_slots(verb, first, second),
+        (Value::Slot(slot), Value::Number(count)) => of_slot_and_number(verb, slot, count),
+        (Value::Slot(slot), Value::Character(c)) => of_slot_and_character(verb, slot, c),
+        (Value::Slot(slot), Value::Format(kind)) => of_slot_and_format(verb, slot, kind),
+        (Value::Slot(slot), Value::Bytes(bytes)) => of_slot_and_bytes(verb, slot, bytes),
+        (Value::Format(kind), Value::Bytes(bytes)) => of_format_and_bytes(verb, kind, bytes),
+        _ => None,
+    }
+}
+
+// The command of a verb and three words.
+fn of_three(verb: &[u8], first: Value, second: Value, third: Value) -> Option<Command>
+    ensures { (c : _) → (result ≡ Some c) ↔ Spells (words_of c) verb.now (Three first second third) }
+{
+    match (first, second) {
+        (Value::Slot(slot), Value::Number(number)) => of_slot_number_and(verb, slot, number, third),
+        _ => None,
+    }
+}
+
+fn of_slot_number_and(verb: &[u8], slot: usize, number: u32, third: Value) -> Option<Command>
+    ensures { (c : _) → (result ≡ Some c)
+        ↔ Spells (words_of c) verb.now (Three (Slot slot) (Number number) third) }
+{
+    match third {
+        Value::Number(length) => of_slot_and_numbers(verb, slot, number, length),
+        Value::Byte(byte) => of_slot_and_byte(verb, slot, number, byte),
+        _ => None,
+    }
+}
+
+fn of_slot(verb: &[u8], slot: usize) -> Option<Command>
+    ensures { (c : _) → (result ≡ Some c) ↔ Spells (words_of c) verb.now (One (Slot slot)) }
 {
     match verb {
-        Verb::New => Ok(one_kind(arguments).map(|kind| Command::New(kind))),
-        Verb::From => Ok(kind_and_bytes(alloc, arguments)?.map(|(kind, bytes)| Command::FromBytes(
-            kind, bytes,
-        ))),
-        Verb::Push => Ok(number_and_bytes(alloc, arguments)?.map(|(slot, bytes)| Command::PushBytes(
-            slot, bytes,
-        ))),
-        Verb::Join => Ok(two_slots(arguments).map(|(to, from)| Command::PushTendril(to, from))),
-        Verb::Char => Ok(number_and_char(arguments).map(|(slot, character)| Command::PushChar(
-            slot, character,
-        ))),
-        Verb::Zeros => Ok(two_numbers(arguments).map(|(slot, count)| Command::PushZeros(
-            slot, count,
-        ))),
-        Verb::Slice => Ok(three_numbers(arguments).map(|(slot, offset, count)| Command::Slice(
-            slot, offset, count,
-        ))),
-        Verb::Front => Ok(two_numbers(arguments).map(|(slot, count)| Command::PopFront(
-            slot, count,
-        ))),
-        Verb::Back => Ok(two_numbers(arguments).map(|(slot, count)| Command::PopBack(slot, count))),
-        Verb::Pop => Ok(one_number(arguments).map(|slot| Command::PopChar(slot))),
-        Verb::Run => Ok(one_number(arguments).map(|slot| Command::PopRun(slot))),
-        Verb::Clone => Ok(one_number(arguments).map(|slot| Command::Clone(slot))),
-        Verb::Clear => Ok(one_number(arguments).map(|slot| Command::Clear(slot))),
-        Verb::Reserve => Ok(two_numbers(arguments).map(|(slot, more)| Command::Reserve(
-            slot, more,
-        ))),
-        Verb::As => Ok(number_and_kind(arguments).map(|(slot, kind)| Command::Reinterpret(
-            slot, kind,
-        ))),
-        Verb::Up => Ok(number_and_kind(arguments).map(|(slot, kind)| Command::ToSuperset(
-            slot, kind,
-        ))),
-        Verb::Down => Ok(number_and_kind(arguments).map(|(slot, kind)| Command::ToSubset(
-            slot, kind,
-        ))),
-        Verb::Set => Ok(two_numbers_and_byte(alloc, arguments)?.map(|(
-            slot,
-            index,
-            byte,
-        )| Command::WriteByte(slot, index, byte))),
-        Verb::Compare => Ok(two_slots(arguments).map(|(first, second)| Command::Compare(
-            first, second,
-        ))),
-        Verb::Text => Ok(one_number(arguments).map(|slot| Command::Text(slot))),
-        Verb::Send => Ok(one_number(arguments).map(|slot| Command::ThroughSend(slot))),
-        Verb::Drop => Ok(one_number(arguments).map(|slot| Command::Drop(slot))),
-        Verb::From16 => Ok(units_alone(alloc, arguments)?.map(|units| Command::FromUnits(units))),
-        Verb::Units => Ok(one_number(arguments).map(|slot| Command::Units(slot))),
+        b"pop" => Some(Command::PopChar(slot)),
+        b"run" => Some(Command::PopRun(slot)),
+        b"clone" => Some(Command::Clone(slot)),
+        b"clear" => Some(Command::Clear(slot)),
+        b"text" => Some(Command::Text(slot)),
+        b"send" => Some(Command::ThroughSend(slot)),
+        b"drop" => Some(Command::Drop(slot)),
+        b"units" => Some(Command::Units(slot)),
+        _ => None,
+    }
+}
+
+fn of_format(verb: &[u8], kind: Kind) -> Option<Command>
+    ensures { (c : _) → (result ≡ Some c) ↔ Spells (words_of c) verb.now (One (Format kind)) }
+{
+    match verb {
+        b"new" => Some(Command::New(kind)),
+        _ => None,
+    }
+}
+
+fn of_units(verb: &[u8], units: UnitList) -> Option<Command>
+    ensures { (c : _) → (result ≡ Some c) ↔ Spells (words_of c) verb.now (One (Units16 units)) }
+{
+    match verb {
+        b"from16" => Some(Command::FromUnits(units)),
+        _ => None,
+    }
+}
+
+fn of_slots(verb: &[u8], first: usize, second: usize) -> Option<Command>
+    ensures { (c : _) → (result ≡ Some c) ↔ Spells (words_of c) verb.now (Two (Slot first) (Slot second)) }
+{
+    match verb {
+        b"join" => Some(Command::PushTendril(first, second)),
+        b"cmp" => Some(Command::Compare(first, second)),
+        _ => None,
+    }
+}
+
+fn of_slot_and_number(verb: &[u8], slot: usize, count: u32) -> Option<Command>
+    ensures { (c : _) → (result ≡ Some c) ↔ Spells (words_of c) verb.now (Two (Slot slot) (Number count)) }
+{
+    match verb {
+        b"zeros" => Some(Command::PushZeros(slot, count)),
+        b"front" => Some(Command::PopFront(slot, count)),
+        b"back" => Some(Command::PopBack(slot, count)),
+        b"reserve" => Some(Command::Reserve(slot, count)),
+        _ => None,
+    }
+}
+
+fn of_slot_and_character(verb: &[u8], slot: usize, character: char) -> Option<Command>
+    ensures { (c : _) → (result ≡ Some c) ↔ Spells (words_of c) verb.now (Two (Slot slot) (Character character)) }
+{
+    match verb {
+        b"char" => Some(Command::PushChar(slot, character)),
+        _ => None,
+    }
+}
+
+fn of_slot_and_format(verb: &[u8], slot: usize, kind: Kind) -> Option<Command>
+    ensures { (c : _) → (result ≡ Some c) ↔ Spells (words_of c) verb.now (Two (Slot slot) (Format kind)) }
+{
+    match verb {
+        b"as" => Some(Command::Reinterpret(slot, kind)),
+        b"up" => Some(Command::ToSuperset(slot, kind)),
+        b"down" => Some(Command::ToSubset(slot, kind)),
+        _ => None,
+    }
+}
+
+fn of_slot_and_bytes(verb: &[u8], slot: usize, bytes: ByteList) -> Option<Command>
+    ensures { (c : _) → (result ≡ Some c) ↔ Spells (words_of c) verb.now (Two (Slot slot) (Bytes bytes)) }
+{
+    match verb {
+        b"push" => Some(Command::PushBytes(slot, bytes)),
+        _ => None,
+    }
+}
+
+fn of_format_and_bytes(verb: &[u8], kind: Kind, bytes: ByteList) -> Option<Command>
+    ensures { (c : _) → (result ≡ Some c) ↔ Spells (words_of c) verb.now (Two (Format kind) (Bytes bytes)) }
+{
+    match verb {
+        b"from" => Some(Command::FromBytes(kind, bytes)),
+        _ => None,
+    }
+}
+
+fn of_slot_and_numbers(verb: &[u8], slot: usize, offset: u32, length: u32) -> Option<Command>
+    ensures { (c : _) → (result ≡ Some c)
+        ↔ Spells (words_of c) verb.now (Three (Slot slot) (Number offset) (Number length)) }
+{
+    match verb {
+        b"slice" => Some(Command::Slice(slot, offset, length)),
+        _ => None,
+    }
+}
+
+fn of_slot_and_byte(verb: &[u8], slot: usize, index: u32, byte: u8) -> Option<Command>
+    ensures { (c : _) → (result ≡ Some c)
+        ↔ Spells (words_of c) verb.now (Three (Slot slot) (Number index) (Byte byte)) }
+{
+    match verb {
+        b"set" => Some(Command::WriteByte(slot, index, byte)),
+        _ => None,
     }
 }

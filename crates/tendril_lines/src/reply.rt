@@ -5,9 +5,10 @@ ghost use Rattle.tendril_lines.specs.Names.{kind_name, comparison_name};
 ghost use Rattle.tendril_lines.specs.Printed.{printed};
 
 use crate::command::{Comparison, Kind, Reply};
+use crate::hexadecimal::hex_of;
+use crate::unit_list::hex_of_units;
 use std::alloc::{AllocError, Global};
 use tendril_block::Refusal;
-use tendril_words::{hex_of, hex_of_units};
 
 /// A reply's line, without its line feed: `ok`, `slot N`, `char C`, `run N K`, `none`, `less`, `equal`, `greater`,
 /// `differ`, a format's name with the bytes in lower-case digits or `-`, `units` with the units so, or

@@ -1,13 +1,13 @@
-use Rattle.std.proofs.Common.{◌≡◌, ◌≢◌, ℕ, ◌<◌, List, length, get_or, set, map, ap, refl, sym, subst, ◌∙◌, Option, None, Result, Ok, Err, Bool, true, false, if◌then◌else◌, [], ◌∷◌, ◌++◌, All}
+use Rattle.std.proofs.Common.{◌≡◌, ◌≢◌, ℕ, ◌<◌, List, length, get_or, set, map, ap, refl, sym, subst, ◌∙◌, None, Result, Ok, Err, Bool, true, false, if◌then◌else◌, [], ◌∷◌, ◌++◌, All}
 use Rattle.std.proofs.lemmas.List.{map-set, map-append, set-set, get_or-map, get_or-set_other, length-map}
 use Rattle.std.proofs.lemmas.List.Elements.{All-set, All-push, All-get_or}
 use Rattle.std.proofs.Math.Seq.{map-set_same}
 use Rattle.tendril_block.specs.declared.refusal.Refusal.{Refusal}
 use Rattle.std.specs.Result.{MatchResult}
-use Rattle.tendril_block.specs.Outcomes.{Gives, Outcome, Refused}
+use Rattle.tendril_block.specs.Outcomes.{Refused}
 use Rattle.tendril_run.specs.Cells.{Cell, IsCell, gone, cell_at}
 use Rattle.tendril_run.specs.Steps.{AddsCell}
-use Rattle.tendril_run.specs.Rules.{Changes}
+use Rattle.tendril_run.specs.Rules.{Rule, with_effect, Changes, Follows, GivesBy}
 use Rattle.tendril_lines.specs.declared.command.Reply.{Reply}
 use Rattle.tendril_lines.specs.declared.command.Reply.TheVariants.{Made}
 
@@ -39,18 +39,18 @@ other_cell f items cells slot other s meanwhile is within apart found =
     (one_changed f items cells other s s is within (found ∙ get_or-set_other items slot other meanwhile s (λ e. apart (sym e)))).here
 
 -- what is done to one cell is done to its table
-pub table_done : (must : Cell → Option Refusal → Type 0) (effect : Cell → Cell) (cells : List Cell) (slot : ℕ) (old new : Cell) (after : List Cell) → OneChanged cells slot old new after → must old None × (new ≡ effect old) → must (cell_at cells slot) None × (after ≡ set cells slot (effect (cell_at cells slot)))
-table_done must effect cells slot old new after one h =
-    (subst (λ c. must c None) (sym one.here) h.0, one.there ∙ ap (λ c. set cells slot c) (h.1 ∙ ap effect (sym one.here)))
+pub table_done : (by : Cell → Rule Cell) (cells : List Cell) (slot : ℕ) (old new : Cell) (after : List Cell) → OneChanged cells slot old new after → (by old).must None × (new ≡ (by old).effect) → (by (cell_at cells slot)).must None × (after ≡ set cells slot (by (cell_at cells slot)).effect)
+table_done by cells slot old new after one h =
+    (subst (λ c. (by c).must None) (sym one.here) h.0, one.there ∙ ap (λ c. set cells slot c) (h.1 ∙ ap (λ c. (by c).effect) (sym one.here)))
 
 -- and what is refused there is refused here
-pub table_refused : (must : Cell → Option Refusal → Type 0) (may : Cell → Refusal → Type 0) (cells : List Cell) (slot : ℕ) (old new : Cell) (after : List Cell) (r : Refusal) → OneChanged cells slot old new after → Refused (must old) (may old) r × (new ≡ old) → Refused (must (cell_at cells slot)) (may (cell_at cells slot)) r × (after ≡ cells)
-table_refused must may cells slot old new after r one h = (subst (λ c. Refused (must c) (may c) r) (sym one.here) h.0, one.kept h.1)
+pub table_refused : (by : Cell → Rule Cell) (cells : List Cell) (slot : ℕ) (old new : Cell) (after : List Cell) (r : Refusal) → OneChanged cells slot old new after → Refused (by old).must (by old).may r × (new ≡ old) → Refused (by (cell_at cells slot)).must (by (cell_at cells slot)).may r × (after ≡ cells)
+table_refused by cells slot old new after r one h = (subst (λ c. Refused (by c).must (by c).may r) (sym one.here) h.0, one.kept h.1)
 
 -- both in one
-pub table_changed : {R : Type 0} (must : Cell → Option Refusal → Type 0) (may : Cell → Refusal → Type 0) (effect : Cell → Cell) (cells : List Cell) (slot : ℕ) (old new : Cell) (after : List Cell) (result : Result R Refusal) → OneChanged cells slot old new after → Changes (must old) (may old) (effect old) old result new → Changes (must (cell_at cells slot)) (may (cell_at cells slot)) (set cells slot (effect (cell_at cells slot))) cells result after
-table_changed must may effect cells slot old new after (Ok r) one h = table_done must effect cells slot old new after one h
-table_changed must may effect cells slot old new after (Err r) one h = table_refused must may cells slot old new after r one h
+pub table_changed : {R : Type 0} (by : Cell → Rule Cell) (cells : List Cell) (slot : ℕ) (old new : Cell) (after : List Cell) (result : Result R Refusal) → OneChanged cells slot old new after → Changes by old result new → Changes (λ cells. with_effect (set cells slot) (by (cell_at cells slot))) cells result after
+table_changed by cells slot old new after (Ok r) one h = table_done by cells slot old new after one h
+table_changed by cells slot old new after (Err r) one h = table_refused by cells slot old new after r one h
 
 -- cells stay cells where one of them is replaced by a cell
 pub set_cells : {S : Type 0} (f : S → Cell) (items : List S) (slot : ℕ) (s : S) → All IsCell (map f items) → IsCell (f s) → All IsCell (map f (set items slot s))
@@ -73,8 +73,8 @@ added_cells f true items after s e h one =
 added_cells f false items after s e h one = subst (λ xs. All IsCell (map f xs)) (sym e) h
 
 -- where the slot of a cell is added, if it can be made, the cell is
-pub made_added : {S : Type 0} (f : S → Cell) (must : Option Refusal → Type 0) (may : Refusal → Type 0) (cell : Cell) (cells after : List Cell) (made : Result S Refusal) (result : Result Reply Refusal)
+pub made_added : {S : Type 0} (f : S → Cell) (by : Rule Cell) (cells after : List Cell) (made : Result S Refusal) (result : Result Reply Refusal)
     → MatchResult made (λ s. (result ≡ Ok (Made (length cells))) × (after ≡ cells ++ f s ∷ [])) (λ r. (result ≡ Err r) × (after ≡ cells))
-    → Gives must may (λ s. f s ≡ cell) made → Outcome must may (AddsCell cells cell) cells result after
-made_added f must may cell cells after (Ok s) result added gives = rw added.0 (gives.0, (refl, added.1 ∙ ap (λ c. cells ++ c ∷ []) gives.1))
-made_added f must may cell cells after (Err r) result added gives = rw added.0 (gives, added.1)
+    → GivesBy by f made → Follows (λ old. with_effect (AddsCell old) by) cells result after
+made_added f by cells after (Ok s) result added gives = rw added.0 (gives.0, (refl, added.1 ∙ ap (λ c. cells ++ c ∷ []) gives.1))
+made_added f by cells after (Err r) result added gives = rw added.0 (gives, added.1)

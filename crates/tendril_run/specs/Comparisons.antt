@@ -1,14 +1,13 @@
 -- How two cells compare, and what is answered to that.
-use Rattle.std.specs.Prelude.{ℕ, ◌≡◌, List, Option, nat_eq, if◌then◌else◌}
+use Rattle.std.specs.Prelude.{ℕ, ◌≡◌, List, nat_eq, if◌then◌else◌}
 use Rattle.std.specs.Cmp.Lexicographic.{pointwise, slice_cmp}
 use Rattle.std.specs.Ordering.{nat_cmp}
 use Rattle.std.specs.declared.cmp.Ordering.{Ordering}
 use Rattle.std.specs.declared.cmp.Ordering.TheVariants as ordering
-use Rattle.tendril_block.specs.declared.refusal.Refusal.{Refusal}
 use Rattle.tendril_block.specs.declared.refusal.Refusal.TheVariants.{WrongFormat}
 use Rattle.tendril_run.specs.Cells.{Cell}
-use Rattle.tendril_run.specs.OneCell.{TextMust, OfText}
-use Rattle.tendril_block.specs.Outcomes.{NoneMust, First}
+use Rattle.tendril_run.specs.OneCell.{on_told}
+use Rattle.tendril_run.specs.Rules.{Rule, always, first}
 use Rattle.tendril_lines.specs.declared.command.Comparison.{Comparison}
 use Rattle.tendril_lines.specs.declared.command.Comparison.TheVariants.{Less, Equal, Greater, Differ}
 use Rattle.tendril_lines.specs.declared.command.Kind.{Kind}
@@ -28,12 +27,8 @@ comparison_in Bytes b y = in_order (slice_cmp nat_cmp b y)
 comparison_in Utf8 b y = in_order (slice_cmp nat_cmp b y)
 comparison_in kind b y = if pointwise nat_eq b y then Equal else Differ
 
--- the first refusal of a comparison of two cells
-abbrev pub CompareMust : Cell → Cell → Option Refusal → Type 0
-CompareMust cell other must =
-    TextMust (λ kind b. TextMust (λ format y. First (kind ≡ format) WrongFormat NoneMust) other) cell must
-
--- the reply that tells how two cells compare
-abbrev pub TellsComparison : Cell → Cell → Reply → Type 0
-TellsComparison cell other reply =
-    OfText (λ kind b. OfText (λ format y reply. reply ≡ Compared (comparison_in kind b y)) other) cell reply
+-- the rule of the reply that tells how two cells compare
+abbrev pub compare_rule : Cell → Cell → Rule Reply
+compare_rule cell other =
+    on_told (λ kind b. on_told (λ format y.
+    first (kind ≡ format) WrongFormat (always (Compared (comparison_in kind b y)))) other) cell

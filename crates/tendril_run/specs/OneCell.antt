@@ -1,7 +1,18 @@
 -- What a command does to one cell.
 use Rattle.std.specs.Prelude.{ℕ, ◌≡◌, ◌⊎◌, List, length, take, drop, Option, Some, None, Result, MatchResult, IfOk}
 use Rattle.tendril_block.specs.declared.refusal.Refusal.{Refusal}
-use Rattle.tendril_block.specs.declared.refusal.Refusal.TheVariants.{NoSuchSlot, WrongFormat}
+use Rattle.tendril_block.specs.declared.refusal.Refusal.TheVariants.{NoSuchSlot, Memory, WrongFormat}
+use Rattle.tendril_block.specs.Outcomes.{
+  NoneMust,
+  LengthMust,
+  ValidMust,
+  BytesMust,
+  NoneMay,
+  MemoryMay,
+  SliceMust,
+  CharMust,
+  CountMay,
+}
 use Rattle.tendril_fmt.specs.Wtf8.{units}
 use Rattle.tendril_run.specs.Cells.{Cell, IsCell, gone, text, valid_in, join_in, IsPartOf}
 use Rattle.tendril_run.specs.Characters.{
@@ -14,21 +25,8 @@ use Rattle.tendril_run.specs.Characters.{
   run_bytes,
   FirstRunMay,
 }
-use Rattle.tendril_run.specs.Edits.{EditMust, EditMay, edited, ByteEditMust, ByteEditMay, byte_edited}
-use Rattle.tendril_block.specs.Outcomes.{
-  NoneMust,
-  First,
-  LengthMust,
-  ValidMust,
-  BytesMust,
-  NoneMay,
-  MemoryMay,
-  SliceMust,
-  CharMust,
-  CountMay,
-  Outcome,
-}
-use Rattle.tendril_run.specs.Rules.{Changes}
+use Rattle.tendril_run.specs.Edits.{edit_rule, byte_edit_rule}
+use Rattle.tendril_run.specs.Rules.{Rule, rule_with, always, no_slot, grown, first, with_effect}
 use Rattle.tendril_run.specs.declared.change.Change.{Change}
 use Rattle.tendril_run.specs.declared.change.Change.TheVariants as change
 use Rattle.tendril_run.specs.declared.change.Conversion.{Conversion}
@@ -36,203 +34,120 @@ use Rattle.tendril_run.specs.declared.change.Conversion.TheVariants.{Reinterpret
 use Rattle.tendril_lines.specs.declared.command.Kind.{Kind}
 use Rattle.tendril_lines.specs.declared.command.Kind.TheVariants.{Bytes, Wtf8}
 use Rattle.tendril_lines.specs.declared.command.Reply.{Reply}
-use Rattle.tendril_lines.specs.declared.command.Reply.TheVariants.{Text, Units}
+use Rattle.tendril_lines.specs.declared.command.Reply.TheVariants.{Text, Units, Refused}
 
--- What is said of a text is said of a cell by these three, which know what holds where a cell is gone.
+-- the rule of what asks for a cell's text; a cell that is gone refuses it, so that the effect there never comes
+abbrev pub on_text : {E : Type 0} → E → (Kind → List ℕ → Rule E) → Cell → Rule E
+on_text never inner gone = no_slot never
+on_text never inner (text kind b) = inner kind b
 
--- the first refusal of what asks for a cell's text
-abbrev pub TextMust : (Kind → List ℕ → Option Refusal → Type 0) → Cell → Option Refusal → Type 0
-TextMust rule gone must = must ≡ Some NoSuchSlot
-TextMust rule (text kind b) must = rule kind b must
+-- the rule of what makes another text of a cell's text, in the same format
+abbrev pub on_bytes : (Kind → List ℕ → Rule (List ℕ)) → Cell → Rule Cell
+on_bytes inner cell = on_text gone (λ kind b. with_effect (text kind) (inner kind b)) cell
 
--- what holds between a cell's text and something else, and of nothing where the cell is gone
-abbrev pub OfText : {X : Type 0} → (Kind → List ℕ → X → Type 0) → Cell → X → Type 0
-OfText rule gone x = ⊥
-OfText rule (text kind b) x = rule kind b x
+-- the rule of what makes another text of a cell's characters, where its format has them
+abbrev pub on_chars : (Kind → List ℕ → Rule (List ℕ)) → Cell → Rule Cell
+on_chars inner cell = on_bytes (λ kind b. first (HasChars kind) WrongFormat (inner kind b)) cell
 
--- the cell that a text becomes
-abbrev pub from_text : (Kind → List ℕ → Cell) → Cell → Cell
-from_text effect gone = gone
-from_text effect (text kind b) = effect kind b
+-- the rule of a reply that tells of a cell's text
+abbrev pub on_told : (Kind → List ℕ → Rule Reply) → Cell → Rule Reply
+on_told inner cell = on_text (Refused NoSuchSlot) inner cell
+
+-- no state rules out that memory is wanting for what is told, however little
+abbrev pub ToldMay : Refusal → Type 0
+ToldMay r = r ≡ Memory
 
 -- the refusals that no state rules out where so many bytes are made sendable and taken back
 abbrev pub SendMay : ℕ → Refusal → Type 0
 SendMay n r = MemoryMay n r ⊎ CountMay n r
 
--- the first refusal of a call that a cell only needs to be there for
-abbrev pub CellMust : Cell → Option Refusal → Type 0
-CellMust cell must = TextMust (λ kind b. NoneMust) cell must
+-- the rule of a new cell with the text z, of whose length the refusals are said
+abbrev pub made_rule : Kind → (ℕ → Option Refusal → Type 0) → List ℕ → Rule Cell
+made_rule kind must z = with_effect (text kind) (grown must z)
 
--- of a part of a cell
-abbrev pub CellSliceMust : Cell → ℕ → ℕ → Option Refusal → Type 0
-CellSliceMust cell offset count must = TextMust (λ kind b. SliceMust (valid_in kind) b offset count) cell must
+-- the rule of a part of a cell
+abbrev pub part_rule : ℕ → ℕ → Cell → Rule Cell
+part_rule offset count cell =
+    on_bytes (λ kind b.
+    rule_with (SliceMust (valid_in kind) b offset count) (CountMay count) (take count (drop offset b))) cell
 
--- a part of a cell
-abbrev pub part : Cell → ℕ → ℕ → Cell
-part cell offset count = from_text (λ kind b. text kind (take count (drop offset b))) cell
+-- the rule of a clone of a cell
+abbrev pub clone_rule : Cell → Rule Cell
+clone_rule cell = on_bytes (λ kind b. rule_with NoneMust (CountMay (length b)) b) cell
 
--- the refusals of a clone that no state rules out
-abbrev pub CellCloneMay : Cell → Refusal → Type 0
-CellCloneMay cell r = OfText (λ kind b. CountMay (length b)) cell r
+-- the rule of a push of the bytes y onto a cell
+abbrev pub push_rule : List ℕ → Cell → Rule Cell
+push_rule y cell = on_bytes (λ kind b. grown (BytesMust (valid_in kind) y) (join_in kind b y)) cell
 
--- the same of a cell's text: it is shared first, and then copied
-abbrev pub CellSendMay : Cell → Refusal → Type 0
-CellSendMay cell r = OfText (λ kind b. SendMay (length b)) cell r
+-- the rule of a push of the character c onto a cell
+abbrev pub push_char_rule : ℕ → Cell → Rule Cell
+push_char_rule c cell =
+    on_chars (λ kind b. grown (CharMust (IsCharIn kind) c) (join_in kind b (encoding_in kind c))) cell
 
--- the first refusal of a push of the bytes y onto a cell
-abbrev pub PushMust : Cell → List ℕ → Option Refusal → Type 0
-PushMust cell y must = TextMust (λ kind b. BytesMust (valid_in kind) y (length (join_in kind b y))) cell must
-
--- the refusals of a push that no state rules out
-abbrev pub PushMay : Cell → List ℕ → Refusal → Type 0
-PushMay cell y r = OfText (λ kind b. MemoryMay (length (join_in kind b y))) cell r
-
--- the cell with y at its end
-abbrev pub pushed : Cell → List ℕ → Cell
-pushed cell y = from_text (λ kind b. text kind (join_in kind b y)) cell
-
--- the first refusal of a push of the character c onto a cell
-abbrev pub PushCharMust : Cell → ℕ → Option Refusal → Type 0
-PushCharMust cell c must =
-    TextMust (λ kind b.
-    First (HasChars kind) WrongFormat (CharMust (IsCharIn kind) c (length (join_in kind b (encoding_in kind c)))))
-    cell must
-
--- the refusals of it that no state rules out
-abbrev pub PushCharMay : Cell → ℕ → Refusal → Type 0
-PushCharMay cell c r = OfText (λ kind b. MemoryMay (length (join_in kind b (encoding_in kind c)))) cell r
-
--- the cell with c at its end
-abbrev pub char_pushed : Cell → ℕ → Cell
-char_pushed cell c = from_text (λ kind b. text kind (join_in kind b (encoding_in kind c))) cell
-
--- the first refusal of a call that asks for a cell's characters
-abbrev pub CharsMust : Cell → Option Refusal → Type 0
-CharsMust cell must = TextMust (λ kind b. First (HasChars kind) WrongFormat NoneMust) cell must
+-- the rule of a push of another cell's text onto a cell: where both are one slot, it is shared first
+abbrev pub join_rule : ℕ → ℕ → Cell → Cell → Rule Cell
+join_rule to from other cell =
+    on_bytes (λ kind b. on_text b (λ format y.
+    let z = join_in kind b y in
+    first (kind ≡ format) WrongFormat
+    (rule_with (LengthMust (length z)) (λ r. MemoryMay (length z) r ⊎ ((to ≡ from) × CountMay (length b) r)) z))
+    other) cell
 
 -- the first character of a cell
 abbrev pub char_of : Cell → Option ℕ
 char_of gone = None
 char_of (text kind b) = first_of (chars_in kind b)
 
--- a cell without its first character
-abbrev pub char_popped : Cell → Cell
-char_popped cell = from_text (λ kind b. text kind (without_first (encoding_in kind) (chars_in kind b) b)) cell
+-- the rule of a pop of a cell's first character, which leaves the rest
+abbrev pub pop_char_rule : Cell → Rule Cell
+pop_char_rule cell = on_chars (λ kind b. always (without_first (encoding_in kind) (chars_in kind b) b)) cell
 
 -- the run at the front of a cell
 abbrev pub run_of : (ℕ → ℕ) → Cell → Cell
-run_of class cell = from_text (λ kind b. text kind (run_bytes (encoding_in kind) class (chars_in kind b))) cell
+run_of class gone = gone
+run_of class (text kind b) = text kind (run_bytes (encoding_in kind) class (chars_in kind b))
 
--- a cell without the run at its front
-abbrev pub run_popped : (ℕ → ℕ) → Cell → Cell
-run_popped class cell =
-    from_text (λ kind b. text kind (drop (length (run_bytes (encoding_in kind) class (chars_in kind b))) b)) cell
-
--- the refusals of a pop of that run that no state rules out
-abbrev pub RunMay : (ℕ → ℕ) → Cell → Refusal → Type 0
-RunMay class cell r = OfText (λ kind b. FirstRunMay (encoding_in kind) class (chars_in kind b) b) cell r
+-- the rule of a pop of that run, which leaves the rest
+abbrev pub pop_run_rule : (ℕ → ℕ) → Cell → Rule Cell
+pop_run_rule class cell =
+    on_chars (λ kind b. rule_with NoneMust (FirstRunMay (encoding_in kind) class (chars_in kind b) b)
+    (drop (length (run_bytes (encoding_in kind) class (chars_in kind b))) b)) cell
 
 -- a cell is parted into the run at its front, whose class is k, and the rest
 abbrev pub IsRunOf : (ℕ → ℕ) → Cell → ℕ → Cell → Cell → Type 0
 IsRunOf class cell k run rest =
-    (c : ℕ) × (char_of cell ≡ Some c) × (k ≡ class c) × (run ≡ run_of class cell) × (rest ≡ run_popped class cell)
+    (c : ℕ) × (char_of cell ≡ Some c) × (k ≡ class c) × (run ≡ run_of class cell)
+    × (rest ≡ (pop_run_rule class cell).effect)
 
--- the first refusal of a push of one cell onto another
-abbrev pub JoinMust : Cell → Cell → Option Refusal → Type 0
-JoinMust cell other must =
-    TextMust (λ kind b.
-    TextMust (λ format y. First (kind ≡ format) WrongFormat (LengthMust (length (join_in kind b y)))) other) cell must
+-- the rule of the reply that tells a cell's text
+abbrev pub text_rule : Cell → Rule Reply
+text_rule cell = on_told (λ kind b. rule_with NoneMust ToldMay (Text kind b)) cell
 
--- the refusals of it that no state rules out: a slot that is pushed onto itself is shared first
-abbrev pub JoinMay : ℕ → ℕ → Cell → Cell → Refusal → Type 0
-JoinMay to from cell other r =
-    OfText (λ kind b. OfText (λ format y r.
-    MemoryMay (length (join_in kind b y)) r ⊎ ((to ≡ from) × CountMay (length b) r)) other) cell r
+-- the rule of the reply that tells a cell's units
+abbrev pub units_rule : Cell → Rule Reply
+units_rule cell =
+    on_told (λ kind b. first (kind ≡ Wtf8) WrongFormat (rule_with NoneMust ToldMay (Units (units b)))) cell
 
--- the cell with the other's text at its end
-abbrev pub joined_cell : Cell → Cell → Cell
-joined_cell (text kind b) (text format y) = text kind (join_in kind b y)
-joined_cell cell other = cell
+-- the rule of a conversion of a text, which leaves its bytes in another format
+abbrev pub conversion_rule : Conversion → Kind → List ℕ → Rule Cell
+conversion_rule (Reinterpret other) kind b = rule_with (ValidMust (valid_in other) b) NoneMay (text other b)
+conversion_rule (ToSuperset other) kind b = first (IsPartOf kind other) WrongFormat (always (text other b))
+conversion_rule (ToSubset other) kind b =
+    first (IsPartOf other kind) WrongFormat (rule_with (ValidMust (valid_in other) b) NoneMay (text other b))
 
--- the first refusal of a conversion of a text
-abbrev pub ConversionMust : Conversion → Kind → List ℕ → Option Refusal → Type 0
-ConversionMust (Reinterpret other) kind b must = ValidMust (valid_in other) b must
-ConversionMust (ToSuperset other) kind b must = First (IsPartOf kind other) WrongFormat NoneMust must
-ConversionMust (ToSubset other) kind b must =
-    First (IsPartOf other kind) WrongFormat (ValidMust (valid_in other) b) must
-
--- the format that is asked for
-abbrev pub target : Conversion → Kind
-target (Reinterpret kind) = kind
-target (ToSuperset kind) = kind
-target (ToSubset kind) = kind
-
--- the cell after a conversion
-abbrev pub converted : Cell → Conversion → Cell
-converted cell conversion = from_text (λ kind b. text (target conversion) b) cell
+-- the rule of a change of a cell
+abbrev pub change_rule : Change → Cell → Rule Cell
+change_rule (change.PushChar c) cell = push_char_rule c cell
+change_rule (change.Edit edit) cell = on_bytes (λ kind b. edit_rule (valid_in kind) edit b) cell
+change_rule (change.EditBytes edit) cell =
+    on_bytes (λ kind b. first (kind ≡ Bytes) WrongFormat (byte_edit_rule edit b)) cell
+change_rule (change.Convert conversion) cell = on_text gone (conversion_rule conversion) cell
+change_rule change.ThroughSend cell = on_bytes (λ kind b. rule_with NoneMust (SendMay (length b)) b) cell
+change_rule change.Drop cell = on_text gone (λ kind b. always gone) cell
 
 -- a slot of this cell changes its format, or is handed back with what refuses that
 pub record Converts {S : Type 0} (cell_of : S → Cell) (cell : Cell) (conversion : Conversion)
     (result : Result S (Refusal × S)) : Type 0 where
-  pub outcome : MatchResult result
-      (λ s. TextMust (ConversionMust conversion) cell None × (cell_of s ≡ converted cell conversion))
-      (λ e. TextMust (ConversionMust conversion) cell (Some e.0) × (cell_of e.1 ≡ cell))
+  pub outcome : let by = change_rule (change.Convert conversion) cell in
+      MatchResult result (λ s. by.must None × (cell_of s ≡ by.effect)) (λ e. by.must (Some e.0) × (cell_of e.1 ≡ cell))
   pub kept : IfOk result (λ s. IsCell cell → IsCell (cell_of s))
-
--- the reply that tells the cell
-abbrev pub TellsCell : Cell → Reply → Type 0
-TellsCell cell reply = OfText (λ kind b reply. reply ≡ Text kind b) cell reply
-
--- the first refusal of a question for a cell's units
-abbrev pub UnitsMust : Cell → Option Refusal → Type 0
-UnitsMust cell must = TextMust (λ kind b. First (kind ≡ Wtf8) WrongFormat NoneMust) cell must
-
--- the reply that tells the cell's units
-abbrev pub TellsUnits : Cell → Reply → Type 0
-TellsUnits cell reply = OfText (λ kind b reply. reply ≡ Units (units b)) cell reply
-
--- a push onto a cell
-abbrev pub CellPushed : {R : Type 0} → Cell → List ℕ → Result R Refusal → Cell → Type 0
-CellPushed cell y result new = Changes (PushMust cell y) (PushMay cell y) (pushed cell y) cell result new
-
--- a push of the cell of one slot onto that of another
-abbrev pub CellJoined : {R : Type 0} → ℕ → ℕ → Cell → Cell → Result R Refusal → Cell → Type 0
-CellJoined to from cell other result new =
-    Changes (JoinMust cell other) (JoinMay to from cell other) (joined_cell cell other) cell result new
-
--- the first character of a cell is taken out of it
-abbrev pub CellCharPopped : Cell → Result (Option ℕ) Refusal → Cell → Type 0
-CellCharPopped cell result new =
-    Outcome (CharsMust cell) NoneMay (λ first rest. (first ≡ char_of cell) × (rest ≡ char_popped cell)) cell result new
-
--- the first refusal of a change of a cell
-abbrev pub ChangeMust : Cell → Change → Option Refusal → Type 0
-ChangeMust cell (change.PushChar c) must = PushCharMust cell c must
-ChangeMust cell (change.Edit edit) must = TextMust (λ kind b. EditMust (valid_in kind) b edit) cell must
-ChangeMust cell (change.EditBytes edit) must =
-    TextMust (λ kind b. First (kind ≡ Bytes) WrongFormat (ByteEditMust b edit)) cell must
-ChangeMust cell (change.Convert conversion) must = TextMust (ConversionMust conversion) cell must
-ChangeMust cell change.ThroughSend must = CellMust cell must
-ChangeMust cell change.Drop must = CellMust cell must
-
--- the refusals of it that no state rules out
-abbrev pub ChangeMay : Cell → Change → Refusal → Type 0
-ChangeMay cell (change.PushChar c) r = PushCharMay cell c r
-ChangeMay cell (change.Edit edit) r = OfText (λ kind b. EditMay b edit) cell r
-ChangeMay cell (change.EditBytes edit) r = OfText (λ kind b. ByteEditMay b edit) cell r
-ChangeMay cell change.ThroughSend r = CellSendMay cell r
-ChangeMay cell other r = ⊥
-
--- the cell after it
-abbrev pub changed : Cell → Change → Cell
-changed cell (change.PushChar c) = char_pushed cell c
-changed cell (change.Edit edit) = from_text (λ kind b. text kind (edited b edit)) cell
-changed cell (change.EditBytes edit) = from_text (λ kind b. text kind (byte_edited b edit)) cell
-changed cell (change.Convert conversion) = converted cell conversion
-changed cell change.ThroughSend = cell
-changed cell change.Drop = gone
-
--- a change of a cell
-abbrev pub CellChanged : {R : Type 0} → Cell → Change → Result R Refusal → Cell → Type 0
-CellChanged cell change result new =
-    Changes (ChangeMust cell change) (ChangeMay cell change) (changed cell change) cell result new

@@ -1,26 +1,23 @@
 //! What commands do to a text, in any format.
-ghost use Rattle.std.specs.Prelude.{◌≡◌, ◌<◌, ◌≤◌, ◌⊎◌, ◌↔◌, length, take, drop, IsTrue, IfOk, IfErr, [], nat_eq, if◌then◌else◌};
+ghost use Rattle.std.specs.Prelude.{◌≡◌, ◌<◌, ◌≤◌, ◌⊎◌, ◌↔◌, length, IsTrue, IfOk, IfErr, nat_eq, if◌then◌else◌};
 ghost use Rattle.tendril_run.specs.CellOf.{cell_of};
 ghost use Rattle.tendril_run.specs.Cells.{text as text_cell, valid_in, IsText};
 ghost use Rattle.tendril_run.specs.Characters.{first_of, without_first, TakesFirstRun};
 ghost use Rattle.std.specs.Cmp.Lexicographic.{pointwise};
 ghost use Rattle.tendril_run.specs.Comparisons.{in_order};
-ghost use Rattle.tendril_run.specs.Edits.{TextEdited, BytesEdited};
 ghost use Rattle.tendril_run.specs.OneCell.{SendMay};
-ghost use Rattle.tendril_run.specs.Rules.{TextPushed, Changes};
+ghost use Rattle.tendril_run.specs.Rules.{rule_with, grown, Changes};
 ghost use Rattle.tendril_text.specs.Making.{MakesValidText};
-ghost use Rattle.tendril_block.specs.Outcomes.{NoneMust, LengthMust, CharMust, BytesMust, SliceMust, MemoryMay, CountMay, Gives};
+ghost use Rattle.tendril_block.specs.Outcomes.{NoneMust, LengthMust, CharMust, BytesMust, MemoryMay, CountMay, Gives};
 ghost use Rattle.tendril_block.specs.declared.refusal.Refusal.TheVariants.{Memory};
-ghost use Rattle.tendril_fmt.specs.Wtf8.{units};
 
-use crate::change::{ByteEdit, Edit};
 use crate::classifier::Classifier;
 use crate::slot::Slot;
 use std::alloc::Global;
 use std::cmp::Ordering;
-use tendril_lines::{ByteList, Comparison, Kind, UnitList};
+use tendril_lines::{ByteList, Comparison, Kind};
 use tendril_text::block::{MAX_LEN, Refusal};
-use tendril_text::fmt::{Bytes, CharFormat, Format, WTF8};
+use tendril_text::fmt::{CharFormat, Format};
 use tendril_text::{Atomicity, Tendril};
 
 /// A text of these bytes.
@@ -38,8 +35,8 @@ pub(crate) fn push<F: Format, A: Atomicity>(
     text: &mut Tendril<F, A>,
     bytes: &ByteList,
 ) -> Result<(), Refusal>
-    ensures done { let joined = F.join text.old.bytes bytes.now in
-        TextPushed (BytesMust F.valid bytes.now (length joined)) joined text.old.bytes result text.new.bytes }
+    ensures done { Changes (λ b. grown (BytesMust F.valid bytes.now) (F.join b bytes.now))
+        text.old.bytes result text.new.bytes }
     ensures kept { IsText F.valid text.old.bytes → IsText F.valid text.new.bytes }
 {
     text.try_push_bytes(bytes.as_slice())
@@ -50,8 +47,8 @@ pub(crate) fn push_char<F: CharFormat, A: Atomicity>(
     text: &mut Tendril<F, A>,
     character: char,
 ) -> Result<(), Refusal>
-    ensures done { let joined = F.join text.old.bytes (F.encoding character) in
-        TextPushed (CharMust F.encodes character (length joined)) joined text.old.bytes result text.new.bytes }
+    ensures done { Changes (λ b. grown (CharMust F.encodes character) (F.join b (F.encoding character)))
+        text.old.bytes result text.new.bytes }
     ensures kept { IsText F.valid text.old.bytes → IsText F.valid text.new.bytes }
 {
     text.try_push_char(character)
@@ -83,8 +80,8 @@ pub(crate) fn join<F: Format, A: Atomicity>(
     text: &mut Tendril<F, A>,
     more: &Tendril<F, A>,
 ) -> Result<(), Refusal>
-    ensures done { let joined = F.join text.old.bytes more.now.bytes in
-        TextPushed (LengthMust (length joined)) joined text.old.bytes result text.new.bytes }
+    ensures done { Changes (λ b. grown LengthMust (F.join b more.now.bytes))
+        text.old.bytes result text.new.bytes }
     ensures kept { IsText F.valid text.old.bytes → F.valid more.now.bytes → IsText F.valid text.new.bytes }
 {
     text.push_tendril(more)
@@ -92,9 +89,9 @@ pub(crate) fn join<F: Format, A: Atomicity>(
 
 /// Puts the text at its own end. It is shared for that, where the result isn't too long.
 pub(crate) fn join_self<F: Format, A: Atomicity>(text: &mut Tendril<F, A>) -> Result<(), Refusal>
-    ensures done { let joined = F.join text.old.bytes text.old.bytes in
-        Changes (LengthMust (length joined)) (λ r. MemoryMay (length joined) r ⊎ CountMay (length text.old.bytes) r)
-        joined text.old.bytes result text.new.bytes }
+    ensures done { Changes (λ b. let joined = F.join b b in
+        rule_with (LengthMust (length joined)) (λ r. MemoryMay (length joined) r ⊎ CountMay (length b) r) joined)
+        text.old.bytes result text.new.bytes }
     ensures kept { IsText F.valid text.old.bytes → IsText F.valid text.new.bytes }
 {
     if is_twice_too_long(text) {
@@ -113,51 +110,6 @@ fn is_twice_too_long<F: Format, A: Atomicity>(text: &Tendril<F, A>) -> bool
     let left = bytes.len() - fixup.drop_left as usize;
     let right = bytes.len() - fixup.drop_right as usize;
     left + fixup.insert_len as usize + right > MAX_LEN as usize
-}
-
-/// Changes the bytes of the text.
-pub(crate) fn edit<F: Format, A: Atomicity>(
-    text: &mut Tendril<F, A>,
-    edit: Edit,
-) -> Result<(), Refusal>
-    ensures done { TextEdited F.valid edit text.old.bytes result text.new.bytes }
-    ensures kept { IsText F.valid text.old.bytes → IsText F.valid text.new.bytes }
-{
-    match edit {
-        Edit::PopFront(count) => text.try_pop_front(count)?,
-        Edit::PopBack(count) => text.try_pop_back(count)?,
-        Edit::Clear => text.clear(),
-        Edit::Reserve(more) => text.reserve(more)?,
-    }
-    Ok(())
-}
-
-/// Changes the bytes of a text of bytes.
-pub(crate) fn edit_bytes<A: Atomicity>(
-    text: &mut Tendril<Bytes, A>,
-    edit: ByteEdit,
-) -> Result<(), Refusal>
-    ensures done { BytesEdited edit text.old.bytes result text.new.bytes }
-    ensures short { length text.old.bytes ≤ MAX_LEN → length text.new.bytes ≤ MAX_LEN }
-{
-    match edit {
-        ByteEdit::PushZeros(count) => text.push_uninitialized(count),
-        ByteEdit::WriteByte(index, byte) => write_byte(text, index, byte),
-    }
-}
-
-fn write_byte<A: Atomicity>(
-    text: &mut Tendril<Bytes, A>,
-    index: u32,
-    byte: u8,
-) -> Result<(), Refusal>
-    ensures done { BytesEdited (ByteEdit.WriteByte index byte) text.old.bytes result text.new.bytes }
-    ensures short { length text.old.bytes ≤ MAX_LEN → length text.new.bytes ≤ MAX_LEN }
-{
-    if index >= text.len32() {
-        return Err(Refusal::OutOfBounds);
-    }
-    text.bytes_mut(|bytes| bytes[index as usize] = byte)
 }
 
 /// How two texts compare whose format has an order.
@@ -204,8 +156,7 @@ pub(crate) fn reinterpreted<F: Format, A: Atomicity>(
 
 /// Makes a clone of the text sendable, takes it back, and puts it in the text's place.
 pub(crate) fn through_send<F: Format, A: Atomicity>(text: &mut Tendril<F, A>) -> Result<(), Refusal>
-    ensures done { Changes NoneMust (SendMay (length text.old.bytes))
-        text.old.bytes text.old.bytes result text.new.bytes }
+    ensures done { Changes (λ b. rule_with NoneMust (SendMay (length b)) b) text.old.bytes result text.new.bytes }
     ensures kept { IsText F.valid text.old.bytes → IsText F.valid text.new.bytes }
 {
     *text = sent_and_back(text)?;
@@ -220,18 +171,6 @@ fn sent_and_back<F: Format, A: Atomicity>(text: &Tendril<F, A>) -> Result<Tendri
     Ok(Tendril::from_send(sent)?)
 }
 
-/// A part of the text.
-pub(crate) fn slice<F: Format, A: Atomicity>(
-    text: &Tendril<F, A>,
-    offset: u32,
-    count: u32,
-) -> Result<Tendril<F, A>, Refusal>
-    ensures { Gives (SliceMust F.valid text.now.bytes offset count) (CountMay count)
-        (λ t. t.bytes ≡ take count (drop offset text.now.bytes)) result }
-{
-    Ok(text.try_subtendril(offset, count)?)
-}
-
 /// The text's bytes, copied.
 pub(crate) fn bytes<F: Format, A: Atomicity>(
     alloc: Global,
@@ -240,11 +179,4 @@ pub(crate) fn bytes<F: Format, A: Atomicity>(
     ensures { Gives NoneMust (λ r. r ≡ Memory) (λ list. list ≡ text.now.bytes) result }
 {
     Ok(ByteList::new(Vec::from_slice(alloc, text.as_byte_slice())?))
-}
-
-/// The text's units.
-pub(crate) fn units<A: Atomicity>(text: &Tendril<WTF8, A>) -> Result<UnitList, Refusal>
-    ensures { Gives NoneMust (λ r. r ≡ Memory) (λ list. list ≡ units text.now.bytes) result }
-{
-    Ok(UnitList::new(text.to_units()?))
 }

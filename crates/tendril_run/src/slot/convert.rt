@@ -1,7 +1,8 @@
 //! Slots whose text changes its format.
 ghost use Rattle.tendril_run.specs.CellOf.{cell_of};
 ghost use Rattle.tendril_run.specs.Cells.{IsCell};
-ghost use Rattle.tendril_run.specs.OneCell.{CellChanged, Converts};
+ghost use Rattle.tendril_run.specs.OneCell.{change_rule, Converts};
+ghost use Rattle.tendril_run.specs.Rules.{Changes};
 
 use crate::change::{Change, Conversion};
 use crate::slot::Slot;
@@ -14,7 +15,7 @@ use tendril_text::block::Refusal;
 impl<A: Atomicity> Slot<A> {
     // Changes the text's format.
     pub(super) fn convert(&mut self, conversion: Conversion) -> Result<(), Refusal>
-        ensures changed { CellChanged (cell_of self.old) (Change.Convert conversion) result (cell_of self.new) }
+        ensures changed { Changes (change_rule (Change.Convert conversion)) (cell_of self.old) result (cell_of self.new) }
         ensures kept { IsCell (cell_of self.old) → IsCell (cell_of self.new) }
     {
         let old = mem::replace(self, Slot::Gone);

@@ -2,7 +2,7 @@ use Rattle.std.proofs.Common.{◌≡◌, ◌∙◌, ap, inl, refl, rules, subst}
 use Rattle.tendril_lines.specs.declared.command.Reply.TheVariants.{Done}
 use Rattle.rope_run.proofs.RopeChanged.{one_rope, table_answered, past_gone, kept_ropes}
 use Rattle.rope_run.specs.RopeOf.{rope_cell_of}
-use Rattle.rope_run.specs.RopeRows.{RopePushMust, RopePushMay, rope_pushed}
+use Rattle.rope_run.specs.RopeRows.{rope_push_rule}
 use Rattle.tendril_run.specs.CellOf.{cell_of}
 use Rattle.tendril_run.specs.Cells.{cell_at}
 use Rattle.rope_run.specs.RopeRules.{Changed}
@@ -17,9 +17,9 @@ returns-in-Some-clause-step g c class =
     let found : cell_of c.in-Some.slot.now ≡ other = c.in-Some.ensures.1 ∙ ap (λ t. cell_at t.cells.slots c.args.slot) c.self.view_is in
     let old = rope_cell_of c.index_mut.result.now in
     let new = rope_cell_of c.push.new.rope in
-    let h = subst (λ cell. Changed (RopePushMust old cell) (RopePushMay old cell) (rope_pushed old cell) old c.push.result new) found c.push.ensures.done in
+    let h = subst (λ cell. Changed (rope_push_rule cell) old c.push.result new) found c.push.ensures.done in
     let one = one_rope c.self.inside.ropes.items c.args.rope c.index_mut.result.now c.push.new.rope (search rules) c.index_mut.ensures.value in
-    table_answered (λ cell. RopePushMust cell other) (λ cell. RopePushMay cell other) (λ cell. Done) (λ cell. rope_pushed cell other) c.args.self.now.cells _ c.self.inside.ropes.items _ c.args.rope old new c.push.result (ap (λ t. t.cells) c.self.view_is) one h
+    table_answered (rope_push_rule other) (λ cell. Done) c.args.self.now.cells _ c.self.inside.ropes.items _ c.args.rope old new c.push.result (ap (λ t. t.cells) c.self.view_is) one h
 
 pub invariant_of-self : goal.invariant_of-self
 invariant_of-self g c = kept_ropes c.self.inside.ropes.items c.args.rope c.index_mut.result.now c.push.new.rope (search rules) c.index_mut.ensures.value c.self.invariant c.push.ensures.kept

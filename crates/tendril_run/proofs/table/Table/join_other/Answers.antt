@@ -4,14 +4,15 @@ use Rattle.tendril_run.proofs.Joined.{joined_apart}
 use Rattle.tendril_run.proofs.OneChanged.{cell_within, set_cells, within_items}
 use Rattle.tendril_run.specs.CellOf.{cell_of}
 use Rattle.tendril_run.specs.Cells.{IsCell}
-use Rattle.tendril_run.specs.OneCell.{CellJoined}
+use Rattle.tendril_run.specs.OneCell.{join_rule}
+use Rattle.tendril_run.specs.Rules.{Changes}
 use Rattle.tendril_run.proofs.table.Table.join_other.Goals as goal
 
 pub returns-clause-joined : goal.returns-clause-joined
 returns-clause-joined g c =
     joined_apart cell_of c.self.inside.slots.items c.args.self.now.cells c.args.to c.args.from c.index_mut.result.now c.index.result.now c.replace-text.new.dest c.join-joined.new.self c.join-joined.result
     (ap (λ t. t.cells) c.self.view_is) c.requires.to c.requires.from c.requires.other c.index_mut.ensures.value c.index.ensures
-    (subst (λ s. CellJoined c.args.to c.args.from (cell_of s) (cell_of c.index.result.now) c.join-joined.result (cell_of c.join-joined.new.self)) c.replace-text.ensures.value (c.join-joined.ensures.joined c.args.to c.args.from))
+    (subst (λ s. Changes (join_rule c.args.to c.args.from (cell_of c.index.result.now)) (cell_of s) c.join-joined.result (cell_of c.join-joined.new.self)) c.replace-text.ensures.value (c.join-joined.ensures.joined c.args.to c.args.from))
 
 pub invariant_of-self : goal.invariant_of-self
 invariant_of-self g c =

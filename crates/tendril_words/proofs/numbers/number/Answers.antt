@@ -1,9 +1,0 @@
-use Rattle.std.proofs.Common.{refl, arith}
-use Rattle.std.specs.Str.Parse.{ParsesUnsigned}
-use Rattle.tendril_words.proofs.Digits.{number_read}
-use Rattle.tendril_words.proofs.numbers.number.Goals as goal
-
-pub returns : goal.returns
-returns c n =
-    let parsed : ParsesUnsigned 32 10 c.args.word.now c.parse.result = rw c.in_ok-text.ensures.0 at c.parse.ensures.value.0 in
-    number_read 32 4294967295 n c.args.word.now c.parse.result c.ok.result refl (omega arith) c.in_ok-text.ensures.1 parsed c.ok.ensures.value
