@@ -58,7 +58,7 @@ add_exports() {
     tar -C "$1/crates/use_tokens" --exclude=proofs/tokenize -cf - src/{markup,state,token,tokenizer}.rt specs proofs \
         | tar -C "$1/crates/port_exports" -xf -
     grep -rl use_tokens "$1/crates/port_exports" | xargs sed -i 's/Rattle\.use_tokens\./Rattle.port_exports./'
-    local used='tendril tendril_stream tendril_text tendril_block tendril_fmt tendril_lossy'
+    local used='tendril tendril_queue tendril_stream tendril_text tendril_block tendril_fmt tendril_lossy'
     printf 'port_exports staticlib: rope memchr %s\nport_threads: %s\n' "$used" "$used" >> "$1/crates.txt"
 }
 

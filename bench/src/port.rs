@@ -16,6 +16,7 @@ struct Exports {
     clone_atomic: Repeated,
     decode: OnBytes,
     from_units: unsafe extern "C" fn(*const u16, usize, u64) -> u64,
+    input: OnBytes,
     join: OnPieces,
     keep: OnPieces,
     make: OnPieces,
@@ -60,6 +61,7 @@ macro_rules! exports {
             clone_atomic(bytes: *const u8, length: usize, calls: u64)
             decode(bytes: *const u8, length: usize)
             from_units(units: *const u16, length: usize, times: u64)
+            input(bytes: *const u8, length: usize)
             join(bytes: *const u8, length: usize, lengths: *const u32, count: usize, times: u64)
             keep(bytes: *const u8, length: usize, lengths: *const u32, count: usize, calls: u64)
             make(bytes: *const u8, length: usize, lengths: *const u32, count: usize, calls: u64)
@@ -133,6 +135,10 @@ impl Port {
     pub fn from_units(&self, units: &[u16], times: usize) -> u64 {
         // SAFETY: as in `on_bytes`.
         unsafe { (self.exports.from_units)(units.as_ptr(), units.len(), times as u64) }
+    }
+
+    pub fn input(&self, bytes: &[u8]) -> u64 {
+        on_bytes(self.exports.input, bytes)
     }
 
     /// Cuts the text into slices of these lengths, once, and joins each 32 of them, so many times.

@@ -4,6 +4,7 @@
 mod characters;
 mod decode;
 mod grow;
+mod input;
 mod make;
 mod parse;
 mod queue;
@@ -53,6 +54,7 @@ pub fn all<'a>(inputs: &'a Inputs, ports: &'a [Port]) -> Vec<Workload<'a>> {
         parse::multilingual(inputs, ports),
         parse::parts_alone(inputs, ports),
         tokens::of_page(inputs, ports),
+        input::of_page(inputs, ports),
         ropes::pushes(inputs, ports),
         ropes::characters(inputs, ports),
         ropes::parts_of_few(inputs, ports),

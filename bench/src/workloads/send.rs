@@ -10,14 +10,14 @@ use std::time::Instant;
 use tendril::fmt::UTF8;
 use tendril::{SendTendril, StrTendril};
 
-const SHORT: &str = "abcdefgh";
+const EIGHT_BYTES: &str = "abcdefgh";
 const TEXTS: usize = 1000;
 const TIMES: usize = 20;
 
 /// Sends texts of 8 bytes and takes them back, in one thread.
 pub fn short_conversions(ports: &[Port]) -> Workload<'_> {
     let title = "1000 texts of 8 bytes sent and taken back, conversions alone";
-    conversions("s1", title, SHORT, ports)
+    conversions("s1", title, EIGHT_BYTES, ports)
 }
 
 /// Sends texts of 100 bytes and takes them back, in one thread.
@@ -55,7 +55,7 @@ pub fn short_texts(ports: &[Port]) -> Workload<'_> {
     sendings(
         "s3",
         "1000 texts of 8 bytes to a thread and back (per text), wall",
-        SHORT,
+        EIGHT_BYTES,
         ports,
     )
 }

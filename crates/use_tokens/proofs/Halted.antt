@@ -2,21 +2,20 @@
 use Rattle.std.proofs.Common.{◌≡◌, ◌⊎◌, ℕ, Bool, true, false, List, [], ◌++◌, Option, sym, ap, ◌∙◌, append_assoc}
 use Rattle.std.proofs.lemmas.Str.{encodes-append}
 use Rattle.std.specs.Prelude.{IfSome, encode_utf8_all}
-use Rattle.tendril_block.specs.declared.refusal.Refusal.{Refusal}
-use Rattle.tendril_block.specs.declared.refusal.Refusal.TheVariants.{Failed}
-use Rattle.tendril_fmt.specs.Parts.{IsFrontOf}
-use Rattle.tendril_lossy.proofs.Told.{characters-append}
-use Rattle.tendril_lossy.specs.Lossy.{Told, characters, due}
-use Rattle.tendril_stream.proofs.Halted.{halted as sink_halted}
-use Rattle.tendril_stream.proofs.Refused.{DecoderTakes}
-use Rattle.tendril_stream.specs.Decoders.{DecodingStops}
-use Rattle.tendril_stream.specs.Readings.{Halts}
-use Rattle.tendril_stream.specs.Reads.{OneRead, given}
-use Rattle.tendril_stream.specs.Sinks.{Sent, IsSent, told_of}
+use Rattle.tendril.specs.Refusal.{Refusal}
+use Rattle.tendril.specs.Refusal.TheVariants.{Failed}
+use Rattle.tendril.specs.Fmt.Parts.{IsFrontOf}
+use Rattle.tendril.specs.Proofs.Told.{characters-append}
+use Rattle.tendril.specs.Lossy.{Told, characters, due}
+use Rattle.tendril.specs.Proofs.Halted.{halted as sink_halted}
+use Rattle.tendril.specs.Proofs.Refused.{DecoderTakes}
+use Rattle.tendril.specs.Decoders.{DecodingStops}
+use Rattle.tendril.specs.Readings.{Halts}
+use Rattle.tendril.specs.Reads.{OneRead, given}
+use Rattle.tendril.specs.Sinks.{Sent, IsSent, told_of}
 use Rattle.use_tokens.proofs.Whole.{After, Takes, goes_on}
 use Rattle.use_tokens.specs.Follows.{told_bytes}
-use Rattle.use_tokens.specs.Spelled.{pending, sent_bytes, joined_sources}
-use Rattle.use_tokens.specs.declared.state.State.{State}
+use Rattle.use_tokens.specs.Spelled.{sent_bytes, joined_sources}
 use Rattle.use_tokens.specs.declared.token.Token.{Token}
 
 -- the bytes of what was told, and of more
@@ -25,9 +24,9 @@ bytes-append start t more =
     ap (λ l. start ++ l) (ap encode_utf8_all (characters-append t more) ∙ encodes-append (characters t) (characters more))
     ∙ sym (append_assoc start (encode_utf8_all (characters t)) (encode_utf8_all (characters more)))
 
-module _ {S : Type 0} (tokens : S → List Token) (state : S → State) (start : List ℕ) where
+module _ {S : Type 0} (tokens : S → List Token) (left : S → List ℕ) (start : List ℕ) where
   abbrev pub Refuses : S → Sent → Refusal → S → Type 0
-  Refuses a e r b = IsFrontOf (joined_sources (tokens b)) (joined_sources (tokens a) ++ (pending (state a) ++ sent_bytes e))
+  Refuses a e r b = IsFrontOf (joined_sources (tokens b)) (joined_sources (tokens a) ++ (left a ++ sent_bytes e))
 
   -- behind the bytes `start`, it has spelled a front of this
   abbrev pub Front : S → List Told → Type 0
@@ -39,22 +38,22 @@ module _ {S : Type 0} (tokens : S → List Token) (state : S → State) (start :
     bytes-append start t more ∙ ap (λ l. l ++ encode_utf8_all (characters more)) h.1 ∙ append_assoc (joined_sources (tokens a)) h.0 (encode_utf8_all (characters more)),
   )
 
-  begins : (t more : List Told) (a : S) → After tokens state start a t → Front a (t ++ more)
-  begins t more a h = grows t more a (pending (state a), sym h)
+  begins : (t more : List Told) (a : S) → After tokens left start a t → Front a (t ++ more)
+  begins t more a h = grows t more a (left a, sym h)
 
-  refused : (t : List Told) (a : S) (e : Sent) (r : Refusal) (b : S) → IsSent e → After tokens state start a t → Refuses a e r b → Front b (t ++ told_of e)
+  refused : (t : List Told) (a : S) (e : Sent) (r : Refusal) (b : S) → IsSent e → After tokens left start a t → Refuses a e r b → Front b (t ++ told_of e)
   refused t a e r b text h front = (
     front.0,
     bytes-append start t (told_of e) ∙ ap (λ l. (start ++ encode_utf8_all (characters t)) ++ l) (told_bytes e text) ∙ ap (λ l. l ++ sent_bytes e) (sym h)
-        ∙ append_assoc (joined_sources (tokens a)) (pending (state a)) (sent_bytes e)
+        ∙ append_assoc (joined_sources (tokens a)) (left a) (sent_bytes e)
         ∙ front.1,
   )
 
   -- a new decoder over it was read into
-  pub halted : {D : Type 0} (inner : D → S) (held : D → List ℕ) (failed : D → Bool) (ends : D → Refusal → Type 0) (sink : S) (d : D) (most : ℕ) (these : List OneRead) (r : Refusal) (handed : Option D)
-      → inner d ≡ sink → held d ≡ [] → failed d ≡ false → After tokens state start sink []
-      → Halts (DecoderTakes (Takes tokens state) inner held failed)
-      (λ d e r n. (failed n ≡ true) × (((failed d ≡ true) × (r ≡ Failed) × (inner n ≡ inner d)) ⊎ ((failed d ≡ false) × DecodingStops (Takes tokens state) Refuses (inner d) (held d) e r (inner n))))
-      ends most d these r handed
+  pub halted : {D : Type 0} (inner : D → S) (held : D → List ℕ) (failed : D → Bool) (ends : D → Refusal → Type 0) (sink : S) (d : D) (max_reads : ℕ) (these : List OneRead) (r : Refusal) (handed : Option D)
+      → inner d ≡ sink → held d ≡ [] → failed d ≡ false → After tokens left start sink []
+      → Halts (DecoderTakes (Takes tokens left) inner held failed)
+      (λ d e r n. (failed n ≡ true) × (((failed d ≡ true) × (r ≡ Failed) × (inner n ≡ inner d)) ⊎ ((failed d ≡ false) × DecodingStops (Takes tokens left) Refuses (inner d) (held d) e r (inner n))))
+      ends max_reads d these r handed
       → IfSome handed (λ n. Front (inner n) (due (given these)))
-  halted inner held failed = sink_halted (Takes tokens state) Refuses (After tokens state start) Front (goes_on tokens state start) begins grows refused inner held failed
+  halted inner held failed = sink_halted (Takes tokens left) Refuses (After tokens left start) Front (goes_on tokens left start) begins grows refused inner held failed

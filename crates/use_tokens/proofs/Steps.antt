@@ -2,10 +2,10 @@
 use Rattle.std.proofs.Common.{◌≡◌, ℕ, ◌<◌, ◌+◌, ◌-◌, List, [], ◌∷◌, ◌++◌, length, take, drop, refl, sym, ap, subst, ◌∙◌, arith, append_assoc, append-nil, IsUtf8, slice_index, Result, Ok, Err, OnErr}
 use Rattle.std.proofs.lemmas.Bool.{eqb-true}
 use Rattle.std.proofs.lemmas.Str.{IsCharBoundary-after_ascii, IsCharBoundary-before_ascii, IsUtf8-drop, IsUtf8-take}
-use Rattle.memchr.specs.Find.{NoneBefore, Passes, is_byte}
-use Rattle.tendril_fmt.specs.Parts.{IsFrontOf}
+use Rattle.tendril.specs.Find.{NoneBefore, Passes, is_byte}
+use Rattle.tendril.specs.Fmt.Parts.{IsFrontOf}
 use Rattle.use_tokens.specs.Ends.{EndsAt}
-use Rattle.use_tokens.specs.Spelled.{Spells, joined_sources}
+use Rattle.use_tokens.specs.Spelled.{TokensSpell, joined_sources}
 use Rattle.use_tokens.specs.declared.token.Token.{Token}
 
 -- UTF-8 that is cut before a byte of ASCII, or behind one
@@ -29,7 +29,7 @@ pub cut_found : (bs : List ℕ) (n : ℕ) → IsUtf8 bs → NoneBefore (Passes (
 cut_found bs n u found = cut_before bs n u found.0.high (subst (λ b. b < 128) (sym (eqb-true (slice_index bs n) 60 found.1)) (omega arith))
 
 -- a token is sent of the first of these bytes
-pub sent : (before tokens : List Token) (source held left bytes : List ℕ) → Spells before source tokens [] → held ≡ [] → source ++ left ≡ bytes → Spells before bytes tokens (held ++ left)
+pub sent : (before tokens : List Token) (source held left bytes : List ℕ) → TokensSpell before source tokens [] → held ≡ [] → source ++ left ≡ bytes → TokensSpell before bytes tokens (held ++ left)
 sent before tokens source held left bytes h none is =
     ap (λ l. joined_sources tokens ++ (l ++ left)) none
     ∙ ap (λ l. l ++ left) (sym (append-nil (joined_sources tokens)) ∙ h)
@@ -41,7 +41,7 @@ pub unsent : (before tokens : List Token) (bytes : List ℕ) → tokens ≡ befo
 unsent before tokens bytes is = (bytes, ap (λ t. joined_sources t ++ bytes) (sym is))
 
 -- what stands behind a token that was sent
-pub behind : (before mid : List Token) (first rest : List ℕ) → Spells before first mid [] → joined_sources mid ++ rest ≡ joined_sources before ++ (first ++ rest)
+pub behind : (before mid : List Token) (first rest : List ℕ) → TokensSpell before first mid [] → joined_sources mid ++ rest ≡ joined_sources before ++ (first ++ rest)
 behind before mid first rest h = ap (λ l. l ++ rest) (sym (append-nil (joined_sources mid)) ∙ h) ∙ append_assoc (joined_sources before) first rest
 
 -- tokens that are a front of some bytes are one of the same bytes
@@ -56,3 +56,8 @@ none_sent (Err e) tokens bytes = (bytes, refl)
 pub refused : {T E : Type 0} (result : Result T E) (before tokens : List Token) (bytes : List ℕ) → tokens ≡ before → OnErr result (IsFrontOf (joined_sources tokens) (joined_sources before ++ bytes))
 refused (Ok x) before tokens bytes same = tt
 refused (Err e) before tokens bytes same = unsent before tokens bytes same
+
+-- what holds anyway holds of an error
+pub of_err : {T E : Type 0} (result : Result T E) (P : Type 0) → P → OnErr result P
+of_err (Ok x) P p = tt
+of_err (Err e) P p = p

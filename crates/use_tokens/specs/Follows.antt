@@ -2,10 +2,10 @@
 use Rattle.std.proofs.Common.{◌≡◌, ℕ, List, [], ◌∷◌, ◌++◌, map, refl, sym, ap, ◌∙◌, append_assoc, append-nil}
 use Rattle.std.proofs.lemmas.Str.{encodes-append, encodes-chars}
 use Rattle.std.specs.Prelude.{chars, encode_utf8_all}
-use Rattle.tendril_lossy.proofs.Told.{characters-append, characters-map}
-use Rattle.tendril_lossy.specs.Lossy.{Told, characters}
-use Rattle.tendril_stream.specs.Sinks.{Sent, Piece, Fault, IsSent, told_of}
-use Rattle.use_tokens.specs.Spelled.{Spells, sent_bytes, joined_sources}
+use Rattle.tendril.specs.Proofs.Told.{characters-append, characters-map}
+use Rattle.tendril.specs.Lossy.{Told, characters}
+use Rattle.tendril.specs.Sinks.{Sent, Piece, Fault, IsSent, told_of}
+use Rattle.use_tokens.specs.Spelled.{TokensSpell, sent_bytes, joined_sources}
 use Rattle.use_tokens.specs.declared.token.Token.{Token}
 
 -- a call tells the characters of its bytes
@@ -17,7 +17,7 @@ told_bytes (Fault words) is = refl
 pub spelled_on : (start : List ℕ) (told : List Told) (e : Sent) (tokens : List Token) (held : List ℕ)
     (tokens' : List Token) (held' : List ℕ)
     → IsSent e → joined_sources tokens ++ held ≡ start ++ encode_utf8_all (characters told)
-    → Spells tokens (held ++ sent_bytes e) tokens' held'
+    → TokensSpell tokens (held ++ sent_bytes e) tokens' held'
     → joined_sources tokens' ++ held' ≡ start ++ encode_utf8_all (characters (told ++ told_of e))
 spelled_on start told e tokens held tokens' held' is_sent was call =
     call ∙ sym (append_assoc (joined_sources tokens) held (sent_bytes e)) ∙ ap (λ l. l ++ sent_bytes e) was

@@ -3,13 +3,11 @@
 use crate::markup::Markup;
 use tendril::StrTendril;
 
-/// What is pending of the texts before.
+/// What the texts before ended in.
 #[derive(Drop)]
 pub(crate) enum State {
     /// Nothing: the next text begins outside markup.
     Outside,
-    /// A `<`, of which the next byte says whether it begins markup.
-    TagOpen,
     /// Markup that was begun.
     Inside { markup: Markup, begun: StrTendril },
 }

@@ -1,10 +1,10 @@
 //! Tokens of all that a reader has.
 ghost use Rattle.std.specs.Prelude.{◌≡◌, ◌≤◌, ◌++◌, List, length, encode_utf8_all, IfErr, IfOk, IfSome};
 ghost use Rattle.std.specs.Io.KnownBytes.{IsAtEnd};
-ghost use Rattle.tendril_fmt.specs.Parts.{IsFrontOf};
-ghost use Rattle.tendril_lossy.specs.Lossy.{characters, due};
-ghost use Rattle.tendril_stream.specs.Readings.{MakesReads};
-ghost use Rattle.tendril_stream.specs.Reads.{OneRead, CameToEnd, StopsWith, given};
+ghost use Rattle.tendril.specs.Fmt.Parts.{IsFrontOf};
+ghost use Rattle.tendril.specs.Lossy.{characters, due};
+ghost use Rattle.tendril.specs.Readings.{MakesReads};
+ghost use Rattle.tendril.specs.Reads.{OneRead, CameToEnd, StopsWith, given};
 ghost use Rattle.use_tokens.specs.Spelled.{joined_sources};
 
 use crate::token::TokenSink;
@@ -21,16 +21,16 @@ pub fn tokenize<K: TokenSink, R: CountedRead>(
     alloc: Global,
     sink: K,
     reader: &mut R,
-    most: u64,
+    max_reads: u64,
 ) -> Result<K, Stopped<Utf8LossyDecoder<Tokenizer<K>>>>
     ensures ok { IfOk result (λ out. (these : List OneRead) × MakesReads R.history R.remaining reader.old these reader.new
         × IsAtEnd (R.remaining reader.new)
         × (joined_sources (K.tokens out) ≡ joined_sources (K.tokens sink) ++ encode_utf8_all (characters (due (given these))))
-        × StopsWith CameToEnd these × (length these ≤ most)) }
+        × StopsWith CameToEnd these × (length these ≤ max_reads)) }
     ensures stopped { IfErr result (λ s. (these : List OneRead) × MakesReads R.history R.remaining reader.old these reader.new
         × IfSome s.sink (λ d. IsFrontOf (joined_sources (K.tokens d.inner_sink.sink))
         (joined_sources (K.tokens sink) ++ encode_utf8_all (characters (due (given these)))))) }
 {
     let decoder = Utf8LossyDecoder::new(alloc, Tokenizer::new(alloc, sink));
-    read_decoded(alloc, decoder, reader, most)
+    read_decoded(alloc, decoder, reader, max_reads)
 }

@@ -1,7 +1,7 @@
 //! A sink of texts that parts them into tokens.
-ghost use Rattle.std.specs.Prelude.{◌≡◌, ◌<◌, ◌≤◌, ◌++◌, [], codes, length, slice_index, OnOk, OnErr};
-ghost use Rattle.tendril_fmt.specs.Parts.{IsFrontOf};
-ghost use Rattle.use_tokens.specs.Spelled.{Spells, pending, joined_sources};
+ghost use Rattle.std.specs.Prelude.{◌≡◌, ◌<◌, ◌≤◌, ◌+◌, ◌++◌, [], length, slice_index, IfOk, IsTrue, OnOk, OnErr};
+ghost use Rattle.tendril.specs.Fmt.Parts.{IsFrontOf};
+ghost use Rattle.use_tokens.specs.Spelled.{TokensSpell, begun_bytes, pending, joined_sources};
 
 use crate::markup::Markup;
 use crate::state::State;
@@ -12,6 +12,7 @@ use std::mem;
 use tendril::block::Refusal;
 use tendril::stream::{TendrilSink, Tracks};
 use tendril::{ByteSet, StrTendril};
+use tendril_queue::TextQueue;
 
 /// Parts the texts that it is sent into tokens, as the first states of HTML's tokenization do.
 ///
@@ -22,6 +23,8 @@ use tendril::{ByteSet, StrTendril};
 pub struct Tokenizer<K: TokenSink> {
     sink: K,
     alloc: Global,
+    // What was sent and isn't taken yet.
+    input: TextQueue,
     state: State,
     name_ends: ByteSet,
 }
@@ -30,11 +33,13 @@ impl<K: TokenSink> Tokenizer<K> {
     /// A tokenizer that was sent nothing.
     pub fn new(alloc: Global, sink: K) -> Self
         ensures sink { result.sink ≡ sink }
+        ensures input { result.input.bytes ≡ [] }
         ensures state { result.state ≡ State.Outside }
     {
         Tokenizer {
             sink,
             alloc,
+            input: TextQueue::new(alloc),
             state: State::Outside,
             name_ends: ByteSet::new(b"\t\n\x0c\r />"),
         }
@@ -47,86 +52,105 @@ impl<K: TokenSink> Tokenizer<K> {
         &self.sink
     }
 
-    // Takes a run of text, or markup as far as it goes.
-    fn take_part(&mut self, rest: &mut StrTendril) -> Result<(), Refusal>
-        requires { 0 < length rest.old.bytes }
-        ensures ok { OnOk result (Spells (K.tokens self.old.sink) (pending self.old.state ++ rest.old.bytes)
-            (K.tokens self.new.sink) (pending self.new.state ++ rest.new.bytes)) }
-        ensures shorter { OnOk result (length rest.new.bytes < length rest.old.bytes) }
+    // Takes what comes next out of the input. Returns false, and takes nothing, where what comes in decides.
+    fn take_part(&mut self) -> Result<bool, Refusal>
+        ensures ok { OnOk result (TokensSpell (K.tokens self.old.sink) (pending self.old.state self.old.input)
+            (K.tokens self.new.sink) (pending self.new.state self.new.input)) }
+        ensures shorter { IfOk result (λ more. IsTrue more →
+            length self.new.input.bytes < length self.old.input.bytes) }
         ensures err { OnErr result (IsFrontOf (joined_sources (K.tokens self.new.sink))
-            (joined_sources (K.tokens self.old.sink) ++ (pending self.old.state ++ rest.old.bytes))) }
+            (joined_sources (K.tokens self.old.sink) ++ (pending self.old.state self.old.input))) }
     {
+        let Some(text) = self.input.pop_front() else {
+            return Ok(false);
+        };
         match mem::replace(&mut self.state, State::Outside) {
-            State::Outside => self.take_text(rest),
-            State::TagOpen => self.take_behind_open(rest),
-            State::Inside { markup, begun } => self.take_markup(begun, markup, rest, 0),
+            State::Outside => self.take_text(text),
+            State::Inside { markup, begun } => self.take_markup(begun, markup, text, 0),
         }
     }
 
-    // Takes what stands before the next `<`, or what begins with one.
-    fn take_text(&mut self, rest: &mut StrTendril) -> Result<(), Refusal>
+    // Takes what comes before the next `<` in a text, or what begins with one.
+    fn take_text(&mut self, mut text: StrTendril) -> Result<bool, Refusal>
         requires outside { self.old.state ≡ State.Outside }
-        requires some { 0 < length rest.old.bytes }
-        ensures ok { OnOk result (Spells (K.tokens self.old.sink) rest.old.bytes
-            (K.tokens self.new.sink) (pending self.new.state ++ rest.new.bytes)) }
-        ensures shorter { OnOk result (length rest.new.bytes < length rest.old.bytes) }
+        requires some { 0 < length text.bytes }
+        ensures ok { OnOk result (TokensSpell (K.tokens self.old.sink) (text.bytes ++ self.old.input.bytes)
+            (K.tokens self.new.sink) (pending self.new.state self.new.input)) }
+        ensures shorter { IfOk result (λ more. IsTrue more →
+            length self.new.input.bytes < length text.bytes + length self.old.input.bytes) }
         ensures err { OnErr result (IsFrontOf (joined_sources (K.tokens self.new.sink))
-            (joined_sources (K.tokens self.old.sink) ++ rest.old.bytes)) }
+            (joined_sources (K.tokens self.old.sink) ++ (text.bytes ++ self.old.input.bytes))) }
     {
-        let _is_utf8 = rest.as_str();
-        match rest.find_byte(b'<') {
-            Some(0) => self.take_open(rest),
+        let _is_utf8 = text.as_str();
+        match text.find_byte(b'<') {
+            Some(0) => self.take_open(text),
             Some(count) => {
-                let text = rest.split_to(count)?;
-                self.send(Kind::Text, text)
+                let front = text.split_to(count)?;
+                self.take_front(front, text)
             }
-            None => self.send(Kind::Text, rest.take()),
+            None => self.take_front(text, StrTendril::new(self.alloc)),
         }
     }
 
-    // Takes what begins with `<`: markup as far as it goes, or the `<` alone where it begins none.
-    fn take_open(&mut self, rest: &mut StrTendril) -> Result<(), Refusal>
+    // Takes what begins with `<`: markup as far as the text goes, or the `<` alone where it begins none.
+    fn take_open(&mut self, mut text: StrTendril) -> Result<bool, Refusal>
         requires outside { self.old.state ≡ State.Outside }
-        requires some { 0 < length rest.old.bytes }
-        requires open { slice_index rest.old.bytes 0 ≡ 60 }
-        ensures ok { OnOk result (Spells (K.tokens self.old.sink) rest.old.bytes
-            (K.tokens self.new.sink) (pending self.new.state ++ rest.new.bytes)) }
-        ensures shorter { OnOk result (length rest.new.bytes < length rest.old.bytes) }
+        requires some { 0 < length text.bytes }
+        requires open { slice_index text.bytes 0 ≡ 60 }
+        ensures ok { OnOk result (TokensSpell (K.tokens self.old.sink) (text.bytes ++ self.old.input.bytes)
+            (K.tokens self.new.sink) (pending self.new.state self.new.input)) }
+        ensures shorter { IfOk result (λ more. IsTrue more →
+            length self.new.input.bytes < length text.bytes + length self.old.input.bytes) }
         ensures err { OnErr result (IsFrontOf (joined_sources (K.tokens self.new.sink))
-            (joined_sources (K.tokens self.old.sink) ++ rest.old.bytes)) }
+            (joined_sources (K.tokens self.old.sink) ++ (text.bytes ++ self.old.input.bytes))) }
     {
-        if rest.len32() == 1 {
-            self.state = State::TagOpen;
-            rest.clear();
-            return Ok(());
+        if text.len32() == 1 {
+            return self.take_last_open(text);
         }
-        match Markup::opened_by(rest.as_byte_slice()[1]) {
-            Some(markup) => self.take_markup(StrTendril::new(self.alloc), markup, rest, 2),
+        match Markup::opened_by(text.as_byte_slice()[1]) {
+            Some(markup) => self.take_markup(StrTendril::new(self.alloc), markup, text, 2),
             None => {
-                let text = rest.split_to(1)?;
-                self.send(Kind::Text, text)
+                let open = text.split_to(1)?;
+                self.take_front(open, text)
             }
         }
     }
 
-    // Takes what stands behind a `<` that the text before ended with, and that `<`.
-    fn take_behind_open(&mut self, rest: &mut StrTendril) -> Result<(), Refusal>
+    // Takes a `<` that a text ends with, where the text after it has come.
+    fn take_last_open(&mut self, open: StrTendril) -> Result<bool, Refusal>
         requires outside { self.old.state ≡ State.Outside }
-        requires some { 0 < length rest.old.bytes }
-        ensures ok { OnOk result (Spells (K.tokens self.old.sink) (codes "<" ++ rest.old.bytes)
-            (K.tokens self.new.sink) (pending self.new.state ++ rest.new.bytes)) }
-        ensures shorter { OnOk result (length rest.new.bytes < length rest.old.bytes) }
+        requires some { 0 < length open.bytes }
+        ensures ok { OnOk result (TokensSpell (K.tokens self.old.sink) (open.bytes ++ self.old.input.bytes)
+            (K.tokens self.new.sink) (pending self.new.state self.new.input)) }
+        ensures shorter { IfOk result (λ more. IsTrue more →
+            length self.new.input.bytes < length open.bytes + length self.old.input.bytes) }
         ensures err { OnErr result (IsFrontOf (joined_sources (K.tokens self.new.sink))
-            (joined_sources (K.tokens self.old.sink) ++ (codes "<" ++ rest.old.bytes))) }
+            (joined_sources (K.tokens self.old.sink) ++ (open.bytes ++ self.old.input.bytes))) }
     {
-        let open = StrTendril::from_slice(self.alloc, "<")?;
-        match Markup::opened_by(rest.as_byte_slice()[0]) {
-            Some(markup) => self.take_markup(open, markup, rest, 1),
-            None => {
-                self.send(Kind::Text, open)?;
-                self.take_text(rest)
-            }
+        let Some(text) = self.input.pop_front() else {
+            self.input.push_front(open)?;
+            return Ok(false);
+        };
+        match Markup::opened_by(text.as_byte_slice()[0]) {
+            Some(markup) => self.take_markup(open, markup, text, 1),
+            None => self.take_front(open, text),
         }
+    }
+
+    // Takes text, and puts what follows it back.
+    fn take_front(&mut self, front: StrTendril, rest: StrTendril) -> Result<bool, Refusal>
+        requires outside { self.old.state ≡ State.Outside }
+        requires some { 0 < length front.bytes }
+        ensures ok { OnOk result (TokensSpell (K.tokens self.old.sink) (front.bytes ++ (rest.bytes ++ self.old.input.bytes))
+            (K.tokens self.new.sink) (pending self.new.state self.new.input)) }
+        ensures shorter { IfOk result (λ more. IsTrue more →
+            length self.new.input.bytes < length front.bytes + (length rest.bytes + length self.old.input.bytes)) }
+        ensures err { OnErr result (IsFrontOf (joined_sources (K.tokens self.new.sink))
+            (joined_sources (K.tokens self.old.sink) ++ (front.bytes ++ (rest.bytes ++ self.old.input.bytes)))) }
+    {
+        self.input.push_front(rest)?;
+        self.send(Kind::Text, front)?;
+        Ok(true)
     }
 
     // Takes markup up to its end or that of the text. What came before was begun, and so many bytes of the text are known
@@ -135,31 +159,33 @@ impl<K: TokenSink> Tokenizer<K> {
         &mut self,
         mut begun: StrTendril,
         markup: Markup,
-        rest: &mut StrTendril,
+        mut text: StrTendril,
         start: usize,
-    ) -> Result<(), Refusal>
+    ) -> Result<bool, Refusal>
         requires outside { self.old.state ≡ State.Outside }
-        requires some { 0 < length rest.old.bytes }
-        requires within { start ≤ length rest.old.bytes }
-        ensures ok { OnOk result (Spells (K.tokens self.old.sink) (begun.bytes ++ rest.old.bytes)
-            (K.tokens self.new.sink) (pending self.new.state ++ rest.new.bytes)) }
-        ensures shorter { OnOk result (length rest.new.bytes < length rest.old.bytes) }
+        requires some { 0 < length text.bytes }
+        requires within { start ≤ length text.bytes }
+        ensures ok { OnOk result (TokensSpell (K.tokens self.old.sink) (begun.bytes ++ (text.bytes ++ self.old.input.bytes))
+            (K.tokens self.new.sink) (pending self.new.state self.new.input)) }
+        ensures shorter { IfOk result (λ more. IsTrue more →
+            length self.new.input.bytes < length text.bytes + length self.old.input.bytes) }
         ensures err { OnErr result (IsFrontOf (joined_sources (K.tokens self.new.sink))
-            (joined_sources (K.tokens self.old.sink) ++ (begun.bytes ++ rest.old.bytes))) }
+            (joined_sources (K.tokens self.old.sink) ++ (begun.bytes ++ (text.bytes ++ self.old.input.bytes)))) }
     {
-        match markup.scan(rest.as_byte_slice(), start) {
+        match markup.scan(text.as_byte_slice(), start) {
             (last, Some(count)) => {
-                let end = rest.split_to(count as u32)?;
+                let end = text.split_to(count as u32)?;
+                self.input.push_front(text)?;
                 append(&mut begun, end)?;
                 let kind = self.kind_of(last, &begun)?;
-                self.send(kind, begun)
+                self.send(kind, begun)?;
             }
             (markup, None) => {
-                append(&mut begun, rest.take())?;
+                append(&mut begun, text)?;
                 self.state = State::Inside { markup, begun };
-                Ok(())
             }
         }
+        Ok(true)
     }
 
     // What markup is that was in this state before its last byte.
@@ -201,8 +227,9 @@ impl<K: TokenSink> Tokenizer<K> {
 
     // Sends a token, unless it would have no byte.
     fn send(&mut self, kind: Kind, source: StrTendril) -> Result<(), Refusal>
-        ensures ok { OnOk result (Spells (K.tokens self.old.sink) source.bytes (K.tokens self.new.sink) []) }
+        ensures ok { OnOk result (TokensSpell (K.tokens self.old.sink) source.bytes (K.tokens self.new.sink) []) }
         ensures state { self.new.state ≡ self.old.state }
+        ensures input { self.new.input ≡ self.old.input }
         ensures err { OnErr result (K.tokens self.new.sink ≡ K.tokens self.old.sink) }
     {
         if source.is_empty() {
@@ -223,28 +250,48 @@ fn append(text: &mut StrTendril, more: StrTendril) -> Result<(), Refusal>
     text.push_tendril(&more)
 }
 
+// The markup that was begun, or no text.
+fn begun_text(alloc: Global, state: State) -> StrTendril
+    ensures { result.bytes ≡ begun_bytes state }
+{
+    match state {
+        State::Outside => StrTendril::new(alloc),
+        State::Inside { begun, .. } => begun,
+    }
+}
+
+// Puts all that is left of the input after a text.
+fn joined(begun: StrTendril, mut input: TextQueue) -> Result<StrTendril, Refusal>
+    ensures ok { IfOk result (λ text. text.bytes ≡ begun.bytes ++ input.bytes) }
+    ensures err { OnErr result (0 < length input.bytes) }
+{
+    let mut text = begun;
+    'texts: while let Some(more) = input.pop_front() {
+        append(&mut text, more)?;
+    }
+    Ok(text)
+}
+
 impl<K: TokenSink> TendrilSink<StrTendril> for Tokenizer<K> {
     ghost use Rattle.std.specs.Prelude.{◌<◌, ◌++◌, [], length};
-    ghost use Rattle.tendril_fmt.specs.Parts.{IsFrontOf};
-    ghost use Rattle.use_tokens.specs.Spelled.{Spells, pending, sent_bytes, joined_sources};
+    ghost use Rattle.tendril.specs.Fmt.Parts.{IsFrontOf};
+    ghost use Rattle.use_tokens.specs.Spelled.{TokensSpell, pending, sent_bytes, joined_sources};
 
     type Output = K;
 
-    ghost takes = { λ a e b. Spells (K.tokens a.sink) (pending a.state ++ sent_bytes e)
-        (K.tokens b.sink) (pending b.state) };
+    ghost takes = { λ a e b. TokensSpell (K.tokens a.sink) (pending a.state a.input ++ sent_bytes e)
+        (K.tokens b.sink) (pending b.state b.input) };
 
     ghost refuses = { λ a e r b. IsFrontOf (joined_sources (K.tokens b.sink))
-        (joined_sources (K.tokens a.sink) ++ (pending a.state ++ sent_bytes e)) };
+        (joined_sources (K.tokens a.sink) ++ (pending a.state a.input ++ sent_bytes e)) };
 
-    ghost finishes = { λ a out. Spells (K.tokens a.sink) (pending a.state) (K.tokens out) [] };
+    ghost finishes = { λ a out. TokensSpell (K.tokens a.sink) (pending a.state a.input) (K.tokens out) [] };
 
-    ghost ends = { λ a r. 0 < length (pending a.state) };
+    ghost ends = { λ a r. 0 < length (pending a.state a.input) };
 
     fn process(&mut self, text: StrTendril) -> Result<(), Refusal> {
-        let mut rest = text;
-        'parts: while !rest.is_empty() {
-            self.take_part(&mut rest)?;
-        }
+        self.input.push_back(text)?;
+        'parts: while self.take_part()? {}
         Ok(())
     }
 
@@ -254,11 +301,7 @@ impl<K: TokenSink> TendrilSink<StrTendril> for Tokenizer<K> {
 
     fn finish(self) -> Result<K, Refusal> {
         let mut sink = self.sink;
-        let source = match self.state {
-            State::Outside => return Ok(sink),
-            State::TagOpen => StrTendril::from_slice(self.alloc, "<")?,
-            State::Inside { begun, .. } => begun,
-        };
+        let source = joined(begun_text(self.alloc, self.state), self.input)?;
         if source.is_empty() {
             return Ok(sink);
         }
@@ -271,12 +314,13 @@ impl<K: TokenSink> TendrilSink<StrTendril> for Tokenizer<K> {
 /// The sources of its tokens, followed by what is pending, are the UTF-8 of the characters that it was told.
 impl<K: TokenSink> Tracks<StrTendril> for Tokenizer<K> {
     ghost use Rattle.std.specs.Prelude.{◌≡◌, ◌++◌, [], encode_utf8_all};
-    ghost use Rattle.tendril_lossy.specs.Lossy.{characters};
+    ghost use Rattle.tendril.specs.Lossy.{characters};
     ghost use Rattle.use_tokens.specs.Follows.{spelled_on};
     ghost use Rattle.use_tokens.specs.Spelled.{pending, joined_sources};
 
-    ghost after = { λ a told. joined_sources (K.tokens a.sink) ++ pending a.state ≡ encode_utf8_all (characters told) };
+    ghost after = { λ a told. joined_sources (K.tokens a.sink) ++ pending a.state a.input
+        ≡ encode_utf8_all (characters told) };
 
-    ghost goes_on = { λ told a e b is_sent was call. spelled_on [] told e (K.tokens a.sink) (pending a.state)
-        (K.tokens b.sink) (pending b.state) is_sent was call };
+    ghost goes_on = { λ told a e b is_sent was call. spelled_on [] told e (K.tokens a.sink) (pending a.state a.input)
+        (K.tokens b.sink) (pending b.state b.input) is_sent was call };
 }

@@ -1,9 +1,11 @@
 use Rattle.std.proofs.Common.{length, ◌++◌}
-use Rattle.use_tokens.specs.Spelled.{Spells, pending}
+use Rattle.use_tokens.specs.Spelled.{TokensSpell, pending}
 use Rattle.use_tokens.proofs.tokenizer.TokenizerTendrilSinkStrTendril.process.Given as goal
 
 abbrev pub invariant-parts : goal.invariant-parts
-invariant-parts g l = Spells (g.K.TokenSink.tokens l.fn.self.sink) (pending l.fn.self.state ++ l.fn.text.bytes) (g.K.TokenSink.tokens l.self.sink) (pending l.self.state ++ l.rest.bytes)
+invariant-parts g l =
+    let tokens = g.K.TokenSink.tokens in
+    TokensSpell (tokens l.fn.self.sink) (pending l.fn.self.state l.fn.self.input ++ l.fn.text.bytes) (tokens l.self.sink) (pending l.self.state l.self.input)
 
 abbrev pub decreases-parts : goal.decreases-parts
-decreases-parts g l = length l.rest.bytes
+decreases-parts g l = length l.self.input.bytes

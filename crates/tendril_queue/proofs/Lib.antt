@@ -1,0 +1,5 @@
+pub mod Dropped
+pub mod Eaten
+pub mod Fronts
+pub mod Looked
+pub mod Sameness

@@ -1,0 +1,172 @@
+-- A pattern beside the texts that were looked at.
+use Rattle.std.proofs.Common.{
+  ◌≡◌,
+  ℕ,
+  zero,
+  suc,
+  ◌+◌,
+  ◌-◌,
+  ◌<◌,
+  ◌≤◌,
+  min,
+  List,
+  [],
+  ◌∷◌,
+  ◌++◌,
+  length,
+  get_or,
+  take,
+  drop,
+  refl,
+  sym,
+  ap,
+  ap₂,
+  ◌∙◌,
+  subst,
+  arith,
+}
+use Rattle.std.proofs.Math.Seq.{take-append-add}
+use Rattle.std.proofs.lemmas.List.{
+  length-append,
+  length-take-le,
+  length-drop,
+  take-append-drop,
+  take-append-le,
+  take_more,
+  take_all,
+  take_rest,
+  drop_more,
+}
+use Rattle.tendril_queue.proofs.Fronts.{joined-append, joined_push}
+use Rattle.tendril_queue.proofs.Sameness.{same_after, same_join}
+use Rattle.tendril_queue.specs.declared.eat.Case.{Case}
+use Rattle.tendril_queue.specs.Eating.{AreSame, BeginsWith, Differs, EndsInPattern}
+use Rattle.tendril_queue.specs.Queues.{queued_bytes}
+use Rattle.tendril_text.specs.Texts.{Text}
+
+-- the first so many texts are the same as a front of the pattern, which goes on
+pub record IsPassed (case : Case) (pattern : List ℕ) (xs : List Text) (index at : ℕ) : Type 0 where
+  pub len : at ≡ length (queued_bytes (take index xs))
+  pub within : at ≤ length pattern
+  pub more : 0 < index → at < length pattern
+  pub same : AreSame case (queued_bytes (take index xs)) (take at pattern)
+
+-- the bytes of the texts, at one of them
+joined_at : (xs : List Text) (t : Text) (index : ℕ) → index < length xs → t ≡ get_or xs index t
+    → queued_bytes xs ≡ queued_bytes (take index xs) ++ (t.bytes ++ queued_bytes (drop (index + 1) xs))
+joined_at xs t index h is =
+    ap queued_bytes (sym (take-append-drop index xs) ∙ ap (λ l. take index xs ++ l) (drop_more xs index t h))
+    ∙ joined-append (take index xs) (get_or xs index t ∷ drop (index + 1) xs)
+    ∙ ap (λ (x : Text). queued_bytes (take index xs) ++ (x.bytes ++ queued_bytes (drop (index + 1) xs))) (sym is)
+
+-- so many more bytes are looked at in one of the texts
+pub record IsNext (case : Case) (pattern : List ℕ) (xs : List Text) (t : Text) (index at count : ℕ) : Type 0 where
+  pub there : index < length xs
+  pub is : t ≡ get_or xs index t
+  pub in_text : count ≤ length t.bytes
+  pub in_pattern : at + count ≤ length pattern
+
+module _ (case : Case) (pattern : List ℕ) (xs : List Text) (t : Text) (index at count : ℕ) where
+  -- the fronts of both
+  front : IsPassed case pattern xs index at → IsNext case pattern xs t index at count
+      → take (at + count) (queued_bytes xs) ≡ queued_bytes (take index xs) ++ take count t.bytes
+  front p n =
+      ap₂ take (ap (λ m. m + count) p.len) (joined_at xs t index n.there n.is)
+      ∙ take-append-add (queued_bytes (take index xs)) (t.bytes ++ queued_bytes (drop (index + 1) xs)) count
+      ∙ ap (λ l. queued_bytes (take index xs) ++ l) (take-append-le count t.bytes (queued_bytes (drop (index + 1) xs)) n.in_text)
+
+  front_len : IsPassed case pattern xs index at → length (take at pattern) ≡ at
+  front_len p = length-take-le at pattern p.within
+
+  pattern_front : IsPassed case pattern xs index at → take (at + count) pattern ≡ take at pattern ++ take count (drop at pattern)
+  pattern_front p =
+      ap₂ take (ap (λ m. m + count) (sym (front_len p))) (sym (take-append-drop at pattern))
+      ∙ take-append-add (take at pattern) (drop at pattern) count
+
+  total : IsPassed case pattern xs index at → IsNext case pattern xs t index at count → at + count ≤ length (queued_bytes xs)
+  total p n =
+      let rest = queued_bytes (drop (index + 1) xs) in
+      let size : length (queued_bytes xs) ≡ length (queued_bytes (take index xs)) + (length t.bytes + length rest) =
+      ap length (joined_at xs t index n.there n.is) ∙ length-append (queued_bytes (take index xs)) (t.bytes ++ rest)
+      ∙ ap (λ m. length (queued_bytes (take index xs)) + m) (length-append t.bytes rest) in
+      let len = p.len in
+      let in_text = n.in_text in
+      omega (arith, size, len, in_text)
+
+  pub differs : IsPassed case pattern xs index at → IsNext case pattern xs t index at count
+      → (AreSame case (take count t.bytes) (take count (drop at pattern)) → ⊥)
+      → Differs (AreSame case) pattern (queued_bytes xs)
+  differs p n other = record {
+    count = at + count;
+    within = total p n;
+    in_pattern = n.in_pattern;
+    other = λ same. other (same_after case (queued_bytes (take index xs)) (take at pattern) (take count t.bytes)
+        (take count (drop at pattern))
+        (sym p.len ∙ sym (front_len p))
+        (subst (λ l. AreSame case (queued_bytes (take index xs) ++ take count t.bytes) l) (pattern_front p) (subst
+        (λ l. AreSame case l (take (at + count) pattern)) (front p n) same)));
+  }
+
+  -- as far as that both are the same
+  together : IsPassed case pattern xs index at → IsNext case pattern xs t index at count
+      → AreSame case (take count t.bytes) (take count (drop at pattern))
+      → AreSame case (queued_bytes (take index xs) ++ take count t.bytes) (take (at + count) pattern)
+  together p n same =
+      subst (λ l. AreSame case (queued_bytes (take index xs) ++ take count t.bytes) l) (sym (pattern_front p))
+      (same_join case (queued_bytes (take index xs)) (take at pattern) (take count t.bytes) (take count
+      (drop at pattern)) p.same same)
+
+  pub begins : IsPassed case pattern xs index at → IsNext case pattern xs t index at count
+      → AreSame case (take count t.bytes) (take count (drop at pattern)) → at + count ≡ length pattern
+      → BeginsWith (AreSame case) pattern (queued_bytes xs)
+  begins p n same all = record {
+    within = subst (λ m. m ≤ length (queued_bytes xs)) all (total p n);
+    is = let whole : take (at + count) pattern ≡ pattern = take_all (at + count) pattern (omega (arith, all)) in
+        subst (λ m. AreSame case (take m (queued_bytes xs)) pattern) all
+        (subst (λ l. AreSame case l pattern) (sym (front p n)) (subst (λ l. AreSame case (queued_bytes
+        (take index xs) ++ take count t.bytes) l) whole (together p n same)));
+  }
+
+  -- the whole text was looked at
+  pub passed_more : IsPassed case pattern xs index at → IsNext case pattern xs t index at count
+      → AreSame case (take count t.bytes) (take count (drop at pattern)) → at + count < length pattern
+      → count ≡ length t.bytes → IsPassed case pattern xs (index + 1) (at + count)
+  passed_more p n same goes_on whole =
+      let next : queued_bytes (take (index + 1) xs) ≡ queued_bytes (take index xs) ++ t.bytes =
+      ap queued_bytes (take_more xs index t n.there) ∙ joined_push (take index xs) (get_or xs index t)
+      ∙ ap (λ (x : Text). queued_bytes (take index xs) ++ x.bytes) (sym n.is) in
+      let len = p.len in
+      let all : take count t.bytes ≡ t.bytes = take_all count t.bytes (omega (arith, whole)) in
+      record {
+        len = ap₂ (λ x y. x + y) len whole ∙ sym (length-append (queued_bytes (take index xs)) t.bytes) ∙ ap length (sym next);
+        within = omega (arith, goes_on);
+        more = λ _. goes_on;
+        same = subst (λ l. AreSame case l (take (at + count) pattern)) (ap (λ l. queued_bytes
+            (take index xs) ++ l) all ∙ sym next) (together p n same);
+      }
+
+-- what the code compares: so many bytes of a text, and of the rest of the pattern
+
+module _ (pattern bytes text : List ℕ) (at count : ℕ) (read : bytes ≡ text) where
+  -- the rest of the pattern, as a slice of it
+  abbrev rest : List ℕ
+  rest = take (length pattern - at) (drop at pattern)
+
+  pub bounds : at ≤ length pattern → count ≡ min (length bytes) (length rest)
+      → (count ≤ length text) × (at + count ≤ length pattern) × (at + count < length pattern → count ≡ length text)
+  bounds within is =
+      let left : length rest ≡ length pattern - at = ap length (take_rest pattern at) ∙ length-drop at pattern in
+      let size : length bytes ≡ length text = ap length read in
+      (omega (arith, is, left, size), omega (arith, is, left, size, within), λ h. omega (arith, is, left, size, within, h))
+
+  pub same_parts : (case : Case) → AreSame case (take count bytes) (take count rest)
+      → AreSame case (take count text) (take count (drop at pattern))
+  same_parts case h =
+      subst (λ l. AreSame case (take count text) (take count l)) (take_rest pattern at)
+      (subst (λ b. AreSame case (take count b) (take count rest)) read h)
+
+  pub parts_same : (case : Case) → AreSame case (take count text) (take count (drop at pattern))
+      → AreSame case (take count bytes) (take count rest)
+  parts_same case h =
+      subst (λ b. AreSame case (take count b) (take count rest)) (sym read)
+      (subst (λ l. AreSame case (take count text) (take count l)) (sym (take_rest pattern at)) h)

@@ -1,0 +1,82 @@
+-- A queue: texts in UTF-8, one after another, of which none is empty.
+use Rattle.std.specs.Prelude.{
+  ◌≡◌,
+  ℕ,
+  ◌<◌,
+  ◌⊎◌,
+  Bool,
+  List,
+  [],
+  ◌∷◌,
+  ◌++◌,
+  length,
+  flat_map,
+  chars,
+  encode_utf8,
+  All,
+  IsUtf8,
+}
+use Rattle.tendril_block.specs.declared.refusal.Refusal.{Refusal}
+use Rattle.tendril_text.specs.declared.search.SetResult.{SetResult}
+use Rattle.tendril_text.specs.Search.{TakesPart, HasLongPartBefore}
+use Rattle.tendril_text.specs.Texts.{Text, Keeps}
+
+-- the bytes of texts, one after another
+abbrev pub queued_bytes : List Text → List ℕ
+queued_bytes texts = flat_map (λ t. t.bytes) texts
+
+-- a queue: its bytes, and the texts that have them
+pub record Queued : Type 0 where
+  pub bytes : List ℕ
+  pub texts : List Text
+
+-- a text that a queue may have
+pub record IsQueued (t : Text) : Type 0 where
+  pub some : 0 < length t.bytes
+  pub valid : IsUtf8 t.bytes
+
+abbrev pub AreQueued : List Text → Type 0
+AreQueued texts = All IsQueued texts
+
+-- the list of a text of the bytes b, or of none where there are no bytes
+abbrev pub listed_for : List ℕ → Text → List Text
+listed_for [] t = []
+listed_for (x ∷ xs) t = t ∷ []
+
+abbrev pub unless_empty : Text → List Text
+unless_empty t = listed_for t.bytes t
+
+-- in place of the first text of a list there is what is left of it, or no text where that is empty
+pub record LeavesOfFirst (old : List Text) (first left : Text) (new : List Text) : Type 0 where
+  pub rest : List Text
+  pub had : old ≡ first ∷ rest
+  pub has : new ≡ unless_empty left ++ rest
+
+-- the first text of a list has lost bytes at its front
+pub record ShortensFirst (old new : List Text) : Type 0 where
+  pub first : Text
+  pub left : Text
+  pub leaves : LeavesOfFirst old first left new
+  pub keeps : Keeps first left
+
+-- the first texts of a list are gone, and the next one has lost bytes at its front, or none
+pub record DropsFront (old new : List Text) : Type 0 where
+  pub gone : List Text
+  pub others : List Text
+  pub had : old ≡ gone ++ others
+  pub has : (new ≡ others) ⊎ ShortensFirst others new
+
+-- what comes next of texts that are cut at the characters of a set was taken out of the first text
+module _ {F A B : _} (set : ℕ → Bool) where
+  pub record TakesFirst (old : List Text) (taken : SetResult F A B) (new : List Text) : Type 0 where
+    pub first : Text
+    pub left : Text
+    pub leaves : LeavesOfFirst old first left new
+    pub part : TakesPart chars encode_utf8 set first taken left
+
+-- the first text has a prefix of more than 8 bytes before the set's first character or its end, and more than 8 after
+pub record HasLongFirst (set : ℕ → Bool) (texts : List Text) (r : Refusal) : Type 0 where
+  pub first : Text
+  pub rest : List Text
+  pub had : texts ≡ first ∷ rest
+  pub long : HasLongPartBefore set first.bytes r

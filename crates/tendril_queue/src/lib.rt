@@ -1,0 +1,10 @@
+//! A queue of texts, from which a tokenizer reads its input while pieces of it come in.
+#![tactic(auto)]
+
+mod eat;
+mod queue;
+#[cfg(test)]
+mod tests;
+
+pub use crate::eat::EatResult;
+pub use crate::queue::TextQueue;

@@ -1,0 +1,160 @@
+//! Queues of texts.
+//!
+//! A `TextQueue<A>` is seen by contracts as its bytes and the texts that have them. No text in it is empty.
+ghost use Rattle.std.specs.Prelude.{◌≡◌, ◌<◌, ◌↔◌, ◌++◌, ◌∷◌, [], ℕ, List, length, chars, encode_utf8, IsTrue};
+ghost use Rattle.std.specs.Prelude.{IfSome, IfNone, IfOk, IfErr, OnOk, OnErr, OnSome};
+ghost use Rattle.tendril_queue.specs.Queues.{unless_empty, DropsFront, TakesFirst, HasLongFirst};
+ghost use Rattle.tendril_text.specs.Search.{has_byte, part_bytes};
+
+use std::alloc::Global;
+use std::collections::VecDeque;
+use std::marker::Model;
+use tendril_block::Refusal;
+use tendril_fmt::fmt::UTF8;
+use tendril_text::{Atomicity, ByteSet, NonAtomic, SetResult, Tendril};
+
+/// Texts in UTF-8, read from the first on while more come in at the end. html5ever's is `BufferQueue`.
+///
+/// ```text
+/// let mut input: TextQueue = TextQueue::new(alloc);
+/// input.push_back(piece)?;
+/// match input.eat("<!--") {
+///     EatResult::Eaten => comment(&mut input),
+///     EatResult::NotThere => markup(&mut input),
+///     EatResult::NotKnown => wait_for_a_piece(),
+/// }
+/// ```
+#[derive(Drop)]
+pub struct TextQueue<A: Atomicity = NonAtomic> {
+    pub(crate) texts: VecDeque<Tendril<UTF8, A>>,
+}
+
+impl<A: Atomicity> Model for TextQueue<A> {
+    ghost use Rattle.tendril_queue.specs.Queues.{Queued, queued_bytes, AreQueued};
+
+    ghost Value = { Queued };
+
+    ghost view = { λ q. record { bytes = queued_bytes q.texts.items; texts = q.texts.items } };
+
+    ghost invariant = { λ q. AreQueued q.texts.items };
+}
+
+impl<A: Atomicity> TextQueue<A> {
+    /// The empty queue. Allocates nothing.
+    pub fn new(alloc: Global) -> Self
+        ensures bytes { result.bytes ≡ [] }
+        ensures texts { result.texts ≡ [] }
+    {
+        TextQueue {
+            texts: VecDeque::new(alloc),
+        }
+    }
+
+    /// Whether there are no bytes, and so no texts.
+    pub fn is_empty(&self) -> bool
+        ensures bytes { IsTrue result ↔ (self.now.bytes ≡ []) }
+        ensures texts { IsTrue result ↔ (self.now.texts ≡ []) }
+    {
+        self.texts.is_empty()
+    }
+
+    /// Puts a text at the end, in amortized constant time. An empty text is dropped.
+    ///
+    /// Returns `Memory` and the text where the list of texts can't grow.
+    pub fn push_back(&mut self, text: Tendril<UTF8, A>) -> Result<(), (Refusal, Tendril<UTF8, A>)>
+        ensures bytes { OnOk result (self.new.bytes ≡ self.old.bytes ++ text.bytes) }
+        ensures texts { OnOk result (self.new.texts ≡ self.old.texts ++ unless_empty text) }
+        ensures err { IfErr result (λ e. (e.0 ≡ Refusal.Memory) × (e.1 ≡ text) × (0 < length text.bytes)) }
+        ensures unchanged { OnErr result (self.new ≡ self.old) }
+    {
+        if text.as_byte_slice().is_empty() {
+            return Ok(());
+        }
+        match self.texts.push_back(text) {
+            Ok(()) => Ok(()),
+            Err(failed) => Err((Refusal::Memory, failed.value)),
+        }
+    }
+
+    /// Puts a text at the front, to be read next, in amortized constant time. An empty text is dropped.
+    ///
+    /// Returns `Memory` and the text where the list of texts can't grow.
+    pub fn push_front(&mut self, text: Tendril<UTF8, A>) -> Result<(), (Refusal, Tendril<UTF8, A>)>
+        ensures bytes { OnOk result (self.new.bytes ≡ text.bytes ++ self.old.bytes) }
+        ensures texts { OnOk result (self.new.texts ≡ unless_empty text ++ self.old.texts) }
+        ensures err { IfErr result (λ e. (e.0 ≡ Refusal.Memory) × (e.1 ≡ text) × (0 < length text.bytes)) }
+        ensures unchanged { OnErr result (self.new ≡ self.old) }
+    {
+        if text.as_byte_slice().is_empty() {
+            return Ok(());
+        }
+        match self.texts.push_front(text) {
+            Ok(()) => Ok(()),
+            Err(failed) => Err((Refusal::Memory, failed.value)),
+        }
+    }
+
+    /// Takes the first text out of the queue, or returns `None` where the queue is empty. The text has a byte at least.
+    pub fn pop_front(&mut self) -> Option<Tendril<UTF8, A>>
+        ensures bytes { IfSome result (λ text. self.old.bytes ≡ text.bytes ++ self.new.bytes) }
+        ensures texts { IfSome result (λ text. self.old.texts ≡ text ∷ self.new.texts) }
+        ensures some { IfSome result (λ text. 0 < length text.bytes) }
+        ensures none { IfNone result ((self.old.bytes ≡ []) × (self.new ≡ self.old)) }
+    {
+        self.texts.pop_front()
+    }
+
+    /// The next character, or `None` where the queue is empty.
+    pub fn peek(&self) -> Option<char>
+        ensures character { IfSome result (λ c. (rest : List ℕ) × (chars self.now.bytes ≡ c ∷ rest)) }
+        ensures none { IfNone result (self.now.bytes ≡ []) }
+    {
+        self.texts.front()?.peek_front_char()
+    }
+
+    /// Takes the next character off the front, or returns `None` where the queue is empty. Allocates nothing.
+    pub fn next(&mut self) -> Option<char>
+        ensures character { IfSome result (λ c. chars self.old.bytes ≡ c ∷ chars self.new.bytes) }
+        ensures bytes { IfSome result (λ c. self.old.bytes ≡ encode_utf8 c ++ self.new.bytes) }
+        ensures texts { OnSome result (DropsFront self.old.texts self.new.texts) }
+        ensures none { IfNone result ((self.old.bytes ≡ []) × (self.new ≡ self.old)) }
+    {
+        if self.texts.is_empty() {
+            return None;
+        }
+        let first = &mut self.texts[0];
+        let character = first.pop_front_char()?;
+        let left = first.as_byte_slice().len();
+        if left == 0 {
+            self.texts.pop_front();
+        }
+        Some(character)
+    }
+
+    /// Takes what comes before the first character of the set out of the first text, or that character where the text
+    /// begins with it. Returns `None` where the queue is empty.
+    ///
+    /// It looks at the first text alone, and shares its bytes, as `Tendril::pop_except_from` does: returns `Count` only
+    /// where a prefix and a rest of more than 8 bytes each would share a block that has as many references as it can have.
+    pub fn pop_except_from(&mut self, set: &ByteSet) -> Result<Option<SetResult<UTF8, A>>, Refusal>
+        ensures part { IfOk result (λ found. IfSome found (λ part.
+            TakesFirst (has_byte set.now) self.old.texts part self.new.texts)) }
+        ensures joined { IfOk result (λ found. IfSome found (λ part.
+            self.old.bytes ≡ part_bytes encode_utf8 part ++ self.new.bytes)) }
+        ensures shorter { IfOk result (λ found. OnSome found (length self.new.bytes < length self.old.bytes)) }
+        ensures none { IfOk result (λ found. IfNone found ((self.old.bytes ≡ []) × (self.new ≡ self.old))) }
+        ensures refusal { IfErr result (HasLongFirst (has_byte set.now) self.old.texts) }
+        ensures err { OnErr result (self.new ≡ self.old) }
+    {
+        if self.texts.is_empty() {
+            return Ok(None);
+        }
+        let first = &mut self.texts[0];
+        let found = first.pop_except_from(set)?;
+        let left = first.as_byte_slice().len();
+        if left == 0 {
+            self.texts.pop_front();
+        }
+        Ok(found)
+    }
+}
