@@ -1,8 +1,8 @@
 -- The bytes of `Doubled` from the front, two by two.
-use Rattle.std.proofs.Common.{◌≡◌, ℕ, ◌<◌, ◌≤◌, ◌-◌, List, [], ◌∷◌, ◌++◌, length, length-drop, take, drop, slice_get, slice_index, arith, Some, None, refl, sym, ap, subst, ◌∙◌}
+use Rattle.std.proofs.Common.{◌≡◌, ℕ, ◌<◌, ◌≤◌, ◌-◌, List, [], ◌∷◌, ◌++◌, length, length-drop, take, drop, slice_get, slice_index, arith, Some, refl, sym, ap, subst, ◌∙◌}
 use Rattle.std.proofs.Math.Seq.{take-length}
-use Rattle.tendril_fmt.specs.Chars.{encodings, IsFirstChar}
-use Rattle.tendril_fmt.specs.Proved.Characters.{IsFirstChar-from_split}
+use Rattle.tendril.specs.Fmt.Chars.{encodings, IsFirstChar}
+use Rattle.tendril.specs.Fmt.Proved.Characters.{IsFirstChar-from_split}
 use Rattle.tendril_bench.specs.Doubled.{twice, AreAscii, IsDoubled, firsts, IsDoubled-twice}
 
 -- two bytes and a text are a text where the two are the same of ASCII

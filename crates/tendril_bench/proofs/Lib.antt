@@ -1,1 +1,4 @@
 pub mod Doubles
+pub mod Pushed
+pub mod Resumed
+pub mod UnitLengths

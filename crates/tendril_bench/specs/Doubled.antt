@@ -1,11 +1,11 @@
 -- ASCII with each byte written twice, and the laws that it owes.
-use Rattle.std.proofs.Common.{◌≡◌, ℕ, ◌<◌, List, [], ◌∷◌, ◌++◌, length, refl, sym, ap, subst, ◌∙◌, arith}
+use Rattle.std.proofs.Common.{◌≡◌, ℕ, ◌<◌, List, [], ◌∷◌, ◌++◌, refl, sym, ap, subst, ◌∙◌, arith}
 use Rattle.std.specs.List.{All, AllByRecursion}
 use Rattle.std.proofs.lemmas.List.Concat.{flat_map-append}
 use Rattle.std.proofs.lemmas.List.Elements.{All-from_recursion}
-use Rattle.tendril_fmt.specs.Bytes.{AreBytes}
-use Rattle.tendril_fmt.specs.Proved.Bytes.{AreBytes-nil, AreBytes-cons}
-use Rattle.tendril_fmt.specs.Chars.{encodings, AreTextsOf}
+use Rattle.tendril.specs.Fmt.Bytes.{AreBytes}
+use Rattle.tendril.specs.Fmt.Proved.Bytes.{AreBytes-nil, AreBytes-cons}
+use Rattle.tendril.specs.Fmt.Chars.{encodings, AreTextsOf}
 
 -- a byte twice
 abbrev pub twice : ℕ → List ℕ

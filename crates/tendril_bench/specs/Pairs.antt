@@ -1,7 +1,7 @@
 -- Bytes two by two.
 use Rattle.std.proofs.Common.{◌≡◌, ℕ, ◌%◌, List, [], ◌++◌, length, refl, arith, length-append}
-use Rattle.tendril_fmt.specs.Bytes.{AreBytes}
-use Rattle.tendril_fmt.specs.Proved.Bytes.{AreBytes-nil, AreBytes-append}
+use Rattle.tendril.specs.Fmt.Bytes.{AreBytes}
+use Rattle.tendril.specs.Fmt.Proved.Bytes.{AreBytes-nil, AreBytes-append}
 
 -- bytes, and their number is even
 abbrev pub IsPaired : List ℕ → Type 0

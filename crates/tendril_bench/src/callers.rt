@@ -3,7 +3,7 @@ ghost use Rattle.std.specs.Prelude.{◌≡◌, ◌≤◌, ◌∷◌, ◌++◌, �
 ghost use Rattle.std.specs.List.{AllByRecursion};
 ghost use Rattle.tendril_bench.specs.Digits.{IsDigit};
 
-use tendril_fmt::fmt::{CharFormat, Format};
+use tendril::fmt::{CharFormat, Format};
 
 /// The first `len` bytes of a text, if they are a text of the format.
 pub fn front<F: Format>(text: &[u8], len: usize) -> Option<&[u8]>

@@ -1,6 +1,6 @@
 //! A format of characters as a user writes one.
 
-use tendril_fmt::fmt::{CharFormat, Encoded, Fixup, Format};
+use tendril::fmt::{CharFormat, Encoded, Fixup, Format};
 
 /// ASCII with each byte written twice.
 #[derive(Clone, Copy, Debug, Default)]

@@ -1,6 +1,6 @@
 //! A format as a user writes one.
 
-use tendril_fmt::fmt::{Fixup, Format};
+use tendril::fmt::{Fixup, Format};
 
 /// An even number of bytes, of any kind.
 #[derive(Clone, Copy, Debug, Default)]

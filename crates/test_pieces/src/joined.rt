@@ -30,16 +30,16 @@ impl<A: Atomicity> TendrilSink<Tendril<UTF8, A>> for Joined<A> {
     }
 }
 
-/// The text of a file, read in at most `most` reads.
+/// The text of a file, read in at most `max_reads` reads.
 pub fn text_of_file<A: Atomicity>(
     files: &impl Files,
     alloc: Global,
     path: &str,
-    most: u64,
+    max_reads: u64,
 ) -> Result<Tendril<UTF8, A>, Refusal> {
     let sink = Joined {
         text: Tendril::new(alloc),
     };
     let decoder: Utf8LossyDecoder<Joined<A>, A> = Utf8LossyDecoder::new(alloc, sink);
-    Ok(from_file(files, alloc, decoder, path, most)?)
+    Ok(from_file(files, alloc, decoder, path, max_reads)?)
 }

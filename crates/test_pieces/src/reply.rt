@@ -1,7 +1,7 @@
 //! What is printed for a line.
 
 use crate::recorder::Sent;
-use crate::words::{FEW, Hex};
+use crate::words::{Hex, MAX_WRITTEN_SINGLY};
 use std::alloc::{AllocError, Global};
 use std::fmt::Display;
 use tendril_block::{Atomicity, Refusal};
@@ -62,7 +62,7 @@ impl Reply {
     pub fn text<A: Atomicity>(&mut self, text: &Tendril<UTF8, A>) -> Result<(), Refusal> {
         let shared = if text.is_shared() { " shared" } else { "" };
         let string = text.as_str();
-        if string.len() > FEW {
+        if string.len() > MAX_WRITTEN_SINGLY {
             return self.item(format_args!("{}{shared}", Hex(string.as_bytes())));
         }
         self.item(format_args!("{string:?}{shared}"))
@@ -96,7 +96,7 @@ impl Reply {
 fn are_equal<A: Atomicity>(one: &Sent<A>, next: &Sent<A>) -> bool {
     match (one, next) {
         (Sent::Text(one), Sent::Text(next)) => {
-            one.as_byte_slice().len() > FEW
+            one.as_byte_slice().len() > MAX_WRITTEN_SINGLY
                 && one.as_byte_slice() == next.as_byte_slice()
                 && one.is_shared() == next.is_shared()
         }

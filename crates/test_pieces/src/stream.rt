@@ -31,7 +31,7 @@ use crate::joined::text_of_file;
 use crate::recorder::{Calls, Recorder, Sent};
 use crate::reply::Reply;
 use crate::script::{Script, Step};
-use crate::words::{FEW, Hex, read_bytes};
+use crate::words::{Hex, MAX_WRITTEN_SINGLY, read_bytes};
 use std::alloc::Global;
 use std::borrow::CowStr;
 use std::cell::Cell;
@@ -256,13 +256,18 @@ impl<A: Atomicity> Stream<A> {
         mem::replace(&mut self.script, Script::new(self.alloc))
     }
 
-    fn read(&mut self, most: u32, reply: &mut Reply) -> Result<(), Refusal> {
+    fn read(&mut self, max_reads: u32, reply: &mut Reply) -> Result<(), Refusal> {
         let Some(decoder) = self.decoder.take() else {
             return reply.item("no decoder");
         };
         let mut script = self.take_script();
-        let most = u64::from(most.saturating_sub(script.reads));
-        let answer = read_decoded(self.alloc, decoder, &mut Counted::new(&mut script), most);
+        let max_reads = u64::from(max_reads.saturating_sub(script.reads));
+        let answer = read_decoded(
+            self.alloc,
+            decoder,
+            &mut Counted::new(&mut script),
+            max_reads,
+        );
         self.script = script;
         match answer {
             Ok(sent) => {
@@ -284,11 +289,11 @@ impl<A: Atomicity> Stream<A> {
         self.print(Err(refusal), reply)
     }
 
-    fn collect(&mut self, most: u32, reply: &mut Reply) -> Result<(), Refusal> {
+    fn collect(&mut self, max_reads: u32, reply: &mut Reply) -> Result<(), Refusal> {
         let mut script = self.take_script();
-        let most = u64::from(most.saturating_sub(script.reads));
+        let max_reads = u64::from(max_reads.saturating_sub(script.reads));
         let before = script.len;
-        let answer = Counted::new(&mut script).read_to_tendril(&mut self.text, most);
+        let answer = Counted::new(&mut script).read_to_tendril(&mut self.text, max_reads);
         self.script = script;
         match answer {
             Ok(count) => reply.item(count.saturating_add(before))?,
@@ -316,10 +321,10 @@ impl<A: Atomicity> Stream<A> {
     }
 
     // The same of a reader, which then begins with its first step again.
-    fn decode(&mut self, most: u32, reply: &mut Reply) -> Result<(), Refusal> {
+    fn decode(&mut self, max_reads: u32, reply: &mut Reply) -> Result<(), Refusal> {
         let mut script = self.take_script();
         let mut reader = Counted::new(&mut script);
-        let answer = decode_reader::<A, _>(self.alloc, &mut reader, u64::from(most));
+        let answer = decode_reader::<A, _>(self.alloc, &mut reader, u64::from(max_reads));
         self.script = script;
         self.script.end();
         match answer {
@@ -329,9 +334,9 @@ impl<A: Atomicity> Stream<A> {
     }
 
     fn file(&mut self, files: &impl Files, words: &str, reply: &mut Reply) -> Result<(), Refusal> {
-        let (path, most) = words.split_once(' ').unwrap_or((words, ""));
-        let most = most.parse::<u64>().unwrap_or(0);
-        match text_of_file::<A>(files, self.alloc, path, most) {
+        let (path, max_reads) = words.split_once(' ').unwrap_or((words, ""));
+        let max_reads = max_reads.parse::<u64>().unwrap_or(0);
+        match text_of_file::<A>(files, self.alloc, path, max_reads) {
             Ok(text) => reply.text(&text),
             Err(refusal) => decode_stopped(refusal, reply),
         }

@@ -2,10 +2,10 @@
 
 use std::alloc::{AllocError, Global};
 use std::fmt::{self, Display, Formatter};
-use tendril_words::bytes;
+use tendril_lines::bytes;
 
 /// How many bytes a reply writes one by one. Of more bytes it writes each run of equal ones once, with its length.
-pub const FEW: usize = 40;
+pub const MAX_WRITTEN_SINGLY: usize = 40;
 
 /// The bytes of words in hexadecimal, `-` for none, each with how often its bytes are repeated: `61*50000 ff 2030*3`.
 /// `None` where some word is of another form.
@@ -44,7 +44,7 @@ impl Display for Hex<'_> {
         if self.0.is_empty() {
             return f.write_str("-");
         }
-        if self.0.len() > FEW {
+        if self.0.len() > MAX_WRITTEN_SINGLY {
             return write_runs(f, self.0);
         }
         for byte in self.0.iter() {

@@ -17,9 +17,9 @@ use crate::slots::{equal_clones, filled, is_shared, text_of};
 use std::alloc::Global;
 use std::fmt::Write;
 use tendril_block::{Atomicity, Refusal};
+use tendril_lines::bytes;
 use tendril_run::{Slot, Table};
 use tendril_text::Tendril;
-use tendril_words::bytes;
 
 /// The reply to a line of the player's own, `None` where it is none.
 pub fn own_reply<T: Lined>(

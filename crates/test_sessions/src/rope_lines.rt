@@ -12,10 +12,9 @@ use crate::own::number;
 use rope::{Rope, RopeTable, decode_rope};
 use std::alloc::Global;
 use tendril_block::{Atomicity, Refusal};
-use tendril_lines::{Reply, print_reply};
+use tendril_lines::{Reply, bytes, print_reply};
 use tendril_text::Tendril;
 use tendril_text::fmt::Bytes;
-use tendril_words::bytes;
 
 /// The reply to such a line, `None` where it is another one.
 pub fn reply_by_ropes<A: Atomicity>(

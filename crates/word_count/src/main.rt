@@ -1,6 +1,13 @@
-//! Counts the words of standard input.
+//! Counts the words of standard input, and prints the parts of a text and the fields of a header.
 #![tactic(auto)]
 
+mod fields;
+mod parts;
+#[cfg(test)]
+mod tests;
+
+use fields::print_fields;
+use parts::print_parts;
 use std::alloc::Global;
 use std::collections::BTreeMap;
 use std::io::Read;
@@ -14,7 +21,8 @@ fn main(rt: HostRuntime) -> anyhow::Result<()> {
     for (word, times) in counts.iter() {
         println!(rt; "{word}: {times}")?;
     }
-    Ok(())
+    print_parts(&rt)?;
+    print_fields(&rt)
 }
 
 // How often each word is in the text. A long word shares the text's bytes.

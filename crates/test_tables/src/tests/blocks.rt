@@ -6,8 +6,8 @@ use std::sync::atomic::{AtomicU64, Ordering};
 use std::test::Fail;
 use std::thread;
 use std::thread::{Promise, PromisedHandle, Threads, yield_now};
-use tendril_block::{Atomic, AtomicUpTo, Atomicity, Refusal};
-use test_tools::Notes;
+use tendril::block::{Atomic, AtomicUpTo, Atomicity, Refusal};
+use test_texts::Notes;
 
 const TWENTY: &[u8] = b"01234567890123456789";
 

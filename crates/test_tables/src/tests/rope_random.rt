@@ -4,9 +4,9 @@ use super::rope_sinks::{has, text};
 use rope::Rope;
 use std::alloc::Global;
 use std::test::Fail;
-use tendril_block::{Atomic, Atomicity, NonAtomic, Refusal};
-use tendril_text::Tendril;
-use test_tools::Notes;
+use tendril::Tendril;
+use tendril::block::{Atomic, Atomicity, NonAtomic, Refusal};
+use test_texts::Notes;
 
 const STEPS: usize = 10_000;
 

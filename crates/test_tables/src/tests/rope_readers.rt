@@ -6,9 +6,9 @@ use std::alloc::Global;
 use std::fs::{self, Files};
 use std::io::{self, Error, ErrorKind, Read};
 use std::test::Fail;
-use tendril_block::{Atomic, Atomicity, NonAtomic, Refusal};
-use tendril_stream::{Counted, Stopped, TendrilSink, Utf8LossyDecoder};
-use test_tools::Notes;
+use tendril::block::{Atomic, Atomicity, NonAtomic, Refusal};
+use tendril::stream::{Counted, Stopped, TendrilSink, Utf8LossyDecoder};
+use test_texts::Notes;
 
 /// Gives one piece in each read, and then is at its end or fails.
 #[derive(Drop)]
@@ -94,13 +94,13 @@ fn check<A: Atomicity>(
 }
 
 fn read_all<A: Atomicity>(alloc: Global, notes: &mut Notes) {
-    for (row, (pieces, fails, most, expected)) in READS.iter().enumerate() {
+    for (row, (pieces, fails, max_reads, expected)) in READS.iter().enumerate() {
         let reader = Pieces {
             pieces: *pieces,
             given: 0,
             fails: *fails,
         };
-        let answer = read_rope::<A, _>(alloc, &mut Counted::new(reader), *most);
+        let answer = read_rope::<A, _>(alloc, &mut Counted::new(reader), *max_reads);
         check(alloc, notes, row, answer, *expected);
     }
 }
@@ -128,9 +128,9 @@ const FILES: [(&[u8], u64, Expected); 4] = [
 const FILE: &str = "test_tables_a_rope.txt";
 
 fn read_files<A: Atomicity>(rt: &(impl Files + AllocGlobal), notes: &mut Notes) {
-    for (row, (bytes, most, expected)) in FILES.iter().enumerate() {
+    for (row, (bytes, max_reads, expected)) in FILES.iter().enumerate() {
         notes.done(row, fs::write(rt, FILE, *bytes));
-        let answer = rope_from_file::<A, _>(rt, rt.alloc(), FILE, *most);
+        let answer = rope_from_file::<A, _>(rt, rt.alloc(), FILE, *max_reads);
         notes.done(row, fs::remove_file(rt, FILE));
         check(rt.alloc(), notes, row, answer, *expected);
     }

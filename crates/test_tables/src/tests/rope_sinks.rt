@@ -4,11 +4,11 @@ use rope::{Rope, decode_rope};
 use std::alloc::Global;
 use std::borrow::CowStr;
 use std::test::Fail;
-use tendril_block::{Atomic, AtomicUpTo, Atomicity, NonAtomic, Refusal};
-use tendril_stream::{TendrilSink, Utf8LossyDecoder};
-use tendril_text::Tendril;
-use tendril_text::fmt::{Bytes, UTF8};
-use test_tools::Notes;
+use tendril::Tendril;
+use tendril::block::{Atomic, AtomicUpTo, Atomicity, NonAtomic, Refusal};
+use tendril::fmt::{Bytes, UTF8};
+use tendril::stream::{TendrilSink, Utf8LossyDecoder};
+use test_texts::Notes;
 
 /// A text of a string.
 pub(super) fn text<A: Atomicity>(

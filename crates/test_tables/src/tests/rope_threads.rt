@@ -6,11 +6,11 @@ use std::alloc::Global;
 use std::sync::atomic::{AtomicUsize, Ordering};
 use std::test::Fail;
 use std::thread::{self, Threads};
-use tendril_block::{Atomic, Refusal};
+use tendril::Tendril;
+use tendril::block::{Atomic, Refusal};
+use tendril::fmt::UTF8;
 use tendril_run::{Classifier, Slot, Table};
-use tendril_text::Tendril;
-use tendril_text::fmt::UTF8;
-use test_tools::Notes;
+use test_texts::Notes;
 
 const DIGITS: &str = "0123456789abcdef";
 

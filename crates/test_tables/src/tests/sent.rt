@@ -4,14 +4,14 @@ use std::alloc::Global;
 use std::test::Fail;
 use std::thread;
 use std::thread::Promise;
-use tendril_block::Refusal;
-use tendril_callers::worker::louder_in_a_worker;
-use tendril_text::fmt::Bytes;
-use tendril_text::{
+use tendril::block::Refusal;
+use tendril::fmt::Bytes;
+use tendril::{
     Atomic, Atomicity, ByteTendril, NonAtomic, SendTendril, StrTendril, Tendril, slice_to_tendril,
     str_to_tendril,
 };
-use test_tools::Notes;
+use tendril_bench::worker::louder_in_a_worker;
+use test_texts::Notes;
 
 const LETTERS: &str = "abcdefghijklmnopqrstuvwxyzabcdefghijklmnopqrstuvwxyz";
 

@@ -1,13 +1,13 @@
-//! Calls that sessions don't make: slots that are pushed, and the parts of lines.
+//! Calls that sessions don't make: slots that are pushed, and a list of bytes.
 
 use std::alloc::Global;
 use std::test::Fail;
-use tendril_block::{Atomic, Atomicity, NonAtomic};
-use tendril_lines::{ByteList, one_number, two_slots};
+use tendril::Tendril;
+use tendril::block::{Atomic, Atomicity, NonAtomic};
+use tendril::fmt::Bytes;
+use tendril_lines::ByteList;
 use tendril_run::{Slot, Table};
-use tendril_text::Tendril;
-use tendril_text::fmt::Bytes;
-use test_tools::Notes;
+use test_texts::Notes;
 
 const DIGITS: &[u8] = b"0123456789";
 
@@ -51,15 +51,5 @@ fn a_list_gives_its_bytes_back(rt: HostRuntime) -> Result<(), Fail> {
     let list = ByteList::new(Vec::from_slice(rt.alloc(), b"01")?);
     let mut notes = Notes::new();
     notes.same(0, list.into_vec().as_slice(), b"01".as_slice());
-    notes.end()
-}
-
-#[test]
-fn words_after_a_verb(_rt: HostRuntime) -> Result<(), Fail> {
-    let mut notes = Notes::new();
-    notes.same(0, one_number(&[b"4294967295".as_slice()]), Some(4294967295));
-    notes.same(1, one_number(&[b"1".as_slice(), b"2"]), None);
-    notes.same(2, two_slots(&[b"1".as_slice(), b"2"]), Some((1, 2)));
-    notes.same(3, two_slots(&[b"1".as_slice(), b"02"]), None);
     notes.end()
 }

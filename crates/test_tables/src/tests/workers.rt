@@ -7,11 +7,11 @@ use std::sync::atomic::{AtomicU64, Ordering};
 use std::test::Fail;
 use std::thread;
 use std::thread::Threads;
+use tendril::fmt::Bytes;
+use tendril::{Atomic, Tendril};
 use tendril_lines::{Command, parse_line, print_reply};
 use tendril_run::{Classifier, Gate, Job, Outcome, Slot, Table, run_tables};
-use tendril_text::fmt::Bytes;
-use tendril_text::{Atomic, Tendril};
-use test_tools::Notes;
+use test_texts::Notes;
 
 const DIGITS: &[u8] = b"0123456789abcdef";
 

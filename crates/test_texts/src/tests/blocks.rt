@@ -1,9 +1,9 @@
 //! Blocks: how many holders there may be, and calls that no text makes.
 
+use crate::notes::Notes;
 use std::alloc::Global;
 use std::test::Fail;
-use tendril::block::{Atomic, AtomicUpTo, Atomicity, Behind, NonAtomic, Refusal};
-use test_tools::Notes;
+use tendril::block::{Atomic, AtomicUpTo, Atomicity, NonAtomic, Refusal, Tail};
 
 const DIGITS: &[u8] = b"0123456789";
 
@@ -96,20 +96,20 @@ fn check_compact<A: Atomicity>(notes: &mut Notes, alloc: Global) {
     };
     if A::bytes(&block).len() == 10 {
         let other = A::share(&block);
-        notes.same(1, A::compact(&mut block, 5, 5, Behind::Room(0)), false);
+        notes.same(1, A::compact(&mut block, 5, 5, Tail::Room(0)), false);
         drop(other);
         notes.same(2, A::bytes(&block), DIGITS);
     }
     if A::bytes(&block).len() == 10 {
         notes.same(
             3,
-            A::compact(&mut block, 6, 3, Behind::Parts(b"ab", b"c")),
+            A::compact(&mut block, 6, 3, Tail::Parts(b"ab", b"c")),
             true,
         );
         notes.same(4, A::bytes(&block), b"678abc".as_slice());
     }
     if A::bytes(&block).len() == 6 {
-        notes.same(5, A::compact(&mut block, 4, 2, Behind::Zeros(3)), true);
+        notes.same(5, A::compact(&mut block, 4, 2, Tail::Zeros(3)), true);
         notes.same(6, A::bytes(&block), b"bc\0\0\0".as_slice());
     }
 }
@@ -128,7 +128,7 @@ fn check_body<A: Atomicity>(notes: &mut Notes, alloc: Global) {
         return;
     };
     if let Some(body) = A::alone_mut(&mut block) {
-        notes.done(1, body.replace_end(4, b"ab", b"cde"));
+        notes.done(1, body.replace_end(4, Tail::Parts(b"ab", b"cde")));
         notes.done(2, body.append(b"f"));
         body.truncate(9);
         notes.done(3, body.append_zeros(2));

@@ -1,8 +1,8 @@
 //! What `classify` returns.
 
+use crate::notes::Notes;
 use std::test::Fail;
 use tendril::futf::{Codepoint, Meaning, classify};
-use test_tools::Notes;
 
 /// The bytes, a place among them, and the sequence round it: its bytes, where in it the place is, and what it means.
 type Row<'r> = (&'r [u8], usize, Option<(&'r [u8], usize, Meaning)>);

@@ -1,11 +1,11 @@
 //! The 16-bit units of WTF-8, and the WTF-8 of units.
 
+use crate::notes::Notes;
 use std::alloc::Global;
 use std::test::Fail;
 use tendril::fmt::{WTF8, Wtf8Units, encode_wtf8, wtf8_len};
 use tendril::{Atomic, Atomicity, NonAtomic, Tendril};
-use tendril_callers::units;
-use test_tools::Notes;
+use tendril_bench::units;
 
 /// Units, and their bytes by the WTF-8 specification.
 const ROWS: [(&[u16], &[u8]); 13] = [

@@ -1,11 +1,11 @@
 //! Characters: their encodings in each format, against Unicode's table, and where each is in a text.
 
+use crate::notes::Notes;
 use std::test::Fail;
 use tendril::fmt::{
     ASCII, CharFormat, Encoded, Latin1, SingleByteCharIndices, UTF8, Utf8CharIndices,
 };
 use tendril_bench::callers::leading_digits;
-use test_tools::Notes;
 
 // Whether these are the bytes of the scalar by Unicode's table 3-6, which spreads its bits over them.
 fn is_spread(character: char, bytes: &[u8]) -> bool {

@@ -2,11 +2,11 @@
 ghost use Rattle.std.specs.Prelude.{◌^◌, ◌-◌, ◌+◌};
 ghost use Rattle.std.specs.Iterator.{at_most};
 
+use crate::notes::Notes;
 use std::alloc::Global;
 use std::test::Fail;
 use tendril::fmt::WTF8;
 use tendril::{Atomic, Atomicity, ByteTendril, NonAtomic, StrTendril, Tendril};
-use test_tools::Notes;
 
 fn join_halves<A: Atomicity>(notes: &mut Notes, alloc: Global) {
     let mut halves: Vec<Tendril<WTF8, A>> = Vec::new(alloc);

@@ -1,8 +1,8 @@
 //! What a join changes at its seam.
 
+use crate::notes::Notes;
 use std::test::Fail;
 use tendril::fmt::{ASCII, Bytes, Fixup, Format, Latin1, UTF8, WTF8, laws};
-use test_tools::Notes;
 
 // The fixup of two texts, if they are valid.
 fn fixup_of<F: Format>(left: &[u8], right: &[u8]) -> Option<Fixup> {

@@ -1,8 +1,8 @@
 //! The tests of fronts, ends and slices.
 
+use crate::notes::Notes;
 use std::test::Fail;
 use tendril::fmt::{ASCII, Bytes, Format, Latin1, UTF8, WTF8, utf8_ends, wtf8_ends};
-use test_tools::Notes;
 
 /// `a`, a lone lead, U+1F4A9, `b`.
 const TEXT: [u8; 9] = [0x61, 0xED, 0xA0, 0xBD, 0xF0, 0x9F, 0x92, 0xA9, 0x62];

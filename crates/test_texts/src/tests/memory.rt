@@ -1,10 +1,10 @@
 //! How large a text is, and how much memory a process holds.
 
+use crate::notes::Notes;
 use std::fs::{self, Files};
 use std::test::Fail;
 use tendril::fmt::Bytes;
 use tendril::{Atomic, ByteTendril, NonAtomic, Tendril, slice_to_tendril};
-use test_tools::Notes;
 
 #[test]
 fn a_text_is_three_words(_rt: HostRuntime) -> Result<(), Fail> {

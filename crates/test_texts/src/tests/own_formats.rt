@@ -1,5 +1,6 @@
 //! Formats of a user's own.
 
+use crate::notes::Notes;
 use crate::tests::encodings::{first_of, is_encoded_as, split_digits};
 use std::test::Fail;
 use tendril::block::Refusal;
@@ -7,7 +8,6 @@ use tendril::fmt::{CharFormat, Fixup, Format};
 use tendril::{NonAtomic, Tendril};
 use tendril_bench::doubled::Doubled;
 use tendril_bench::pairs::Pairs;
-use test_tools::Notes;
 
 // An odd number of bytes is not valid.
 #[test]

@@ -1,12 +1,12 @@
 //! What a classifier is asked, and what is left where a run or a part is refused.
 
+use crate::notes::Notes;
 use crate::tests::texts::text_of;
 use std::alloc::Global;
 use std::test::Fail;
 use tendril::block::{AtomicUpTo, Refusal};
 use tendril::fmt::UTF8;
 use tendril::{Atomic, Atomicity, ByteSet, NonAtomic, StrTendril, Tendril};
-use test_tools::Notes;
 
 // Takes the first run of one digit, or of other characters than digits.
 fn digit_run<A: Atomicity>(

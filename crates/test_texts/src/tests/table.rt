@@ -1,6 +1,6 @@
 //! Which bytes are UTF-8 or WTF-8, by Unicode's table and the two rows of surrogates.
 
-use test_tools::{Front, front_of};
+use crate::tests::utf8_table::{Front, front_of};
 
 /// Whether the bytes are characters of the table, one after another.
 pub(crate) fn is_utf8(bytes: &[u8]) -> bool {

@@ -1,5 +1,6 @@
 //! Calls of texts that no session has: those with a condition, those of traits, and what callers write.
 
+use crate::notes::Notes;
 use std::alloc::{AllocError, Global};
 use std::collections::{BTreeMap, HashMap};
 use std::convert::{AsSlice, AsStr};
@@ -13,8 +14,7 @@ use tendril::{
     Atomic, Atomicity, ByteSet, ByteTendril, NonAtomic, SetResult, StrTendril, SubtendrilError,
     Tendril, View,
 };
-use tendril_callers::parts::parts;
-use test_tools::Notes;
+use tendril_bench::parts::parts;
 
 // A text of this string.
 pub(crate) fn text_of<A: Atomicity>(

@@ -1,9 +1,9 @@
 //! Which bytes are valid in which format.
 
+use crate::notes::Notes;
 use crate::tests::table::{is_utf8, is_wtf8};
 use std::test::Fail;
 use tendril::fmt::{ASCII, Bytes, Format, Latin1, SubsetOf, UTF8, WTF8};
-use test_tools::Notes;
 
 /// The bytes round the borders of the table's rows.
 const BORDERS: [u8; 20] = [

@@ -1,13 +1,13 @@
 //! What values print into texts.
 
+use crate::notes::Notes;
 use crate::tests::texts::text_of;
 use std::alloc::Global;
 use std::fmt::{self, Display, Formatter, Write};
 use std::test::Fail;
 use tendril::fmt::UTF8;
 use tendril::{Atomic, Atomicity, ByteTendril, NonAtomic, StrTendril, Tendril, format_tendril};
-use tendril_callers::writing::{print_line, set_byte, write_twice};
-use test_tools::Notes;
+use tendril_bench::writing::{print_line, set_byte, write_twice};
 
 fn print_values<A: Atomicity>(notes: &mut Notes, alloc: Global) {
     let mut text: Tendril<UTF8, A> = text_of(notes, alloc, "=");

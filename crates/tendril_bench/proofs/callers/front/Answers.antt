@@ -1,5 +1,5 @@
 use Rattle.std.proofs.Common.{refl}
-use Rattle.tendril_fmt.proofs.Parts.{IsFrontOf-take}
+use Rattle.tendril.specs.Proofs.Parts.{IsFrontOf-take}
 use Rattle.tendril_bench.proofs.callers.front.Goals as goal
 
 pub returns-then-validate_prefix-clause-cut : goal.returns-then-validate_prefix-clause-cut

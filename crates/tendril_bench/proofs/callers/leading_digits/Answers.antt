@@ -1,8 +1,8 @@
 use Rattle.std.proofs.Common.{◌≡◌, ℕ, ◌-◌, List, [], ◌∷◌, ◌++◌, length, take, drop, sym, ap, subst, ◌∙◌, length-drop}
 use Rattle.std.specs.List.{AllByRecursion}
 use Rattle.std.proofs.Math.Seq.{take-length}
-use Rattle.tendril_fmt.specs.Chars.{IsFirstChar}
-use Rattle.tendril_fmt.proofs.Splits.{IsSplitAfter-step}
+use Rattle.tendril.specs.Fmt.Chars.{IsFirstChar}
+use Rattle.tendril.specs.Proofs.Splits.{IsSplitAfter-step}
 use Rattle.tendril_bench.specs.Digits.{IsDigit}
 use Rattle.tendril_bench.proofs.callers.leading_digits.Goals as goal
 

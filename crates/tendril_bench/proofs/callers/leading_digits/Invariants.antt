@@ -1,6 +1,6 @@
 use Rattle.std.proofs.Common.{ℕ, ◌-◌, List, length}
 use Rattle.std.specs.List.{AllByRecursion}
-use Rattle.tendril_fmt.specs.Chars.{IsSplitAfter}
+use Rattle.tendril.specs.Fmt.Chars.{IsSplitAfter}
 use Rattle.tendril_bench.specs.Digits.{IsDigit}
 use Rattle.tendril_bench.proofs.callers.leading_digits.Given as goal
 

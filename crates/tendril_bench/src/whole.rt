@@ -1,0 +1,19 @@
+//! A reader's bytes in a text.
+ghost use Rattle.std.specs.Prelude.{◌≡◌, ℕ, List, Some, IfOk};
+
+use std::alloc::Global;
+use tendril::ByteTendril;
+use tendril::block::Refusal;
+use tendril::stream::{CountedRead, ReadExt};
+
+/// How many reads are made at most.
+const MOST: u64 = 1000;
+
+/// All that the reader has, up to its end.
+pub fn read_all<R: CountedRead>(alloc: Global, reader: &mut R) -> Result<ByteTendril, Refusal>
+    ensures { IfOk result (λ text. (bytes : List ℕ) → R.remaining reader.old ≡ Some bytes → text.bytes ≡ bytes) }
+{
+    let mut text = ByteTendril::new(alloc);
+    reader.read_to_tendril(&mut text, MOST)?;
+    Ok(text)
+}

@@ -1,3 +1,0 @@
-pub mod Pushed
-pub mod Resumed
-pub mod UnitLengths

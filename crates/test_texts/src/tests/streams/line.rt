@@ -1,0 +1,70 @@
+//! A user's sink: what it is sent in one line of bytes. It allocates nothing.
+
+use std::borrow::CowStr;
+use tendril::StrTendril;
+use tendril::block::Refusal;
+use tendril::stream::TendrilSink;
+
+/// The longest line that is stored.
+const ROOM: usize = 192;
+
+/// The texts, and each error's words between two bytes that are in no text. Of more bytes than there is room for only the
+/// number is stored.
+#[derive(Clone, Copy, Drop)]
+pub(crate) struct Line {
+    bytes: [u8; ROOM],
+    pub(crate) len: usize,
+    pub(crate) errors: usize,
+    pub(crate) had_empty: bool,
+}
+
+impl Line {
+    pub(crate) fn new() -> Self {
+        Line {
+            bytes: [0; ROOM],
+            len: 0,
+            errors: 0,
+            had_empty: false,
+        }
+    }
+
+    /// The line, if there was room for all of it.
+    pub(crate) fn as_slice(&self) -> &[u8] {
+        self.bytes.get(..self.len).unwrap_or(b"too long")
+    }
+
+    pub(crate) fn push(&mut self, bytes: &[u8]) {
+        for byte in bytes.iter() {
+            if let Some(place) = self.bytes.get_mut(self.len) {
+                *place = *byte;
+            }
+            self.len = self.len.saturating_add(1);
+        }
+    }
+
+    pub(crate) fn push_error(&mut self, words: &str) {
+        self.push(b"\xFF");
+        self.push(words.as_bytes());
+        self.push(b"\xFF");
+        self.errors = self.errors.saturating_add(1);
+    }
+}
+
+impl TendrilSink<StrTendril> for Line {
+    type Output = Self;
+
+    fn process(&mut self, text: StrTendril) -> Result<(), Refusal> {
+        self.had_empty = self.had_empty || text.len32() == 0;
+        self.push(text.as_byte_slice());
+        Ok(())
+    }
+
+    fn error(&mut self, words: CowStr<'static>) -> Result<(), Refusal> {
+        self.push_error(words.as_str());
+        Ok(())
+    }
+
+    fn finish(self) -> Result<Self, Refusal> {
+        Ok(self)
+    }
+}

@@ -1,0 +1,4 @@
+pub mod Fronts
+pub mod Halted
+pub mod Joins
+pub mod Whole

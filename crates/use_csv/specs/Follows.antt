@@ -1,0 +1,33 @@
+-- What a reader of CSV spells is the UTF-8 of what it was told, but for quotes and line ends.
+use Rattle.std.proofs.Common.{◌≡◌, ℕ, List, ◌++◌, refl, sym, ap, ◌∙◌, append_assoc}
+use Rattle.std.proofs.lemmas.List.Elements.{filter-append}
+use Rattle.std.proofs.lemmas.Str.{encodes-append, encodes-chars}
+use Rattle.std.specs.Prelude.{chars, encode_utf8_all, not}
+use Rattle.tendril.specs.Lossy.{Told, characters}
+use Rattle.tendril.specs.Proofs.Told.{characters-append, characters-map}
+use Rattle.tendril.specs.Sinks.{Sent, Piece, Fault, IsSent, told_of}
+use Rattle.use_csv.specs.Spelled.{is_mark, piece_bytes, unmarked}
+
+pub unmarked-append : (xs ys : List ℕ) → unmarked (xs ++ ys) ≡ unmarked xs ++ unmarked ys
+unmarked-append xs ys = filter-append (λ b. not (is_mark b)) xs ys
+
+-- a call tells the characters of its bytes
+pub told_bytes : (e : Sent) → IsSent e → encode_utf8_all (characters (told_of e)) ≡ piece_bytes e
+told_bytes (Piece t) is = ap encode_utf8_all (characters-map (chars t.bytes)) ∙ encodes-chars t.bytes is.1
+told_bytes (Fault words) is = refl
+
+-- what is spelled from a start on, after one more call
+pub unmarked_on : (start : List ℕ) (told : List Told) (e : Sent) (was is : List ℕ)
+    → IsSent e → unmarked was ≡ start ++ unmarked (encode_utf8_all (characters told))
+    → unmarked is ≡ unmarked (was ++ piece_bytes e)
+    → unmarked is ≡ start ++ unmarked (encode_utf8_all (characters (told ++ told_of e)))
+unmarked_on start told e was is is_sent before call =
+    let spelled = encode_utf8_all (characters told) in
+    call ∙ unmarked-append was (piece_bytes e) ∙ ap (λ l. l ++ unmarked (piece_bytes e)) before
+    ∙ append_assoc start (unmarked spelled) (unmarked (piece_bytes e))
+    ∙ ap (λ l. start ++ l)
+    (ap (λ l. unmarked spelled ++ unmarked l) (sym (told_bytes e is_sent))
+    ∙ sym (unmarked-append spelled (encode_utf8_all (characters (told_of e))))
+    ∙ ap unmarked
+    (sym (encodes-append (characters told) (characters (told_of e)))
+    ∙ ap encode_utf8_all (sym (characters-append told (told_of e)))))

@@ -1,0 +1,3 @@
+-- The words of the program's contracts.
+pub mod Follows
+pub mod Spelled

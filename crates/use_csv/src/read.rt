@@ -1,0 +1,38 @@
+//! Records of all that a reader has.
+ghost use Rattle.std.specs.Prelude.{◌≡◌, ◌≤◌, ◌++◌, List, length, encode_utf8_all, IfErr, IfOk, IfSome};
+ghost use Rattle.std.specs.Io.KnownBytes.{IsAtEnd};
+ghost use Rattle.tendril.specs.Fmt.Parts.{IsFrontOf};
+ghost use Rattle.tendril.specs.Lossy.{characters, due};
+ghost use Rattle.tendril.specs.Readings.{MakesReads};
+ghost use Rattle.tendril.specs.Reads.{OneRead, CameToEnd, StopsWith, given};
+ghost use Rattle.use_csv.specs.Spelled.{record_bytes, unmarked};
+
+use crate::reader::CsvReader;
+use crate::record::RecordSink;
+use std::alloc::Global;
+use tendril::stream::{CountedRead, Stopped, Utf8LossyDecoder, read_decoded};
+
+/// Reads to the end, decodes what it reads, and gives the sink its records. At most `most` reads are made.
+///
+/// But for quotes and line ends, the fields of the records, joined with commas, are the whole text: the UTF-8 of the
+/// characters that the bytes are decoded to. Where reading stops before the end, or the sink refuses a record, they are a
+/// front of that, and the sink is in the decoder that comes back (`inner_sink`, and its `sink`); a record that is refused at
+/// the input's end takes both with it.
+pub fn read_records<K: RecordSink, R: CountedRead>(
+    alloc: Global,
+    sink: K,
+    reader: &mut R,
+    most: u64,
+) -> Result<K, Stopped<Utf8LossyDecoder<CsvReader<K>>>>
+    ensures ok { IfOk result (λ out. (these : List OneRead) × MakesReads R.history R.remaining reader.old these reader.new
+        × IsAtEnd (R.remaining reader.new)
+        × (unmarked (record_bytes (K.records out))
+        ≡ unmarked (record_bytes (K.records sink)) ++ unmarked (encode_utf8_all (characters (due (given these)))))
+        × StopsWith CameToEnd these × (length these ≤ most)) }
+    ensures stopped { IfErr result (λ s. (these : List OneRead) × MakesReads R.history R.remaining reader.old these reader.new
+        × IfSome s.sink (λ d. IsFrontOf (unmarked (record_bytes (K.records d.inner_sink.sink)))
+        (unmarked (record_bytes (K.records sink)) ++ unmarked (encode_utf8_all (characters (due (given these))))))) }
+{
+    let decoder = Utf8LossyDecoder::new(alloc, CsvReader::new(alloc, sink));
+    read_decoded(alloc, decoder, reader, most)
+}

@@ -1,2 +1,0 @@
--- The words of the program's contracts.
-pub mod Lines

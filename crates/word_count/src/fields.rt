@@ -1,0 +1,105 @@
+//! Header fields, `Name: value` a line: texts that are used as a `str`.
+ghost use Rattle.std.specs.Prelude.{◌≡◌, ◌++◌, codes, IfOk, IfSome};
+
+use std::alloc::AllocError;
+use tendril::block::Refusal;
+use tendril::{ByteSet, StrTendril};
+
+/// A name and its value. Long ones share the bytes of their line.
+#[derive(Clone, Debug, PartialEq, Eq, Drop)]
+pub struct Field {
+    pub name: StrTendril,
+    pub value: StrTendril,
+}
+
+/// A line.
+#[derive(Clone, Debug, PartialEq, Eq, Drop)]
+pub enum Line {
+    Blank,
+    Comment(StrTendril),
+    Field(Field),
+    /// There is no colon.
+    Malformed,
+}
+
+impl Field {
+    /// Whether the value has a comma.
+    pub fn is_list(&self) -> bool {
+        self.value.find(',').is_some()
+    }
+
+    /// The first word of the value.
+    pub fn first_word(&self) -> Option<&str> {
+        self.value.split_whitespace().next()
+    }
+}
+
+const HEADER: &str = "Host: example.org\n# who asks\n\nAccept: text/html, text/plain\nnothing\n";
+
+/// Prints what is in each line of a header.
+pub fn print_fields(rt: &HostRuntime) -> anyhow::Result<()> {
+    for line in HEADER.lines() {
+        match read_line(StrTendril::from_slice(rt.alloc(), line)?)? {
+            Line::Blank => {}
+            Line::Comment(comment) => println!(rt; "comment: {}", comment.trim_start_matches('#'))?,
+            Line::Field(field) if field.is_list() => println!(rt; "{} is a list", field.name)?,
+            Line::Field(field) => println!(rt; "{} is {}", field.name, field.value.trim())?,
+            Line::Malformed => println!(rt; "no field: {line}")?,
+        }
+    }
+    Ok(())
+}
+
+/// The same lines twice, whose texts share their bytes.
+pub fn twice(lines: &Vec<Line>) -> Result<(Vec<Line>, Vec<Line>), AllocError> {
+    Ok((lines.clone()?, lines.clone()?))
+}
+
+/// Reads a line.
+pub fn read_line(line: StrTendril) -> Result<Line, Refusal> {
+    if is_blank(&line) {
+        return Ok(Line::Blank);
+    }
+    if line.as_str().starts_with('#') {
+        return Ok(Line::Comment(line));
+    }
+    match split_field(line)? {
+        Some(field) => Ok(Line::Field(field)),
+        None => Ok(Line::Malformed),
+    }
+}
+
+/// What is before the first colon of a line and what is after it, or `None` where it has none or begins with it.
+pub fn split_field(line: StrTendril) -> Result<Option<Field>, Refusal>
+    ensures { IfOk result (λ found. IfSome found (λ field.
+        line.bytes ≡ field.name.bytes ++ codes ":" ++ field.value.bytes)) }
+{
+    let mut value = line;
+    let Some(name) = value.pop_front_until(&ByteSet::new(b":"))? else {
+        return Ok(None);
+    };
+    if value.skip_prefix(":") {
+        Ok(Some(Field { name, value }))
+    } else {
+        Ok(None)
+    }
+}
+
+/// Where the first colon of a line is, in bytes. A place in a text fits `u32`, which `as_str` says.
+pub fn colon(line: &StrTendril) -> Option<u32> {
+    let place = line.as_str().find(':')?;
+    Some(place as u32)
+}
+
+/// What follows the first seven bytes, if a character ends there.
+pub fn after_seven(text: &StrTendril) -> &str {
+    if text.is_char_boundary(7) {
+        &text[7..]
+    } else {
+        ""
+    }
+}
+
+fn is_blank(text: &str) -> bool {
+    text.trim().is_empty()
+}
