@@ -1,14 +1,13 @@
 //! The program `rope`: it runs commands on texts and ropes, a line each.
 #![tactic(auto)]
 
-mod arguments;
 mod lines;
 mod program;
 #[cfg(test)]
 mod tests;
 mod white_space;
 
-use arguments::program_with_arguments;
+use program::program_with_arguments;
 use std::process::ExitCode;
 
 fn main(rt: HostRuntime) -> ExitCode {

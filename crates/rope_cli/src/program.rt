@@ -9,21 +9,67 @@ ghost use Rattle.rope_cli.specs.RopeSessions.{RopesRan};
 use crate::lines::RopeLines;
 use std::alloc::Global;
 use std::io::{Read, Write};
-use tendril_script::{asks_to_run, refuse, run_input, write_bytes};
+use std::rt::Env;
+use tendril_script::{Program, run_program, run_words};
+use tendril_text::block::Refusal;
 
-/// The program's name, with which its lines on standard error begin.
-pub const NAME: &str = "rope";
+impl Program for RopeLines {
+    ghost use Rattle.rope_cli.specs.RopeEndings.{rope_program_name, rope_usage};
 
-const DONE: u8 = 0;
+    ghost name = { rope_program_name };
 
-const MISUSED: u8 = 2;
+    ghost usage = { rope_usage };
 
-/// Runs what the words ask for, and answers the program's status.
+    ghost asks = { λ _. ⊥ };
+
+    ghost serves = { λ _ _ _. ⊥ };
+
+    ghost stops = { λ _ _ _ _. ⊥ };
+
+    fn name() -> &'static str {
+        "rope"
+    }
+
+    fn usage() -> &'static str {
+        "usage: rope run\n"
+    }
+
+    fn serve<R: Read, W: Write>(
+        _alloc: Global,
+        _words: &[&str],
+        _input: &mut R,
+        _out: &mut W,
+    ) -> Option<Result<(), Refusal>> {
+        None
+    }
+}
+
+/// Runs the program with the arguments after its name, and returns its status. An argument that isn't UTF-8 is the empty
+/// word, which asks for nothing.
+pub fn program_with_arguments<S: Env + AllocGlobal, R: Read, W: Write, E: Write>(
+    system: &S,
+    input: &mut R,
+    out: &mut W,
+    err: &mut E,
+) -> u8
+    ensures status { result ≤ 2 }
+    ensures ran { result ≡ 0 → RopesRan (R.remaining input.old) (W.contents out.old) (W.contents out.new) }
+    ensures silent { result ≡ 0 → Keeps (E.contents err.old) (E.contents err.new) }
+    ensures refused { result ≡ 1 → RopesEnded (R.remaining input.old)
+        (W.contents out.old) (W.contents out.new) (E.contents err.old) (E.contents err.new) }
+    ensures misused { result ≡ 2 → Keeps (W.contents out.old) (W.contents out.new) }
+    ensures told { result ≡ 2 → AppendsFront (E.contents err.old) (E.contents err.new) rope_usage }
+    ensures reads_first { Keeps (W.contents out.old) (W.contents out.new) ⊎ IsAtEnd (R.remaining input.new) }
+{
+    let mut lines = RopeLines::new(system.alloc());
+    run_program(system, &mut lines, input, out, err)
+}
+
+/// Runs what the words ask for, and returns the program's status.
 ///
-/// No word, or `run`: the lines of the input are run on one table, and the replies printed (status 0). A refused read,
-/// write or want of memory prints `rope: refused N Name` to `err`, and what was printed before stands (status 1): in
-/// whole lines, unless a write failed. All other words print the usage to `err` (status 2).
-#[tactic(auto, using(tendril_script::proofs::EndingLemmas::run_ended, tendril_script::proofs::SessionLemmas::ran_from))]
+/// No word, or `run`: the lines of the input are run on one table, and the replies printed (status 0). A failed read or
+/// write, or no memory, prints `rope: refused N Name` to `err`, and what was printed before stays (status 1): in whole
+/// lines, unless a write failed. All other words print the usage to `err` (status 2).
 pub fn program<R: Read, W: Write, E: Write>(
     alloc: Global,
     words: &[&str],
@@ -38,7 +84,7 @@ pub fn program<R: Read, W: Write, E: Write>(
     ensures ran { result ≡ 0 → RopesRan (R.remaining input.old) (W.contents out.old) (W.contents out.new) }
     ensures silent { result ≡ 0 → Keeps (E.contents err.old) (E.contents err.new) }
 
-    // Or a refusal is told, and some first lines of the script are answered, in whole lines unless a write failed.
+    // Or an error is printed, and some first lines of the script are answered, in whole lines unless a write failed.
     ensures refused { result ≡ 1 → RopesEnded (R.remaining input.old)
         (W.contents out.old) (W.contents out.new) (E.contents err.old) (E.contents err.new) }
 
@@ -49,12 +95,5 @@ pub fn program<R: Read, W: Write, E: Write>(
     // No line is answered before the input's end.
     ensures reads_first { Keeps (W.contents out.old) (W.contents out.new) ⊎ IsAtEnd (R.remaining input.new) }
 {
-    if asks_to_run(words) {
-        return match run_input(alloc, &mut RopeLines::new(alloc), input, out) {
-            Ok(()) => DONE,
-            Err(refusal) => refuse(NAME, refusal, err),
-        };
-    }
-    let _ = write_bytes(err, b"usage: rope run\n");
-    MISUSED
+    run_words(alloc, &mut RopeLines::new(alloc), words, input, out, err)
 }

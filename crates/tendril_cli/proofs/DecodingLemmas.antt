@@ -1,9 +1,9 @@
 -- What a decoder over a sink that joins texts leaves to be written.
-use Rattle.std.proofs.Common.{◌≡◌, ℕ, ◌<◌, ◌≤◌, ◌⊎◌, Bool, true, false, List, [], ◌∷◌, ◌++◌, length, map, flat_map, Option, refl, sym, ap, ap₂, subst, ◌∙◌, arith, append_assoc, append-nil, length-append, inl, inr, IsUtf8, chars, Result, Ok, Err, OnOk, OnErr, IfErr, ⊎_elim, true≢false}
+use Rattle.std.proofs.Common.{◌≡◌, ℕ, ◌<◌, ◌≤◌, ◌⊎◌, Bool, true, false, List, [], ◌∷◌, ◌++◌, length, map, flat_map, Option, None, Some, refl, sym, ap, ap₂, subst, ◌∙◌, arith, append_assoc, append-nil, length-append, inl, inr, IsUtf8, chars, Result, Ok, Err, OnOk, OnErr, IfErr, ⊎_elim, true≢false}
 use Rattle.std.proofs.KnownBytes.{Appends-nil, Appends-trans}
 use Rattle.std.proofs.lemmas.List.Elements.{All-push}
 use Rattle.std.proofs.lemmas.Str.{IsUtf8-append, IsUtf8-nil, chars-append, chars-nil}
-use Rattle.std.specs.Io.KnownBytes.{Appends, IsAtEnd}
+use Rattle.std.specs.Io.KnownBytes.{Appends, Consumes, IsAtEnd}
 use Rattle.std.specs.List.{FoldsTo}
 use Rattle.std.specs.Prelude.{All}
 use Rattle.tendril_text.proofs.Decoding.{long-some}
@@ -19,7 +19,7 @@ use Rattle.tendril_stream.specs.Decoders.{Decodes, DecodingStops as Stopping, En
 use Rattle.tendril_stream.specs.Readings.{Hears, MakesReads, ReadStops}
 use Rattle.tendril_stream.specs.Reads.{OneRead, Gave, WasInterrupted, HasFailed, CameToEnd, MayReadOn, given, given_by}
 use Rattle.tendril_stream.specs.Sinks.{Sent, Piece, Feeds, IsStop, told, told_of}
-use Rattle.tendril_cli.specs.Decodings.{Decoded, DecodeStops, IsReady, WritesText, WritesAll, WritesFrontOfText}
+use Rattle.tendril_cli.specs.Decodings.{Decoded, DecodesAll, DecodeStops, IsReady, WritesText, WritesAll, WritesFrontOfText}
 use Rattle.tendril_script.specs.Writing.{AppendsFront}
 
 -- a sink that adds the characters of what it is sent to those that it has
@@ -232,3 +232,10 @@ ready_first known held unwritten failed h f u = record {
   goes_on = f;
   empty = u;
 }
+
+-- a reader that tells its bytes has given all of them when it has come to its end
+pub all_decoded : (input left before after : Option (List ℕ)) (read : List ℕ) → Consumes input left read → IsAtEnd left → WritesText (characters (due read)) before after → DecodesAll input before after
+all_decoded None left before after read gave end w = tt
+all_decoded (Some bytes) None before after read gave end w = absurd gave
+all_decoded (Some bytes) (Some more) before after read gave end w =
+    subst (λ l. WritesText (characters (due l)) before after) (sym (gave ∙ ap (λ l. read ++ l) end ∙ append-nil read)) w

@@ -14,6 +14,7 @@ use Rattle.std.specs.Prelude.{
   All,
   IsUtf8,
   Option,
+  IfSome,
   Bool,
   false,
 }
@@ -24,7 +25,8 @@ use Rattle.tendril_lossy.specs.Lossy.{characters, due, due_open, kept}
 use Rattle.tendril_stream.specs.Reads.{OneRead, Gave, HasFailed, CameToEnd, MayReadOn, StopsWith, given}
 use Rattle.tendril_stream.specs.Sinks.{Sent, Piece, Fault}
 use Rattle.tendril_text.specs.Decoding.{LongPieceMay}
-use Rattle.tendril_script.specs.Writing.{AppendsFront, complaint}
+use Rattle.tendril_script.specs.Endings.{EndedBy}
+use Rattle.tendril_script.specs.Writing.{AppendsFront}
 use Rattle.tendril_cli.specs.Endings.{program_name}
 
 -- how many reads a program makes at most
@@ -50,6 +52,10 @@ pub record WritesFrontOfText (characters : List ℕ) (before after : Option (Lis
   pub utf8 : IsUtf8 bytes
   pub spells : chars bytes ++ rest ≡ characters
   pub front : AppendsFront before after bytes
+
+-- a writer that tells its bytes has taken what is due of all that a reader which tells its bytes has left
+abbrev pub DecodesAll : Option (List ℕ) → Option (List ℕ) → Option (List ℕ) → Type 0
+DecodesAll input before after = IfSome input (λ bytes. WritesText (characters (due bytes)) before after)
 
 -- all is read, and what is due of it is written; so many reads at most
 pub record Decoded (max_reads : ℕ) (these : List OneRead) (before after : Option (List ℕ)) : Type 0 where
@@ -99,12 +105,15 @@ pub record IsReady (these : List OneRead) (before now : Option (List ℕ)) (held
   pub goes_on : failed ≡ false
   pub empty : unwritten ≡ []
 
--- A refusal ended the program: standard error has taken its line or a front of that, and what was written before
--- stands. Some reads gave what the reader gave; how many those were, the reader of a program can't tell.
-pub record DecodingEnded (max_reads : ℕ) (input before after told told' : Option (List ℕ)) : Type 0 where
-  pub refusal : Refusal
+-- What an error leaves. Some reads gave what the reader gave; how many those were, the reader of a program can't tell.
+pub record DecodingHalts (max_reads : ℕ) (input before after : Option (List ℕ)) (refusal : Refusal) : Type 0 where
   pub these : List OneRead
   pub left : Option (List ℕ)
   pub gave : Consumes input left (given these)
   pub stops : DecodeStops max_reads these left before after refusal
-  pub tells : AppendsFront told told' (complaint program_name refusal)
+
+-- it ended the program
+abbrev pub DecodingEnded : ℕ → Option (List ℕ) → Option (List ℕ) → Option (List ℕ) → Option (List ℕ) → Option (List ℕ)
+    → Type 0
+DecodingEnded max_reads input before after told told' =
+    EndedBy (DecodingHalts max_reads input before after) program_name told told'

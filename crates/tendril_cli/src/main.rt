@@ -1,7 +1,6 @@
 //! The program `tendril`: it runs commands on texts, a line each, or decodes its input.
 #![tactic(auto)]
 
-mod arguments;
 mod decode;
 mod joined;
 mod lines;
@@ -10,7 +9,7 @@ mod program;
 mod tests;
 mod white_space;
 
-use arguments::program_with_arguments;
+use program::program_with_arguments;
 use std::process::ExitCode;
 
 fn main(rt: HostRuntime) -> ExitCode {

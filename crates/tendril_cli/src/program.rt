@@ -1,10 +1,9 @@
 //! The program over any reader and writers.
-ghost use Rattle.std.specs.Prelude.{◌≡◌, ◌≤◌, ◌↔◌, ◌⊎◌, map, IsTrue, IfSome};
+ghost use Rattle.std.specs.Prelude.{◌≡◌, ◌≤◌, ◌↔◌, ◌⊎◌, map, IsTrue};
 ghost use Rattle.std.specs.Io.KnownBytes.{IsAtEnd, Keeps};
-ghost use Rattle.tendril_lossy.specs.Lossy.{characters, due};
 ghost use Rattle.tendril_script.specs.Words.{AskToRun};
 ghost use Rattle.tendril_script.specs.Writing.{AppendsFront};
-ghost use Rattle.tendril_cli.specs.Decodings.{DecodingEnded, WritesText, most_reads};
+ghost use Rattle.tendril_cli.specs.Decodings.{DecodesAll, DecodingEnded, most_reads};
 ghost use Rattle.tendril_cli.specs.Endings.{Ended, usage};
 ghost use Rattle.tendril_cli.specs.Sessions.{Ran};
 ghost use Rattle.tendril_cli.specs.Words.{AskToDecode};
@@ -13,23 +12,87 @@ use crate::decode::decode;
 use crate::lines::TextLines;
 use std::alloc::Global;
 use std::io::{Read, Write};
-use tendril_script::{asks_to_run, refuse, run_input, write_bytes};
+use std::rt::Env;
+use tendril_script::{Program, run_program, run_words};
 use tendril_stream::Counted;
+use tendril_text::block::Refusal;
 
-/// The program's name, with which its lines on standard error begin.
-pub const NAME: &str = "tendril";
+impl Program for TextLines {
+    ghost use Rattle.tendril_cli.specs.Decodings.{DecodesAll, DecodingHalts, most_reads};
+    ghost use Rattle.tendril_cli.specs.Endings.{program_name, usage};
+    ghost use Rattle.tendril_cli.specs.Words.{AskToDecode};
 
-const DONE: u8 = 0;
+    ghost name = { program_name };
 
-const MISUSED: u8 = 2;
+    ghost usage = { usage };
 
-/// Runs what the words ask for, and answers the program's status.
+    ghost asks = { AskToDecode };
+
+    ghost serves = { DecodesAll };
+
+    ghost stops = { DecodingHalts most_reads };
+
+    fn name() -> &'static str {
+        "tendril"
+    }
+
+    fn usage() -> &'static str {
+        "usage: tendril run | tendril decode\n"
+    }
+
+    fn serve<R: Read, W: Write>(
+        alloc: Global,
+        words: &[&str],
+        input: &mut R,
+        out: &mut W,
+    ) -> Option<Result<(), Refusal>> {
+        if !asks_to_decode(words) {
+            return None;
+        }
+        Some(decode(alloc, &mut Counted::new(input), out))
+    }
+}
+
+// Whether the words ask for a decoding: `decode`.
+fn asks_to_decode(words: &[&str]) -> bool
+    ensures { IsTrue result ↔ AskToDecode (map (λ word. word.now) words.now) }
+{
+    match words {
+        [word] => *word == "decode",
+        _ => false,
+    }
+}
+
+/// Runs the program with the arguments after its name, and returns its status. An argument that isn't UTF-8 is the empty
+/// word, which asks for nothing.
+pub fn program_with_arguments<S: Env + AllocGlobal, R: Read, W: Write, E: Write>(
+    system: &S,
+    input: &mut R,
+    out: &mut W,
+    err: &mut E,
+) -> u8
+    ensures status { result ≤ 2 }
+    ensures ran { result ≡ 0 → Ran (R.remaining input.old) (W.contents out.old) (W.contents out.new)
+        ⊎ DecodesAll (R.remaining input.old) (W.contents out.old) (W.contents out.new) }
+    ensures silent { result ≡ 0 → Keeps (E.contents err.old) (E.contents err.new) }
+    ensures refused { result ≡ 1 → Ended (R.remaining input.old)
+        (W.contents out.old) (W.contents out.new) (E.contents err.old) (E.contents err.new)
+        ⊎ DecodingEnded most_reads (R.remaining input.old)
+        (W.contents out.old) (W.contents out.new) (E.contents err.old) (E.contents err.new) }
+    ensures misused { result ≡ 2 → Keeps (W.contents out.old) (W.contents out.new) }
+    ensures told { result ≡ 2 → AppendsFront (E.contents err.old) (E.contents err.new) usage }
+{
+    let mut lines = TextLines::new(system.alloc());
+    run_program(system, &mut lines, input, out, err)
+}
+
+/// Runs what the words ask for, and returns the program's status.
 ///
-/// No word, or `run`: the lines of the input are run on one table, and the replies printed (status 0). A refused read,
-/// write or want of memory prints `tendril: refused N Name` to `err`, and what was printed before stands (status 1): in
-/// whole lines, unless a write failed. `decode`: the input is decoded, and the texts written (status 0), or a refusal
-/// printed (status 1). All other words print the usage to `err` (status 2).
-#[tactic(auto, using(tendril_script::proofs::EndingLemmas::run_ended, tendril_script::proofs::SessionLemmas::ran_from))]
+/// No word, or `run`: the lines of the input are run on one table, and the replies printed (status 0). A failed read or
+/// write, or no memory, prints `tendril: refused N Name` to `err`, and what was printed before stays (status 1): in whole
+/// lines, unless a write failed. `decode`: the input is decoded, and the texts written (status 0), or an error printed
+/// (status 1). All other words print the usage to `err` (status 2).
+#[tactic(auto, using(crate::proofs::WordLemmas::runs_only))]
 pub fn program<R: Read, W: Write, E: Write>(
     alloc: Global,
     words: &[&str],
@@ -45,10 +108,10 @@ pub fn program<R: Read, W: Write, E: Write>(
     ensures ran { AskToRun (map (λ word. word.now) words.now) → result ≡ 0
         → Ran (R.remaining input.old) (W.contents out.old) (W.contents out.new) }
     ensures decoded { AskToDecode (map (λ word. word.now) words.now) → result ≡ 0
-        → IfSome (R.remaining input.old) (λ bytes. WritesText (characters (due bytes)) (W.contents out.old) (W.contents out.new)) }
+        → DecodesAll (R.remaining input.old) (W.contents out.old) (W.contents out.new) }
     ensures silent { result ≡ 0 → Keeps (E.contents err.old) (E.contents err.new) }
 
-    // Or a refusal is told, and some first lines of the script are answered, in whole lines unless a write failed, or the
+    // Or an error is printed, and some first lines of the script are answered, in whole lines unless a write failed, or the
     // first texts are written.
     ensures refused { AskToRun (map (λ word. word.now) words.now) → result ≡ 1 → Ended (R.remaining input.old)
         (W.contents out.old) (W.contents out.new) (E.contents err.old) (E.contents err.new) }
@@ -63,35 +126,5 @@ pub fn program<R: Read, W: Write, E: Write>(
     ensures reads_first { AskToRun (map (λ word. word.now) words.now)
         → Keeps (W.contents out.old) (W.contents out.new) ⊎ IsAtEnd (R.remaining input.new) }
 {
-    if asks_to_run(words) {
-        return match run_input(alloc, &mut TextLines::new(alloc), input, out) {
-            Ok(()) => DONE,
-            Err(refusal) => refuse(NAME, refusal, err),
-        };
-    }
-    if asks_to_decode(words) {
-        return match decode(alloc, &mut Counted::new(input), out) {
-            Ok(()) => DONE,
-            Err(refusal) => refuse(NAME, refusal, err),
-        };
-    }
-    misuse(err)
-}
-
-// Prints the usage, and answers the status of words that ask for nothing. What can't be printed is left out.
-fn misuse<E: Write>(err: &mut E) -> u8
-    ensures status { result ≡ 2 }
-    ensures told { AppendsFront (E.contents err.old) (E.contents err.new) usage }
-{
-    let _ = write_bytes(err, b"usage: tendril run | tendril decode\n");
-    MISUSED
-}
-
-pub(crate) fn asks_to_decode(words: &[&str]) -> bool
-    ensures { IsTrue result ↔ AskToDecode (map (λ word. word.now) words.now) }
-{
-    match words {
-        [word] => *word == "decode",
-        _ => false,
-    }
+    run_words(alloc, &mut TextLines::new(alloc), words, input, out, err)
 }

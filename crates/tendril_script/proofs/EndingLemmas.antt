@@ -6,7 +6,7 @@ use Rattle.std.proofs.Math.Seq.{take-length}
 use Rattle.std.specs.Io.KnownBytes.{Appends}
 use Rattle.tendril_block.specs.declared.refusal.Refusal.{Refusal}
 use Rattle.tendril_block.specs.declared.refusal.Refusal.TheVariants.{Io, Memory}
-use Rattle.tendril_script.specs.Endings.{EndsProgram, RunEnded, RunStops, WritesFrontOfLines}
+use Rattle.tendril_script.specs.Endings.{EndedBy, EndsProgram, RunEnded, RunStops, WritesFrontOfLines}
 use Rattle.tendril_script.specs.HeldBack.{PrintsLines, PrintsSome}
 use Rattle.tendril_script.specs.Sessions.{LineStops, WritesLines, lines as lines_of}
 use Rattle.tendril_script.specs.Writing.{AppendsFront, complaint}
@@ -111,20 +111,13 @@ module _ {S : Type 0} (answers : S → List ℕ → List ℕ → S → Type 0) w
   stops_of old new ran script before after (Some bytes) e h =
       IfErr-weaker ran (RunStops answers old (lines_of script) new before after) (RunStops answers old (lines_of bytes) new before after) (λ r p. subst (λ b. RunStops answers old (lines_of b) new before after r) e p) h
 
-  -- it stops in some state
-  stops_somewhere : (first old new : S) (remaining before after : Option (List ℕ)) (refusal : Refusal)
-      → old ≡ first → IfSome remaining (λ script. RunStops answers old (lines_of script) new before after refusal) → IfSome remaining (λ script. (state : S) × RunStops answers first (lines_of script) state before after refusal)
-  stops_somewhere first old new None before after refusal e h = tt
-  stops_somewhere first old new (Some script) before after refusal e h = (new, subst (λ s. RunStops answers s (lines_of script) new before after refusal) e h)
+  -- it leads to some state
+  nothing_ran_from : (state : S) (remaining before : Option (List ℕ)) (refusal : Refusal) → EndsProgram refusal → IfSome remaining (λ script. (new : S) × RunStops answers state (lines_of script) new before before refusal)
+  nothing_ran_from state None before refusal e = tt
+  nothing_ran_from state (Some script) before refusal e = (state, stops_at_once state (lines_of script) before refusal e)
 
-  -- a refused run ends the program of this name, once that is told
-  pub run_ended : (program : List ℕ) (first old new : S) (remaining before after told told' : Option (List ℕ)) (refusal : Refusal)
-      → old ≡ first → EndsProgram refusal → IfSome remaining (λ script. RunStops answers old (lines_of script) new before after refusal) → AppendsFront told told' (complaint program refusal) → RunEnded answers program first remaining before after told told'
-  run_ended program first old new remaining before after told told' refusal e ends stops tells =
-      record { refusal = refusal; ends = ends; stops = stops_somewhere first old new remaining before after refusal e stops; tells = tells }
-
-  -- so does one that is refused for memory before it has begun
+  -- a program that is refused memory before its first line
   pub refused_first : (program : List ℕ) (first : S) (remaining before told told' : Option (List ℕ)) (refusal : Refusal)
       → refusal ≡ Memory → AppendsFront told told' (complaint program refusal) → RunEnded answers program first remaining before before told told'
   refused_first program first remaining before told told' refusal e tells =
-      run_ended program first first first remaining before before told told' refusal refl (inl e) (nothing_ran first remaining before refusal (inl e)) tells
+      record { refusal = refusal; stops = record { ends = inl e; stops = nothing_ran_from first remaining before refusal (inl e) }; tells = tells }

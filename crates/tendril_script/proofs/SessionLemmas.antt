@@ -1,7 +1,7 @@
-use Rattle.std.proofs.Common.{◌≡◌, ℕ, List, [], ◌∷◌, ◌++◌, Option, None, Some, Result, Ok, Err, OnErr, inl, inr, refl, sym, ◌∙◌, ap, subst, append_assoc, arith, length, ◌<◌}
+use Rattle.std.proofs.Common.{◌≡◌, ℕ, List, [], ◌∷◌, ◌++◌, Option, Some, Result, Ok, Err, OnErr, inl, inr, refl, sym, ◌∙◌, ap, subst, append_assoc, arith, length, ◌<◌}
 use Rattle.std.proofs.lemmas.List.{append-nil}
 use Rattle.tendril_script.specs.Commands.{CommandAnswers}
-use Rattle.tendril_script.specs.Sessions.{LinePrints, LineStops, Session, WritesLine, WritesLines, lines, RanFrom, RanTo}
+use Rattle.tendril_script.specs.Sessions.{LinePrints, LineStops, Session, WritesLine, WritesLines}
 
 module _ {S : Type 0} (answers : S → List ℕ → List ℕ → S → Type 0) where
   -- a session goes on by one line
@@ -18,11 +18,6 @@ module _ {S : Type 0} (answers : S → List ℕ → List ℕ → S → Type 0) w
   pub line_written : (old new : S) (line text held held' : List ℕ) → 0 < length line → answers old line text new → held' ≡ held ++ (text ++ 10 ∷ []) → WritesLine answers old line new (Some held) (Some held')
   line_written old new [] text held held' some h e = absurd (omega arith)
   line_written old new (byte ∷ line) text held held' some h e = record { bytes = text ++ 10 ∷ []; writes = (text, (h, refl)); appends = e }
-
-  -- a run leads to some state
-  pub ran_from : (first old new : S) (remaining before after : Option (List ℕ)) → old ≡ first → RanTo answers old new remaining before after → RanFrom answers first remaining before after
-  ran_from first old new None before after e h = tt
-  ran_from first old new (Some script) before after e h = (new, subst (λ s. WritesLines answers s (lines script) new before after) e h)
 
 -- where memory is refused for what a reply prints, its command was carried out
 pub reply_lost : {S C R T E : Type 0} (IsOf : C → List ℕ → Type 0) (Gives : S → C → R → S → Type 0) (text_of : R → List ℕ) (old new : S) (line : List ℕ) (command : C) (reply : R) (text : Result T E)

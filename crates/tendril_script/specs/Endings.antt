@@ -9,6 +9,13 @@ use Rattle.tendril_script.specs.Writing.{AppendsFront, complaint}
 abbrev pub EndsProgram : Refusal → Type 0
 EndsProgram refusal = (refusal ≡ Memory) ⊎ (refusal ≡ Io)
 
+-- An error ended the program of this name: its line went to standard error, or a front of it. `Stops` says what the
+-- error leaves.
+pub record EndedBy (Stops : Refusal → Type 0) (program : List ℕ) (told told' : Option (List ℕ)) : Type 0 where
+  pub refusal : Refusal
+  pub stops : Stops refusal
+  pub tells : AppendsFront told told' (complaint program refusal)
+
 module _ {S : Type 0} (answers : S → List ℕ → List ℕ → S → Type 0) where
   -- a front of what is written for lines
   pub record WritesFrontOfLines (old : S) (lines : List (List ℕ)) (new : S)
@@ -28,9 +35,13 @@ module _ {S : Type 0} (answers : S → List ℕ → List ℕ → S → Type 0) w
       × LineStops answers mid (get_or lines count []) new))
   RunStops old lines new before after other = ⊥
 
-  -- a refusal ended the program of this name: its line went to standard error, and what was printed before stands
-  pub record RunEnded (program : List ℕ) (old : S) (remaining before after told told' : Option (List ℕ)) : Type 0 where
-    pub refusal : Refusal
+  -- what an error leaves of a run over what a reader that tells its bytes has left
+  pub record RunHalts (old : S) (remaining before after : Option (List ℕ)) (refusal : Refusal) : Type 0 where
     pub ends : EndsProgram refusal
     pub stops : IfSome remaining (λ script. (new : S) × RunStops old (lines script) new before after refusal)
-    pub tells : AppendsFront told told' (complaint program refusal)
+
+  -- it ended the program of this name
+  abbrev pub RunEnded : List ℕ → S → Option (List ℕ) → Option (List ℕ) → Option (List ℕ) → Option (List ℕ)
+      → Option (List ℕ) → Type 0
+  RunEnded program old remaining before after told told' =
+      EndedBy (RunHalts old remaining before after) program told told'

@@ -1,7 +1,7 @@
 //! The words that the program gets of the arguments that it is started with.
 
 use super::{Expected, Notes, Seen, check};
-use crate::arguments::program_with_arguments;
+use crate::program::program_with_arguments;
 use std::alloc::Global;
 use std::env::FillError;
 use std::rt::Env;

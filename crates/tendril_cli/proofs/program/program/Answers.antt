@@ -1,17 +1,17 @@
 use Rattle.std.proofs.Common.{subst}
-use Rattle.std.specs.Io.KnownBytes.{Consumes}
-use Rattle.tendril_stream.specs.Reads.{given}
+use Rattle.tendril_script.specs.Endings.{RunEnded}
+use Rattle.tendril_script.specs.Sessions.{RanFrom}
+use Rattle.tendril_cli.specs.Endings.{program_name}
+use Rattle.tendril_cli.specs.Sessions.{Answers}
+use Rattle.tendril_cli.proofs.WordLemmas.{runs_only}
 use Rattle.tendril_cli.proofs.program.program.Goals as goal
 
-pub returns-in-Err-decode-clause-stopped : goal.returns-in-Err-decode-clause-stopped
-returns-in-Err-decode-clause-stopped g c = λ asks refused.
-    let stops = c.in-Err-decode.ensures.stops in
-    let left = g.R.Read.remaining c.decode.new.reader.reader.now in
-    record {
-      refusal = c.in-Err-decode.refusal;
-      these = stops.0;
-      left = left;
-      gave = subst (λ r. Consumes (g.R.Read.remaining r.now) left (given stops.0)) c.new-then-asks_to_decode.ensures.reader stops.1.1;
-      stops = stops.2;
-      tells = c.refuse-in-Err-decode.ensures.told;
-    }
+pub returns-clause-ran : goal.returns-clause-ran
+returns-clause-ran g c = λ run done.
+    subst (λ cells. RanFrom Answers cells (g.R.Read.remaining c.args.input.now) (g.W.Write.contents c.args.out.now) (g.W.Write.contents c.run_words.new.out)) c.new.ensures
+    (c.run_words.ensures.ran (λ decode. runs_only _ run decode) done)
+
+pub returns-clause-refused : goal.returns-clause-refused
+returns-clause-refused g c = λ run failed.
+    subst (λ cells. RunEnded Answers program_name cells (g.R.Read.remaining c.args.input.now) (g.W.Write.contents c.args.out.now) (g.W.Write.contents c.run_words.new.out) (g.E.Write.contents c.args.err.now) (g.E.Write.contents c.run_words.new.err)) c.new.ensures
+    (c.run_words.ensures.refused (λ decode. runs_only _ run decode) failed)
