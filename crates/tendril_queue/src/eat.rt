@@ -41,6 +41,13 @@ impl Case {
 impl<A: Atomicity> TextQueue<A> {
     /// Takes the pattern off the front, where the queue begins with it. Looks across texts, and drops those that it
     /// empties. An empty pattern is eaten at once. Allocates nothing.
+    ///
+    /// ```
+    /// let mut queue: TextQueue = TextQueue::new(alloc);
+    /// queue.push_back(StrTendril::from_slice(alloc, "<!doctype")?)?;
+    /// assert_eq!(rt; queue.eat("<!--"), EatResult::NotThere);
+    /// assert_eq!(rt; queue.eat("<!"), EatResult::Eaten);
+    /// ```
     pub fn eat(&mut self, pattern: &str) -> EatResult
         ensures { Eats (λ x y. x ≡ y) pattern.now self.old result self.new }
     {
@@ -48,6 +55,13 @@ impl<A: Atomicity> TextQueue<A> {
     }
 
     /// Takes the pattern off the front as `eat` does, where ASCII letters are the same in either case.
+    ///
+    /// ```
+    /// let mut queue: TextQueue = TextQueue::new(alloc);
+    /// queue.push_back(StrTendril::from_slice(alloc, "<!DocType>")?)?;
+    /// assert_eq!(rt; queue.eat_ignore_ascii_case("<!doctype"), EatResult::Eaten);
+    /// assert_eq!(rt; queue.peek(), Some('>'));
+    /// ```
     pub fn eat_ignore_ascii_case(&mut self, pattern: &str) -> EatResult
         ensures { Eats AreSameInAnyCase pattern.now self.old result self.new }
     {

@@ -15,14 +15,13 @@ use tendril_text::{Atomicity, ByteSet, NonAtomic, SetResult, Tendril};
 
 /// Texts in UTF-8, read from the first on while more come in at the end. html5ever's is `BufferQueue`.
 ///
-/// ```text
+/// ```
 /// let mut input: TextQueue = TextQueue::new(alloc);
-/// input.push_back(piece)?;
-/// match input.eat("<!--") {
-///     EatResult::Eaten => comment(&mut input),
-///     EatResult::NotThere => markup(&mut input),
-///     EatResult::NotKnown => wait_for_a_piece(),
-/// }
+/// input.push_back(StrTendril::from_slice(alloc, "<!")?)?;
+/// assert_eq!(rt; input.eat("<!--"), EatResult::NotKnown);
+/// input.push_back(StrTendril::from_slice(alloc, "--a-->")?)?;
+/// assert_eq!(rt; input.eat("<!--"), EatResult::Eaten);
+/// assert_eq!(rt; input.peek(), Some('a'));
 /// ```
 #[derive(Drop)]
 pub struct TextQueue<A: Atomicity = NonAtomic> {
@@ -41,6 +40,11 @@ impl<A: Atomicity> Model for TextQueue<A> {
 
 impl<A: Atomicity> TextQueue<A> {
     /// The empty queue. Allocates nothing.
+    ///
+    /// ```
+    /// let queue: TextQueue = TextQueue::new(alloc);
+    /// assert_eq!(rt; queue.is_empty(), true);
+    /// ```
     pub fn new(alloc: Global) -> Self
         ensures bytes { result.bytes ≡ [] }
         ensures texts { result.texts ≡ [] }
@@ -51,6 +55,12 @@ impl<A: Atomicity> TextQueue<A> {
     }
 
     /// Whether there are no bytes, and so no texts.
+    ///
+    /// ```
+    /// let mut queue: TextQueue = TextQueue::new(alloc);
+    /// queue.push_back(StrTendril::from_slice(alloc, "a")?)?;
+    /// assert_eq!(rt; queue.is_empty(), false);
+    /// ```
     pub fn is_empty(&self) -> bool
         ensures bytes { IsTrue result ↔ (self.now.bytes ≡ []) }
         ensures texts { IsTrue result ↔ (self.now.texts ≡ []) }
@@ -61,6 +71,13 @@ impl<A: Atomicity> TextQueue<A> {
     /// Puts a text at the end, in amortized constant time. An empty text is dropped.
     ///
     /// Returns `Memory` and the text where the list of texts can't grow.
+    ///
+    /// ```
+    /// let mut queue: TextQueue = TextQueue::new(alloc);
+    /// queue.push_back(StrTendril::from_slice(alloc, "<p")?)?;
+    /// queue.push_back(StrTendril::from_slice(alloc, ">")?)?;
+    /// assert_eq!(rt; queue.eat("<p>"), EatResult::Eaten);
+    /// ```
     pub fn push_back(&mut self, text: Tendril<UTF8, A>) -> Result<(), (Refusal, Tendril<UTF8, A>)>
         ensures bytes { OnOk result (self.new.bytes ≡ self.old.bytes ++ text.bytes) }
         ensures texts { OnOk result (self.new.texts ≡ self.old.texts ++ unless_empty text) }
@@ -79,6 +96,13 @@ impl<A: Atomicity> TextQueue<A> {
     /// Puts a text at the front, to be read next, in amortized constant time. An empty text is dropped.
     ///
     /// Returns `Memory` and the text where the list of texts can't grow.
+    ///
+    /// ```
+    /// let mut queue: TextQueue = TextQueue::new(alloc);
+    /// queue.push_back(StrTendril::from_slice(alloc, "b")?)?;
+    /// queue.push_front(StrTendril::from_slice(alloc, "a")?)?;
+    /// assert_eq!(rt; queue.peek(), Some('a'));
+    /// ```
     pub fn push_front(&mut self, text: Tendril<UTF8, A>) -> Result<(), (Refusal, Tendril<UTF8, A>)>
         ensures bytes { OnOk result (self.new.bytes ≡ text.bytes ++ self.old.bytes) }
         ensures texts { OnOk result (self.new.texts ≡ unless_empty text ++ self.old.texts) }
@@ -95,6 +119,13 @@ impl<A: Atomicity> TextQueue<A> {
     }
 
     /// Takes the first text out of the queue, or returns `None` where the queue is empty. The text has a byte at least.
+    ///
+    /// ```
+    /// let mut queue: TextQueue = TextQueue::new(alloc);
+    /// queue.push_back(StrTendril::from_slice(alloc, "ab")?)?;
+    /// assert_eq!(rt; queue.pop_front().is_some_and(|text| text.eq_str("ab")), true);
+    /// assert_eq!(rt; queue.pop_front().is_none(), true);
+    /// ```
     pub fn pop_front(&mut self) -> Option<Tendril<UTF8, A>>
         ensures bytes { IfSome result (λ text. self.old.bytes ≡ text.bytes ++ self.new.bytes) }
         ensures texts { IfSome result (λ text. self.old.texts ≡ text ∷ self.new.texts) }
@@ -105,6 +136,13 @@ impl<A: Atomicity> TextQueue<A> {
     }
 
     /// The next character, or `None` where the queue is empty.
+    ///
+    /// ```
+    /// let mut queue: TextQueue = TextQueue::new(alloc);
+    /// queue.push_back(StrTendril::from_slice(alloc, "ab")?)?;
+    /// assert_eq!(rt; queue.peek(), Some('a'));
+    /// assert_eq!(rt; queue.peek(), Some('a'));
+    /// ```
     pub fn peek(&self) -> Option<char>
         ensures character { IfSome result (λ c. (rest : List ℕ) × (chars self.now.bytes ≡ c ∷ rest)) }
         ensures none { IfNone result (self.now.bytes ≡ []) }
@@ -113,6 +151,14 @@ impl<A: Atomicity> TextQueue<A> {
     }
 
     /// Takes the next character off the front, or returns `None` where the queue is empty. Allocates nothing.
+    ///
+    /// ```
+    /// let mut queue: TextQueue = TextQueue::new(alloc);
+    /// queue.push_back(StrTendril::from_slice(alloc, "éa")?)?;
+    /// assert_eq!(rt; queue.next(), Some('é'));
+    /// assert_eq!(rt; queue.next(), Some('a'));
+    /// assert_eq!(rt; queue.next(), None);
+    /// ```
     pub fn next(&mut self) -> Option<char>
         ensures character { IfSome result (λ c. chars self.old.bytes ≡ c ∷ chars self.new.bytes) }
         ensures bytes { IfSome result (λ c. self.old.bytes ≡ encode_utf8 c ++ self.new.bytes) }
@@ -136,6 +182,14 @@ impl<A: Atomicity> TextQueue<A> {
     ///
     /// It looks at the first text alone, and shares its bytes, as `Tendril::pop_except_from` does: returns `Count` only
     /// where a prefix and a rest of more than 8 bytes each would share a block that has as many references as it can have.
+    ///
+    /// ```
+    /// let mut queue: TextQueue = TextQueue::new(alloc);
+    /// queue.push_back(StrTendril::from_slice(alloc, "one<")?)?;
+    /// let set = ByteSet::new(b"<&");
+    /// assert_eq!(rt; matches!(queue.pop_except_from(&set)?, Some(SetResult::NotFromSet(_))), true);
+    /// assert_eq!(rt; matches!(queue.pop_except_from(&set)?, Some(SetResult::FromSet('<'))), true);
+    /// ```
     pub fn pop_except_from(&mut self, set: &ByteSet) -> Result<Option<SetResult<UTF8, A>>, Refusal>
         ensures part { IfOk result (λ found. IfSome found (λ part.
             TakesFirst (has_byte set.now) self.old.texts part self.new.texts)) }
