@@ -1,4 +1,4 @@
--- A node is cut into its word and the rest, and a sole owner is made one of the holders. Assumes `Logic`.
+-- A node is split into its count and its content, and its owner becomes one of the references. Assumes `Logic`.
 use Rattle.std.proofs.Common.{ℕ, ◌+◌, Bool, true, false, [], ◌∷◌, arith, refl, w64}
 use mathlib.Core.List.{not-mem-nil}
 use seplogic.Ra.Ura.{Ura}
@@ -34,7 +34,7 @@ use Rattle.tendril_block.specs.contracts.node.Node as node
 use Rattle.tendril_count.specs.Rule.{IsTurn}
 use Rattle.tendril_block.specs.Owned.{limit, whose, rule_kept, BodyRow, BodyIn, members, body_at, content, shown, Id, reader, writer, held_at}
 
--- a thread takes the steps of its own rule
+-- a thread may take the steps that its own invariant allows
 pub own_turn : (y : Bool) (t : ℕ) → IsTurn (whose y t) t
 own_turn true t = tt
 own_turn false t = refl
@@ -96,7 +96,7 @@ module _ {M : Type 1} {𝓤 : Ura M} (𝓛 : Logic 𝓤) where
     abbrev new : (Q : Fml) → ent 𝓤 ⟦ Q ⟧ (H.⇛ ⟦ R Q ⟧)
     new = keeps y b (o + 0)
 
-    -- the first holder of an invariant shares the content
+    -- the first reference of an invariant shares the content
     lent : (k t : ℕ) → ent 𝓤 ⟦ fex (ℕ × ℕ) (first_holder 𝓛 R new (whose y t) (limit l) (content h x b o) b (o + 0) k) ⟧ (H.⇛ ⟦ fex Id (reader y l h x b o) ⟧)
     lent k t = qed 𝓛 (‵ (fex (ℕ × ℕ) (first_holder 𝓛 R new (whose y t) (limit l) (content h x b o) b (o + 0) k)) ∷ []) ∵ updating ! $ fpick ! (λ i. fsplit ! $ fsplit3 ! $
         -- [invariant; mark; part; borrow]
@@ -116,7 +116,7 @@ module _ {M : Type 1} {𝓤 : Ura M} (𝓛 : Logic 𝓤) where
         use1 𝓛 (later (‵ (fex (ℕ × ℕ) (first_holder 𝓛 R new (whose y i.3) (limit l) (content h x b o) b (o + 0) i.2)))) (resumed 𝓛 R new (whose y i.3) (limit l) (content h x b o) b (o + 0) (low l) i.1 i.2 i.3) $ await ! tt $
         use1 𝓛 (later (‵ (fex Id (reader y l h x b o)))) (lent i.2 i.3) $ await ! tt $ now ! $ done !)
 
-    -- a holder that was found alone is one of the holders again
+    -- a reference that was found to be the only one becomes one of the readers again
     pub counted : ent 𝓤 ⟦ held_at y l h x b o ⟧ (H.⇛ ⟦ fex Id (reader y l h x b o) ⟧)
     counted = qed 𝓛 (‵ (held_at y l h x b o) ∷ []) ∵ fpick ! (λ z. by ! (at z))
       where

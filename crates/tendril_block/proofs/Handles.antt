@@ -1,4 +1,4 @@
--- The machine values of a `Handle`, of either kind. Assumes `Logic`.
+-- The low-level values of a `Handle` of either kind, and what its steps on the count give. Assumes `Logic`.
 use Rattle.std.proofs.Common.{◌≡◌, ℕ, ◌+◌, ◌≢◌, Bool, true, false, List, [], ◌∷◌, ◌++◌, refl, sym, subst}
 use seplogic.Ra.Ura.{Ura}
 use mir.Syntax.{impl, tnil, dnil}
@@ -54,14 +54,14 @@ al = record { row = Z; laws = heap_laws.the_row_laws; g = ghosts; d = impl [] tn
 abbrev pub mark_val : Val
 mark_val = vstruct vnil
 
--- a pointer, an allocator's handle and the kind, which has no bytes
+-- a pointer, an allocator and the kind, which has no bytes
 abbrev pub handle_val : Val → Val → Val
 handle_val v w = vstruct (vcons v (vcons w (vcons mark_val vnil)))
 
 pub handle_good : (b o : ℕ) (h : Val) → Good (layout Z) h → T (has_ty (layout Z) h && true) × WT (handle_val (vptr b o) h)
 handle_good b o h fits = (and_tt (has_ty (layout Z) h) fits.0, (tt, (fits.1, (tt, tt))))
 
--- a function of a kind, at this kind
+-- the type arguments of a function that is generic in its kind, at this kind
 abbrev pub args : RattleType → Dict → Args
 args K d = bounded (a_type ∷ []) (K, tt) (dcons d dnil)
 
@@ -91,14 +91,14 @@ module _ (K : RattleType) (k : Ghosts K.Denot) where
 module _ {M : Type 1} {𝓤 : Ura M} (𝓛 : Logic 𝓤) where
   open 𝓛 use {H}
 
-  -- a machine that one thread's steps led to, as one of any threads
+  -- a state that the steps of one thread lead to is also one that the steps of any threads lead to
   by_any_thread : (of : Threads) (l γ n : ℕ) (Is : Counted → Type 0) → ent 𝓤 (sem 𝓛 (fex Counted (λ s. fsep (roster role_coded.code γ 0 (roles s.holders)) (fact (IsReached of (limit l) s × (s.word ≡ n) × Is s)))))
       (sem 𝓛 (fex Counted (λ s. fsep (roster role_coded.code γ 0 (roles s.holders)) (fact (IsReached Any (limit l) s × (s.word ≡ n) × Is s)))))
   by_any_thread of l γ n Is = let Stands : Counted → Fml = λ s. fsep (roster role_coded.code γ 0 (roles s.holders)) (fact (IsReached Any (limit l) s × (s.word ≡ n) × Is s)) in
       qed 𝓛 (‵ (fex Counted (λ s. fsep (roster role_coded.code γ 0 (roles s.holders)) (fact (IsReached of (limit l) s × (s.word ≡ n) × Is s)))) ∷ []) ∵ fpick ! (λ s. fsplit ! $ move ! (1 ∷ []) $ fpick ! (λ so. drop ! $
       nothing ! $ fpack ! (IsReached Any (limit l) s × (s.word ≡ n) × Is s) (λ _. ftrue) (by_some of (limit l) s so.0, so.1, so.2) $ move ! (1 ∷ 0 ∷ []) $ fjoin ! $ fpack ! Counted Stands s $ done !))
 
-  -- who finds 1 has the word, the content and the duty
+  -- a subtraction that finds 1 gives the count, the content and the duty to free
   pub taken : (y : Bool) (g : Stepped) (b w n : ℕ) → n ≡ 1 → ent 𝓤 (sem 𝓛 (leaves_with y g b w n)) (H.⇛ (sep 𝓤 (sem 𝓛 (word b w 0)) (sep 𝓤 (sem 𝓛 (content g.1 g.2 b g.3)) (sem 𝓛 (owed g.0 g.4)))))
   taken y g b w n one = qed 𝓛 (‵ (leaves_with y g b w n) ∷ []) ∵ fpick ! (λ z. by ! (at z))
     where
@@ -111,7 +111,7 @@ module _ {M : Type 1} {𝓤 : Ura M} (𝓛 : Logic 𝓤) where
           lent_back ! tt $ move ! (1 ∷ []) $ use1 𝓛 (‵ (owed g.0 g.4)) (by_any_thread (whose y g.4.3) g.0 g.4.1 0 (λ s. (held s ≡ 0) × (s.frees ≡ 0) × (s.duties ≡ g.4.3 ∷ []))) $ now ! $ move ! (2 ∷ 1 ∷ 0 ∷ []) $ done !
       at false = qed 𝓛 (‵ (fact (n ≢ 1)) ∷ []) ∵ fpick ! (λ no. absurd (no one))
 
-  -- who loads 1 has the node
+  -- a load of 1 gives the node
   pub granted : (y : Bool) (g : Stepped) (b n : ℕ) → n ≡ 1 → ent 𝓤 (sem 𝓛 (sees y g b (g.3 + 0) n)) (H.⇛ (sep 𝓤 (sem 𝓛 (part_at BodyRow full_share g.2 b (g.3 + body_at))) (sem 𝓛 (all_but_body y g.0 g.1 g.2 b g.3 g.4))))
   granted y g b n one = qed 𝓛 (‵ (sees y g b (g.3 + 0) n) ∷ []) ∵ fpick ! (λ z. by ! (at z))
     where
@@ -121,7 +121,7 @@ module _ {M : Type 1} {𝓤 : Ura M} (𝓛 : Logic 𝓤) where
           lent_back ! tt $ now ! $ fsplit ! $ move ! (2 ∷ 1 ∷ []) $ fjoin ! $ move ! (2 ∷ 0 ∷ []) $ fjoin ! $ move ! (2 ∷ 0 ∷ []) $ fjoin ! $ move ! (1 ∷ 0 ∷ []) $ done !
       at false = qed 𝓛 (‵ (alone_gives role_coded.code (whose y g.4.3) (limit g.0) (content g.1 g.2 b g.3) b (g.3 + 0) g.4.0 g.4.1 g.4.2 g.4.3 n false) ∷ []) ∵ fsplit ! $ fpick ! (λ no. absurd (no one))
 
-  -- who loads another number reads on
+  -- after a load of another number, the reference is still a reader
   pub refused : (y : Bool) (g : Stepped) (b w n : ℕ) → n ≢ 1 → ent 𝓤 (sem 𝓛 (sees y g b w n)) (sep 𝓤 (sem 𝓛 (mark role_coded.code g.4.1 g.4.2 Reader)) (sem 𝓛 (part 63 g.4.0)))
   refused y g b w n more = qed 𝓛 (‵ (sees y g b w n) ∷ []) ∵ fpick ! (λ z. by ! (at z))
     where
@@ -129,7 +129,7 @@ module _ {M : Type 1} {𝓤 : Ura M} (𝓛 : Logic 𝓤) where
       at true = qed 𝓛 (‵ (alone_gives role_coded.code (whose y g.4.3) (limit g.0) (content g.1 g.2 b g.3) b w g.4.0 g.4.1 g.4.2 g.4.3 n true) ∷ []) ∵ fsplit ! $ fpick ! (λ one. absurd (more one))
       at false = qed 𝓛 (‵ (alone_gives role_coded.code (whose y g.4.3) (limit g.0) (content g.1 g.2 b g.3) b w g.4.0 g.4.1 g.4.2 g.4.3 n false) ∷ []) ∵ fsplit ! $ drop ! $ fsplit ! $ done !
 
-  -- a writer that gives its holder up has the duty: the word is its own, so what stands there is no matter
+  -- a writer that gives up its reference has the duty to free; it owns the count, whose number no longer matters
   pub gives_up : (y : Bool) (l b w : ℕ) (P : Fml) (i : Id) → ent 𝓤 (sep 𝓤 (sem 𝓛 (mark role_coded.code i.1 i.2 Writer)) (sem 𝓛 (fex Counted (stands y l i)))) (H.⇛ (sem 𝓛 (owed l i)))
   gives_up y l b w P i = qed 𝓛 (‵ (mark role_coded.code i.1 i.2 Writer) ∷ ‵ (fex Counted (stands y l i)) ∷ []) ∵ updating ! $ move ! (1 ∷ []) $ fpick ! (λ s. fsplit ! $ move ! (1 ∷ []) $ fpick ! (λ so. drop ! $
       let s' : Counted = subtracted s i.2 Ended i.3 in let Ended_at = raw (upd 𝓤 (sep 𝓤 (sem 𝓛 (roster role_coded.code i.1 0 (roles s'.holders))) (sem 𝓛 (mark role_coded.code i.1 i.2 Gone)))) in
@@ -138,13 +138,13 @@ module _ {M : Type 1} {𝓤 : Ura M} (𝓛 : Logic 𝓤) where
       move ! (1 ∷ []) $ drop ! $ nothing ! $ fpack ! (IsGivenUp (limit l) s' i.3) (λ _. ftrue) (given_up (whose y i.3) (limit l) (low l) s i.2 i.3 so.0 so.2 so.1) $ move ! (1 ∷ 0 ∷ []) $ fjoin ! $
       fpack ! Counted (λ t. fsep (roster role_coded.code i.1 0 (roles t.holders)) (fact (IsGivenUp (limit l) t i.3))) s' $ now ! $ done !)))
 
-  -- who has the duty frees
+  -- a thread that has the duty can take the machine's `Free`
   pub frees : (l : ℕ) → ent 𝓤 (sem 𝓛 (fex Id (owed l))) (sem 𝓛 (fex Id (freed l)))
   frees l = qed 𝓛 (‵ (fex Id (owed l)) ∷ []) ∵ fpick ! (λ i. fpick ! (λ s. fsplit ! $ move ! (1 ∷ []) $ fpick ! (λ so. drop ! $
       nothing ! $ fpack ! (IsFreed (limit l) (reached.freed s)) (λ _. ftrue) (is_freed (limit l) s i.3 so) $ move ! (1 ∷ 0 ∷ []) $ fjoin ! $
       fpack ! Counted (λ t. fsep (roster role_coded.code i.1 0 (roles t.holders)) (fact (IsFreed (limit l) t))) (reached.freed s) $ fpack ! Id (freed l) i $ done !)))
 
-  -- with any list in its place, what was lent is the handle again
+  -- with any body in its place, the parts of the node are the handle again
   pub back : (K : RattleType) (k : Ghosts K.Denot) (d : (Self K k).Denot) (b o nb na : ℕ) (h : Val) (i : Id) → d.node ≡ block_ptr nb na → Crosses K k.any_thread → (w : BodyIn)
       → ent 𝓤 (sep 𝓤 (sem 𝓛 ((mem BodyRow).own_at w nb (na + body_at))) (sem 𝓛 (fsep (all_but_body k.any_thread d.limit d.alloc d.inner nb na i) (fsep (Z.own_val d.alloc (h ∷ [])) (cell_at full_share (Self K k).mir (handle_val (vptr nb na) h ∷ []) b o)))))
       (sem 𝓛 ((mem (Self K k)).own_at (with_body d w) b o))
@@ -152,13 +152,13 @@ module _ {M : Type 1} {𝓤 : Ura M} (𝓛 : Logic 𝓤) where
   back K k d b o nb na h i e c w = let v : Val = handle_val (vptr nb na) h in let y : Bool = k.any_thread in let R : RattleType = Self K k in
       qed 𝓛 (‵ (part_at BodyRow full_share w nb (na + body_at)) ∷ ‵ (fsep (all_but_body y d.limit d.alloc d.inner nb na i) (fsep (Z.own_val d.alloc (h ∷ [])) (cell_at full_share R.mir (v ∷ []) b o))) ∷ []) ∵
       move ! (1 ∷ []) $ fsplit3 ! $ fsplit3 ! $ move ! (2 ∷ []) $ fsplit ! $
-      -- [the machine; the right to free; the mark; the word; the handle; the cell; the list]
+      -- [the machine; the right to free; the mark; the word; the handle; the cell; the body]
       move ! (6 ∷ 1 ∷ []) $ fjoin ! $ move ! (1 ∷ 0 ∷ []) $ fjoin ! $ move ! (2 ∷ 0 ∷ []) $ fjoin ! $ move ! (1 ∷ 0 ∷ []) $ fjoin ! $
       fpack ! Id (writer y d.limit d.alloc w nb na) i $ fpack ! Bool (sole_or_counted (fex Id (writer y d.limit d.alloc w nb na)) (fex Id (reader y d.limit d.alloc w nb na))) true $
       handle_in K k ! c d.limit nb na h d.alloc w $ rewrite ! 0 (λ (p : Ptr). ‵ (R.own_val (record { node = p; alloc = d.alloc; kind = record {}; limit = d.limit; inner = w }) (v ∷ []))) (sym e) refl $
       move ! (1 ∷ 0 ∷ []) $ fjoin ! $ fpack ! (List Val) (λ us. fsep (cell_at full_share R.mir us b o) (R.own_val (with_body d w) us)) (v ∷ []) $ done !
 
-  -- who adds where the word was still the same has a new holder
+  -- an add that found the expected count gives a new reference
   pub joined : (of : Threads) (l : ℕ) (P : Fml) (b w a γ old n : ℕ) → n ≡ old → ent 𝓤 (sem 𝓛 (fex Bool (join_gives role_coded.code of l P b w a γ old n))) (sem 𝓛 (fsep (fex ℕ (λ j. mark role_coded.code γ j Reader)) (part 63 a)))
   joined of l P b w a γ old n same = qed 𝓛 (‵ (fex Bool (join_gives role_coded.code of l P b w a γ old n)) ∷ []) ∵ fpick ! (λ z. by ! (at z))
     where

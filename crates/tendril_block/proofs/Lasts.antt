@@ -1,4 +1,4 @@
--- The machine values of a `Last`. Assumes `Logic`.
+-- How the low-level values of a `Last` and the node that it owns follow from each other. Assumes `Logic`.
 use Rattle.std.proofs.Common.{◌≡◌, ℕ, List, [], ◌∷◌, ◌++◌, refl, subst}
 use mir.Val.{Val, vptr, vstruct, of_list}
 use base.Logic.{id⊢}

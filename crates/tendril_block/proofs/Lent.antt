@@ -1,4 +1,5 @@
--- A `&` to a holder has a share of its lifetime's token, the invariant and what is shared. Its mark comes back when the `&` ends. Assumes `Logic`.
+-- A `&` to a reference owns shares of its lifetime's token and of its mark, the invariant and what is shared.
+-- The mark is whole again when the `&` ends. Assumes `Logic`.
 use Rattle.std.proofs.Common.{ℕ, [], ◌∷◌}
 use seplogic.Ra.Ura.{Ura}
 use base.FractionLaws.{Counts}
@@ -19,11 +20,11 @@ use base.Share.{three_quarters}
 use Rattle.atomic_table.specs.Seated.{seen}
 use Rattle.tendril_count.specs.Rule.{role_coded, Reader, mark}
 
--- the lifetime, the name, the holder and the thread that takes its steps
+-- the lifetime, the ghost name, the number of the reference, and the thread that takes its steps
 abbrev pub Id : Type 0
 Id = ℕ × ℕ × ℕ × ℕ
 
--- R i says that holder i's rule is kept
+-- R i is the invariant of the reference i
 module _ (R : Id → Fml) (dup : (i : Id) (W : Type 1) (𝓤 : Ura W) (𝓛 : Logic 𝓤) → ent 𝓤 (sem 𝓛 (R i)) (sep 𝓤 (sem 𝓛 (R i)) (sem 𝓛 (R i)))) (s : Lft → Fml) (L : ShrLaws s) where
   abbrev M : Id → Fml
   M i = mark role_coded.code i.1 i.2 Reader
@@ -67,7 +68,7 @@ module _ (R : Id → Fml) (dup : (i : Id) (W : Type 1) (𝓤 : Ura W) (𝓛 : Lo
         -- [the marks; the tokens; nothing; the token; shared; invariant]
         move ! (5 ∷ 4 ∷ []) $ fjoin ! $ move ! (2 ∷ 1 ∷ 0 ∷ []) $ fjoin3 ! $ fpack ! Id (λ j. holder_shares j κ) i $ now ! $ keep ! (0 ∷ 2 ∷ []) $ done !)))
 
-  -- the law of sharing for what a holder owns
+  -- the law of sharing, for what a reference owns
   pub Lends-holder : {W : Type 1} {𝓤 : Ura W} (𝓛 : Logic 𝓤) (l : Lft) → Lends 𝓛 (fex Id holder_owns) (some Id holder_shares) l
   Lends-holder {𝓤 = 𝓤} 𝓛 l κ ts inc sp = let A = 𝓛.A in let H = 𝓛.H in qed 𝓛 (‵ (fbor κ (Owns 𝓛 κ)) ∷ raw (lfts 𝓛 ts) ∷ []) ∵ updating ! $ move ! (1 ∷ []) $
       use1 𝓛 (exists (λ (q : Share). ‵ (flft (span ts) q) ⊛ raw (wand 𝓤 (𝓛.A.lft (span ts) q) (lfts 𝓛 ts)))) (one_token 𝓛 ts) $ pick ! (λ q. split ! $
@@ -83,6 +84,6 @@ module _ (R : Id → Fml) (dup : (i : Id) (W : Type 1) (𝓤 : Ura W) (𝓛 : Lo
   holder_shr_laws = some_shr_laws Id holder_shares (λ i. beside_shr_laws (one (λ q. flft (i.0 ∷ []) q)) (beside (one (M_of i)) (beside (λ _. R i) (held (i.0 ∷ []) s))) (one_shr_laws (λ q. flft (i.0 ∷ []) q))
       (beside_shr_laws (one (M_of i)) (beside (λ _. R i) (held (i.0 ∷ []) s)) (one_shr_laws (M_of i)) (beside_shr_laws (λ _. R i) (held (i.0 ∷ []) s) (kept_laws i) (held_shr_laws (i.0 ∷ []) s L))))
 
-  -- a `&` to a holder holds what is shared
+  -- a `&` to a reference gives what is shared
   pub sees : {W : Type 1} {𝓤 : Ura W} (𝓛 : Logic 𝓤) (κ : Lft) → ent 𝓤 (sem 𝓛 (some Id holder_shares κ)) (sem 𝓛 (s κ))
   sees {𝓤 = 𝓤} 𝓛 κ = qed 𝓛 (‵ (some Id holder_shares κ) ∷ []) ∵ fpick ! (λ i. fsplit3 ! $ move ! (2 ∷ []) $ fsplit ! $ keep ! (2 ∷ 1 ∷ []) $ by ! (moves_from 𝓛 s L κ (i.0 ∷ []) (i.0 ∷ []) (meet_⊑_left (i.0 ∷ []) κ)))

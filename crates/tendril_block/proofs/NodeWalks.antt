@@ -1,4 +1,5 @@
--- What the walks of one thread share: they hold the thread's token, and open a rule by it. Assumes `Logic`.
+-- What the stepwise proofs of `OneThread` share: they own the thread's token, and open an invariant with it.
+-- Assumes `Logic`.
 use Rattle.std.proofs.Common.{[], ◌∷◌, refl, subst}
 use seplogic.Ra.Ura.{Ura}
 use mir.Syntax.{Fn, Callee}
@@ -52,7 +53,7 @@ module _ {M : Type 1} {𝓤 : Ura M} (𝓛 : Logic 𝓤) (T : Ended) (hs : Stays
 module _ {M : Type 1} {𝓤 : Ura M} (𝓛 : Logic 𝓤) where
   open 𝓛 use {H, A}
 
-  -- what a rule kept for one thread holds, with the thread's token, which comes back with it
+  -- the token of a thread opens its invariant; the thread gets the token back when it closes the invariant
   pub opens_rule : (k : base.Fml.Key) (P : base.Fml.Fml) → ent 𝓤 (base.Logic.sep 𝓤 (sem 𝓛 (types.Na.na_inv k P)) (A.tok every)) (H.⇛ (base.Logic.sep 𝓤 (sem 𝓛 P) (base.Logic.wand 𝓤 (sem 𝓛 P) (H.⇛ (A.tok every)))))
   opens_rule k P = qed 𝓛 (‵ (types.Na.na_inv k P) ∷ ‵ (base.Fml.ftok every) ∷ []) ∵ updating ! $ move ! (1 ∷ []) $
       use1 𝓛 (‵ (base.Fml.ftok (just k)) ⊛ ‵ (base.Fml.ftok (less every k))) (𝓛.invs.tok_cut every (just k) (less every k) (take_key every k refl)) $ split ! $ move ! (2 ∷ 0 ∷ []) $

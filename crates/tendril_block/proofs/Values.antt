@@ -1,4 +1,4 @@
--- The machine values of a `Loose` and of a `OnceBox`. Assumes `Logic`.
+-- How the low-level values of a `Loose` and the box that it owns follow from each other. Assumes `Logic`.
 use Rattle.std.proofs.Common.{◌≡◌, ℕ, List, [], ◌∷◌, ◌++◌, refl, subst}
 use mathlib.Core.Bool.{true, ◌&&◌}
 use lib.Dec.{T}

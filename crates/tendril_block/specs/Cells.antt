@@ -1,8 +1,8 @@
--- The cells of a few bytes after their first bytes were written over.
+-- The array of a `Few` after its first bytes were overwritten.
 use Rattle.std.specs.Prelude.{ℕ, List, length}
 use Rattle.std.specs.List.{refill}
 use Rattle.tendril_block.specs.declared.few.Cells.{Cells}
 
--- its first bytes written over
+-- the array with its first bytes overwritten by w
 abbrev pub with_front : Cells → List ℕ → Cells
 with_front c w = record { bytes = refill (length c.bytes) c.bytes w }

@@ -1,5 +1,6 @@
--- What a `Block` owns: a node on the heap, whose word counts the holders, and the list in the node.
--- The node lies at b, o. Its word is out; the rest, the content, is shared for the lifetime a.
+-- What a reference to a block owns: a node on the heap, which has the count of its references (`word`) and the body.
+-- The node is at b, o. The invariant owns the count. All references borrow the remainder, the content, for one
+-- lifetime.
 use Rattle.std.specs.Prelude.{◌≡◌, ℕ, ◌+◌, min, max, Bool, true, false, List, [], ◌∷◌}
 use mir.Syntax.{w64, ty_int, ty_struct}
 use mir.Raw.{raw as bare}
@@ -42,7 +43,7 @@ use Rattle.tendril_count.specs.Rule.{
 }
 use Rattle.tendril_block.specs.contracts.node.Node.{the_row as NodeRow}
 
--- the limit of holders that a number stands for
+-- the limit of references that the number l means
 abbrev pub limit : ℕ → ℕ
 limit l = min (max l 1) 4294967295
 
@@ -58,38 +59,38 @@ body_coded = BodyRow.coded
 abbrev pub members : List Member
 members = record { row = u64; ty = ty_int w64 } ∷ record { row = BodyRow; ty = lone BodyRow.mir } ∷ []
 
--- where the list lies in the node
+-- the offset of the body in the node
 abbrev pub body_at : ℕ
 body_at = up (align (lone BodyRow.mir)) 8
 
--- the lifetime, the name, the holder and the thread that takes its steps
+-- the lifetime, the ghost name, the number of the reference, and the thread that takes its steps
 abbrev pub Id : Type 0
 Id = ℕ × ℕ × ℕ × ℕ
 
--- whose steps the rule allows: all threads', or those of one
+-- the threads whose steps the invariant allows: all, or one
 abbrev pub whose : Bool → ℕ → Threads
 whose true t = Any
 whose false t = Only t
 
--- the machine, where this holder writes
+-- the machine's state s, in which this reference writes
 abbrev pub stands : Bool → ℕ → Id → Block → Fml
 stands y l i s =
     fsep (roster role_coded.code i.1 0 (roles s.holders))
     (fact (IsReached (whose y i.3) (limit l) s × (s.word ≡ 1) × (holder_at s.holders i.2 ≡ Writes i.3)))
 
--- how the rule of the word at b, w is kept: for all threads, or for one
+-- P as the invariant of the count at b, w: for all threads, or for one
 abbrev pub rule_kept : Bool → ℕ → ℕ → Fml → Fml
 rule_kept true b w P = finv P
 rule_kept false b w P = na_inv (b, w) P
 
 module _ (h : Global) (x : BodyIn) (b o : ℕ) where
-  -- all of the node but its word, and the right to free it
+  -- all of the node but its count, and the right to free the node
   abbrev pub content : Fml
   content = fsep (part_at BodyRow full_share x b (o + body_at))
       (fsep (ghosts.dealloc_token h (bare (lone NodeRow.mir)) (block_ptr b o))
       (fleft full_share (ty_struct [] (raw_tys members)) (raw_tys members) b o))
 
-  -- what a `&` to the list has
+  -- what a `&` to the body owns
   abbrev pub shown : Lft → Fml
   shown = lent_at BodyRow (block_ptr b (o + body_at)) x
 
@@ -97,17 +98,17 @@ module _ (y : Bool) (l : ℕ) (h : Global) (x : BodyIn) (b o : ℕ) where
   abbrev pub rule : Id → Fml
   rule i = Inv role_coded.code (whose y i.3) (limit l) (content h x b o) b (o + 0) i.0 i.1
 
-  -- a holder that reads
+  -- a reference that reads
   abbrev pub reader : Id → Fml
   reader i = fsep (part 63 i.0)
       (fsep (rule_kept y b (o + 0) (rule i)) (fsep (mark role_coded.code i.1 i.2 Reader) (shown h x b o (i.0 ∷ []))))
 
-  -- a holder that was found alone: it has the word, the content and the machine
+  -- a reference that was found to be the only one: it owns the count, the content and the machine's state
   abbrev pub writer : Id → Fml
   writer i = fsep (mark role_coded.code i.1 i.2 Writer)
       (fsep (word b (o + 0) 1) (fsep (fex Block (stands y l i)) (content h x b o)))
 
-  -- all of that but the list
+  -- all of that but the body
   abbrev pub all_but_body : Id → Fml
   all_but_body i =
       fsep (mark role_coded.code i.1 i.2 Writer)
@@ -119,7 +120,7 @@ module _ (y : Bool) (l : ℕ) (h : Global) (x : BodyIn) (b o : ℕ) where
   abbrev pub held_at : Fml
   held_at = fex Bool (sole_or_counted (fex Id writer) (fex Id reader))
 
-  -- what a `&` to a holder has: shares of its lifetime's token and of its mark, the rule and what is shared
+  -- what a `&` to a reference owns: shares of its lifetime's token and of its mark, the invariant and a `&` to the body
   abbrev pub lends : Id → Lft → Fml
   lends i = beside (one (λ q. flft (i.0 ∷ []) q))
       (beside (one (λ q. seen role_coded.code i.1 i.2 q Reader))
@@ -131,7 +132,7 @@ ptr_in_block p = fex (InBlock p) (λ _. ftrue)
 abbrev pub block_shares : Bool → ℕ → Ptr → Global → BodyIn → Lft → Fml
 block_shares y l p h x = beside (said (ptr_in_block p)) (some Id (lends y l h x (block_of p) (count_of p)))
 
--- a kind whose values any thread may own is one whose holders may be in any threads
+-- if any thread may own the kind's values, its references may be in any threads
 abbrev pub Crosses : RattleType → Bool → Type 0
 Crosses R y = ((d : R.Denot) (vs : List Val) → Keyless (R.own_val d vs)) → y ≡ true
 
@@ -139,19 +140,19 @@ abbrev pub block_owns : Type 0 → Bool → ℕ → Ptr → Global → BodyIn �
 block_owns P y l (block_ptr b o) h x = fex P (λ _. held_at y l h x b o)
 block_owns P y l null_ptr h x = ffalse
 
--- the machine of a block without holders, which this thread has the duty to free
+-- the machine's state for a block without references, which this thread has the duty to free
 abbrev pub owed : ℕ → Id → Fml
 owed l i = fex Block
     (λ s. fsep (roster role_coded.code i.1 0 (roles s.holders))
     (fact (IsReached Any (limit l) s × (s.word ≡ 0) × ((holders_left s ≡ 0) × (s.frees ≡ 0) × (s.duties ≡ i.3 ∷ [])))))
 
--- the machine of a block that was freed
+-- the machine's state for a block that was freed
 abbrev pub freed : ℕ → Id → Fml
 freed l i = fex Block
     (λ s. fsep (roster role_coded.code i.1 0 (roles s.holders))
     (fact (IsReached Any (limit l) s × (s.frees ≡ 1) × (s.duties ≡ []))))
 
--- the node at b, o of such a block, whatever its word still says: no holder is left to read it
+-- the node at b, o of a block without references, whatever its count n still is: nothing reads it any more
 module _ (l : ℕ) (h : Global) (n : ℕ) (x : BodyIn) (b o : ℕ) where
   abbrev pub last_at : Fml
   last_at = fsep (box_owns (ghosts.dealloc_token h) NodeRow (block_ptr b o) (record { count = n; body = x }))
@@ -161,7 +162,7 @@ abbrev pub last_owns : ℕ → Ptr → Global → ℕ → BodyIn → Fml
 last_owns l (block_ptr b o) h n x = last_at l h n x b o
 last_owns l null_ptr h n x = ffalse
 
--- who steps on a node's word: its handle and list, where the node begins in its block, and the holder
+-- a step on a node's count: the limit, the allocator, the body, the node's offset in its allocation, and the reference
 abbrev pub Stepper : Type 0
 Stepper = ℕ × Global × BodyIn × ℕ × Id
 
@@ -193,7 +194,7 @@ abbrev pub left : Bool → Stepper → Ptr → ℕ → Fml
 left y g (block_ptr b w) n = leaves_with y g b w n
 left y g null_ptr n = ffalse
 
--- a step through a `&`, by shares of the lifetime's token and of the mark
+-- a step through a `&`, with shares of the lifetime's token and of the mark
 abbrev pub Joining : Type 0
 Joining = Stepper × Share × Share
 
@@ -219,7 +220,7 @@ abbrev pub joined_to : Bool → Joining → ℕ → Ptr → ℕ → Fml
 joined_to y g old (block_ptr b w) n = joins_with y g b w old n
 joined_to y g old null_ptr n = ffalse
 
--- a load that is no step
+-- a load that is no step of the machine
 module _ (y : Bool) (g : Stepper × Share) (b w : ℕ) where
   abbrev pub by_token : Fml
   by_token = fsep (rule_kept y b w (node_rule y g.0 b w)) (flft (g.0.4.0 ∷ []) g.1)

@@ -1,4 +1,4 @@
--- The numbers and the names of the refusals.
+-- The numbers and the names of errors.
 use Rattle.std.specs.Prelude.{ℕ, List, codes}
 use Rattle.tendril_block.specs.declared.refusal.Refusal.{Refusal}
 use Rattle.tendril_block.specs.declared.refusal.Refusal.TheVariants.{
@@ -18,7 +18,7 @@ use Rattle.tendril_block.specs.declared.refusal.Refusal.TheVariants.{
   WrongFormat,
 }
 
--- a refusal's number
+-- an error's number
 abbrev pub number_of : Refusal → ℕ
 number_of TooLong = 1
 number_of Memory = 2
@@ -35,7 +35,7 @@ number_of NotStarted = 12
 number_of NoSuchSlot = 13
 number_of WrongFormat = 14
 
--- a refusal's name, as it is printed
+-- an error's name, as it is printed
 abbrev pub name_of : Refusal → List ℕ
 name_of TooLong = codes "TooLong"
 name_of Memory = codes "Memory"

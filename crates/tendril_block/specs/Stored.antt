@@ -1,4 +1,4 @@
--- Bytes that are stored: few of them in the node itself, many in a vector.
+-- The bytes of a block: few are stored in the node itself, more in a vector.
 use Rattle.std.specs.Prelude.{ℕ, List, ◌≤◌, vec_capacity}
 use Rattle.tendril_block.specs.declared.stored.Stored.{Stored}
 use Rattle.tendril_block.specs.declared.stored.Stored.TheVariants.{Small, Large}

@@ -1,9 +1,9 @@
--- What is put at the end of a block.
+-- What is appended to a block.
 use Rattle.std.specs.Prelude.{ℕ, ◌+◌, List, [], ◌++◌, length, replicate}
 use Rattle.tendril_block.specs.declared.tail.Tail.{Tail}
 use Rattle.tendril_block.specs.declared.tail.Tail.TheVariants.{Parts, Zeros, Room}
 
--- the bytes that are put there
+-- the bytes that are appended
 abbrev pub tail_bytes : Tail → List ℕ
 tail_bytes (Parts middle more) = middle.now ++ more.now
 tail_bytes (Zeros count) = replicate count 0

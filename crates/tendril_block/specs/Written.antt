@@ -1,4 +1,4 @@
--- A holder after its body was written over.
+-- A handle after its body was overwritten.
 use Rattle.tendril_block.specs.declared.node.handle.Handle.{Handle}
 use Rattle.tendril_block.specs.Owned.{BodyIn}
 

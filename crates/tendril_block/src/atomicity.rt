@@ -1,4 +1,4 @@
-//! What a block offers, however its references are counted.
+//! The trait of all kinds of blocks, however their references are counted.
 ghost use Rattle.std.specs.Prelude.{◌≡◌, ℕ, ◌+◌, ◌-◌, ◌≤◌, ◌++◌, List, length, take, drop, true, false, IfOk, IfErr, IfSome, ◌⊎◌};
 ghost use Rattle.std.specs.Borrow.{LendsSo, LendsSoOk, sem};
 ghost use Rattle.tendril_block.specs.contracts.body.Body.{the_row as body_row};
@@ -10,7 +10,7 @@ use crate::sole::Sole;
 use crate::tail::Tail;
 use std::alloc::Global;
 
-/// The least capacity of a block that `copy` makes, in bytes.
+/// `MIN_CAP` of the Rust crate, in bytes. Nothing here uses it: `copy` creates blocks with a capacity of at least 40.
 pub const MIN_CAP: u32 = 16;
 
 /// The most bytes that a text stores inline, without a block.
@@ -42,8 +42,8 @@ pub trait Atomicity {
         ensures refusal { IfErr result (λ e. e.0 ≡ Refusal.Memory) }
         ensures back { IfErr result (λ e. e.1.items ≡ bytes.items) };
 
-    /// A block with a copy of these bytes and this capacity, with one reference. Few bytes take one allocation, more take
-    /// two.
+    /// A block with a copy of these bytes and at least this capacity, with one reference. Takes one allocation if
+    /// length and capacity are at most 40 (`NODE_CAPACITY`), else two.
     fn copy(alloc: Global, bytes: &[u8], capacity: usize) -> Result<Self::Block, Refusal>
         ensures bytes { IfOk result (λ b. bytes_of b ≡ bytes.now) }
         ensures copied { IfOk result (λ b. copied b ≡ length bytes.now) }
@@ -59,18 +59,18 @@ pub trait Atomicity {
     fn bytes(block: &Self::Block) -> &[u8]
         ensures { result.now ≡ bytes_of block.now };
 
-    /// The body, to change it, if this is the only reference.
+    /// Borrows the body mutably, if this is the only reference.
     fn alone_mut(block: &mut Self::Block) -> Option<&mut Body>
-        // What is left in the body is the block's list, and what the body took was copied for this reference.
+        // After the borrow, the block has the bytes that were left in the body; bytes copied into it count in `copied`.
         ensures* lends { sem 𝓛 (LendsSo Self.Block.row body_row block.entry result
             (λ n w. IfSome result (λ b.
             (bytes_of n ≡ w.bytes) × (copied n ≡ copied block.old + (w.took - b.now.took))))
             (λ n. (bytes_of n ≡ bytes_of block.old) × (copied n ≡ copied block.old))) }
         ensures bytes { IfSome result (λ b. b.now.bytes ≡ bytes_of block.old) };
 
-    /// The body, to change it. If there are other references, a copy of the block takes its place first.
+    /// Borrows the body mutably, after replacing the block by a copy if there are other references.
     fn make_mut(block: &mut Self::Block) -> Result<&mut Body, Refusal>
-        // As for `alone_mut`; a copy counts as its length. On an error, the bytes are as before.
+        // As `alone_mut`, but after a copy `copied` begins at the block's length. On an error, the bytes are as before.
         ensures* lends { sem 𝓛 (LendsSoOk Self.Block.row body_row block.entry result
             (λ n w. IfOk result (λ b. (bytes_of n ≡ w.bytes)
             × ((copied n ≡ copied block.old + (w.took - b.now.took))
@@ -80,9 +80,9 @@ pub trait Atomicity {
         ensures bytes { IfOk result (λ b. b.now.bytes ≡ bytes_of block.old) }
         ensures refusal { IfErr result (λ r. r ≡ Refusal.Memory) };
 
-    /// Moves the `keep` bytes from `start` on to the front of the block, and puts a tail after them: if this is the only
-    /// reference, the places don't overlap, and the capacity is enough. Returns whether it did. As in a new block, each byte
-    /// then counts as copied once. Takes time of the bytes that the block has then.
+    /// Moves the `keep` bytes from `start` on to the front of the block and appends a tail, if this is the only
+    /// reference, the two ranges don't overlap and the capacity is enough; returns whether it did. Each byte of the
+    /// block then counts as copied once, as in a new block. Takes time linear in the block's new length.
     fn compact(block: &mut Self::Block, start: usize, keep: usize, tail: Tail) -> bool
         requires { start + keep ≤ length (bytes_of block.old) }
         ensures bytes { result ≡ true →
@@ -91,12 +91,12 @@ pub trait Atomicity {
         ensures bytes_kept { result ≡ false → bytes_of block.new ≡ bytes_of block.old }
         ensures copied_kept { result ≡ false → copied block.new ≡ copied block.old };
 
-    /// The bytes out of the block, or the block back if there are other references.
+    /// Takes the bytes out of the block, or returns the block if there are other references.
     fn into_sole(block: Self::Block) -> Result<Sole, Self::Block>
         ensures bytes { IfOk result (λ s. s ≡ bytes_of block) }
         ensures back { IfErr result (λ b. b ≡ block) };
 
-    /// A block of these bytes, with one reference. The kinds here allocate nothing, and so return no error.
+    /// A block of these bytes, with one reference. The kinds of this crate allocate nothing and return no error.
     fn from_sole(sole: Sole) -> Result<Self::Block, (Refusal, Sole)>
         ensures bytes { IfOk result (λ b. bytes_of b ≡ sole) }
         ensures copied { IfOk result (λ b. copied b ≡ length sole) }

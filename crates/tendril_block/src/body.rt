@@ -1,4 +1,4 @@
-//! The bytes of a block, as its only reference sees them, which may change them.
+//! The bytes of a block, which its only reference may change.
 ghost use Rattle.std.specs.Prelude.{◌≡◌, ◌+◌, ◌<◌, ◌≤◌, ◌++◌, [], length, take, drop, replicate, slice_set, true, false, IfOk, IfErr, OnOk, OnErr};
 ghost use Rattle.tendril_block.specs.Tail.{tail_bytes};
 
@@ -9,7 +9,7 @@ use crate::tail::Tail;
 use std::alloc::Global;
 use std::marker::Model;
 
-/// The bytes of a block and how many were copied into it: borrowed by the only reference.
+/// The bytes of a block and how many were copied into it. Only a block's only reference borrows it mutably.
 #[derive(Drop)]
 pub struct Body {
     stored: Stored,
@@ -41,7 +41,7 @@ impl Body {
         }
     }
 
-    /// A copy of these bytes with this capacity.
+    /// A copy of these bytes with at least this capacity.
     pub(crate) fn copy(alloc: Global, bytes: &[u8], capacity: usize) -> Result<Self, Refusal>
         ensures bytes { IfOk result (λ b. b.bytes ≡ bytes.now) }
         ensures took { IfOk result (λ b. b.took ≡ length bytes.now) }
@@ -64,7 +64,7 @@ impl Body {
         self.took = none.plus(&none, &none, len);
     }
 
-    /// Replaces all bytes by these.
+    /// Replaces all bytes by those of a vector, which is moved in.
     pub(crate) fn adopt(&mut self, bytes: Vec<u8>)
         ensures bytes { self.new.bytes ≡ bytes.items }
         ensures took { self.new.took ≡ self.old.took + length bytes.items }
@@ -102,7 +102,7 @@ impl Body {
         self.stored.make_room(count)
     }
 
-    /// Appends bytes, in amortized time of their number.
+    /// Appends bytes, in amortized time linear in their number.
     pub fn append(&mut self, more: &[u8]) -> Result<(), Refusal>
         ensures bytes { OnOk result (self.new.bytes ≡ self.old.bytes ++ more.now) }
         ensures took { OnOk result (self.new.took ≡ self.old.took + length more.now) }
@@ -114,7 +114,7 @@ impl Body {
         Ok(())
     }
 
-    /// Appends bytes if the block has exactly `at` bytes, more than 40, and the spare capacity; returns whether it did.
+    /// Appends bytes if there are exactly `at` bytes, in a vector with enough spare capacity; returns whether it did.
     /// Never allocates.
     #[inline(always)]
     pub fn append_at(&mut self, at: usize, more: &[u8]) -> bool
@@ -130,7 +130,7 @@ impl Body {
         true
     }
 
-    /// Appends `count` zeros, in amortized time of their number.
+    /// Appends `count` zeros, in amortized time linear in their number.
     pub fn append_zeros(&mut self, count: usize) -> Result<(), Refusal>
         ensures bytes { OnOk result (self.new.bytes ≡ self.old.bytes ++ replicate count 0) }
         ensures took { OnOk result (self.new.took ≡ self.old.took + count) }
@@ -141,8 +141,8 @@ impl Body {
         self.replace_end(len, Tail::Zeros(count))
     }
 
-    /// Replaces all bytes from `keep` on, in amortized time of the number of new bytes. If this returns an error, nothing is
-    /// cut off.
+    /// Replaces all bytes from `keep` on by a tail, in amortized time linear in the number of new bytes. On an error,
+    /// nothing changes.
     pub fn replace_end(&mut self, keep: usize, tail: Tail) -> Result<(), Refusal>
         ensures bytes { OnOk result (self.new.bytes ≡ take keep self.old.bytes ++ tail_bytes tail.entry) }
         ensures took { OnOk result (self.new.took ≡ self.old.took + length (tail_bytes tail.entry)) }
@@ -165,8 +165,8 @@ impl Body {
         Ok(())
     }
 
-    /// Moves the `keep` bytes from `start` on to the front, and puts a tail after them, if the places don't overlap and the
-    /// capacity is enough; returns whether it did. Takes time of the bytes that the block has then.
+    /// Moves the `keep` bytes from `start` on to the front and appends a tail, if the two ranges don't overlap and the
+    /// capacity is enough; returns whether it did. Takes time linear in the block's new length.
     pub(crate) fn compact(&mut self, start: usize, keep: usize, tail: Tail) -> bool
         requires { start + keep ≤ length self.old.bytes }
         ensures bytes { result ≡ true →
@@ -203,7 +203,7 @@ impl Body {
         self.bytes_mut()[index] = byte;
     }
 
-    /// The bytes, to write over in place.
+    /// Borrows the bytes mutably, to overwrite them in place.
     pub fn bytes_mut(&mut self) -> &mut [u8]
         ensures* lends { sem 𝓛 (Lends the_row (Array u8 0) self.entry result (overwritten self.old)) }
         ensures bytes { result.now ≡ self.old.bytes }

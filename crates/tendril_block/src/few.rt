@@ -1,4 +1,4 @@
-//! Few bytes, in the value itself, with their number in one byte.
+//! Few bytes, stored in the value itself, with their number in one byte.
 ghost use Rattle.std.specs.Prelude.{◌≡◌, ◌+◌, ◌≤◌, ◌++◌, [], length, take, drop};
 ghost use Rattle.std.specs.List.{refill};
 ghost use Rattle.tendril_block.specs.Tail.{tail_bytes, tail_room};
@@ -11,8 +11,8 @@ use std::marker::Model;
 /// The most bytes that are stored in the counted node itself, so that one allocation holds both.
 pub const NODE_CAPACITY: usize = 40;
 
-/// At most `NODE_CAPACITY` bytes. What the array holds after them belongs to no text.
-// An array with its length in one byte makes a node of 56 bytes. With the length in a word it has 64, for which `malloc` takes
+/// At most `NODE_CAPACITY` bytes. The array's bytes after them have no meaning.
+// With the length in one byte a node has 56 bytes. With a length of 8 bytes it would have 64, for which `malloc` takes
 // 80.
 #[derive(Drop)]
 pub(crate) struct Few {
@@ -31,7 +31,7 @@ impl Model for Few {
     ghost invariant = { λ f. (f.len ≤ 40) × (length f.cells.bytes ≡ 40) };
 }
 
-// An array in a struct of its own, so that a contract can say what a borrow of its first bytes leaves.
+// The array is in a struct of its own, so that a contract can say what it is after a borrow of its first bytes.
 #[derive(Drop)]
 struct Cells {
     bytes: [u8; 40],
@@ -50,7 +50,7 @@ impl Cells {
         &mut self.bytes[..len]
     }
 
-    // Writes bytes over those from `start` on.
+    // Overwrites the bytes from `start` on.
     fn write(&mut self, start: usize, bytes: &[u8])
         requires { start + length bytes.now ≤ 40 }
         ensures front { take (start + length bytes.now) self.new.bytes ≡ take start self.old.bytes ++ bytes.now }
@@ -60,8 +60,8 @@ impl Cells {
     }
 }
 
-// Writes at most 40 bytes over as many others. Five words, which may overlap, cover 8 bytes and more: a call of std's copy
-// costs more, and branches on the length, where here no branch depends on it.
+// Copies at most 40 bytes over as many others. Five copies of 8 bytes each, which may overlap, cover any 8 to 40 bytes:
+// no further branch depends on the length. A call of std's copy branches on it, and costs more.
 #[inline(always)]
 fn put_words(place: &mut [u8], bytes: &[u8])
     requires few { length bytes.now ≤ 40 }
@@ -81,7 +81,7 @@ fn put_words(place: &mut [u8], bytes: &[u8])
     put_word(place, bytes, last);
 }
 
-// Writes eight bytes, from a place on, over those at the same place.
+// Copies the eight bytes from `at` on over those at the same offset of `place`.
 #[inline(always)]
 fn put_word(place: &mut [u8], bytes: &[u8], at: usize)
     requires in_place { at + 8 ≤ length place.old }

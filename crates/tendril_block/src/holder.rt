@@ -1,4 +1,4 @@
-//! What the references to a block have in common, however they are counted.
+//! References to a block and the calls of `Atomicity` on them, for every kind of counting.
 ghost use Rattle.std.specs.Prelude.{◌≡◌, ℕ, ◌+◌, ◌-◌, ◌⊎◌, length, IfOk, IfErr, IfSome};
 ghost use Rattle.std.specs.Borrow.{LendsSo, sem};
 ghost use Rattle.tendril_block.specs.contracts.body.Body.{the_row as body_row};
@@ -14,8 +14,8 @@ use crate::tail::Tail;
 use std::alloc::Global;
 use std::marker::PhantomData;
 
-/// Blocks of at most N references, taken as 1 where N is 0 and as `MAX_HOLDERS` where N is more. Their kind says in which
-/// threads the references may be.
+/// Blocks of at most N references. N = 0 means 1, and a greater N than `MAX_HOLDERS` means `MAX_HOLDERS`. The kind K
+/// says in which threads the references may be.
 pub struct CountedBy<K, const N: u64> {
     kind: PhantomData<K>,
 }
@@ -24,7 +24,8 @@ pub struct CountedBy<K, const N: u64> {
 #[derive(Drop)]
 pub struct Holder<K: Kind, const N: u64> {
     pointer: Pointer<K, N>,
-    // What the body had taken when this reference was made or last the only one, and what this one had taken by then.
+    // `since`: how many bytes had been copied into the body when counting for this reference last began; 0 in a new
+    // block. `before`: how many bytes count as copied for this reference up to then.
     since: Copied,
     before: Copied,
 }
@@ -41,7 +42,7 @@ impl<K: Kind, const N: u64> Atomicity for CountedBy<K, N> {
         let Ok(mut pointer) = Pointer::make(alloc, Body::empty(alloc)) else {
             return Err((Refusal::Memory, bytes));
         };
-        // The vector goes in once the node is allocated, so that it can be returned if that fails.
+        // The vector is moved in after the node is allocated, so that it can be returned if that fails.
         match pointer.alone_mut() {
             Some(body) => body.adopt(bytes),
             None => return Err((Refusal::Memory, bytes)),
@@ -134,7 +135,7 @@ impl<K: Kind, const N: u64> Holder<K, N> {
         }
     }
 
-    // Counts what the body takes from here on, and keeps what it took before.
+    // Adds to `before` what was copied into the body so far, and counts anew from here.
     fn settle(&mut self)
         ensures pointer { self.new.pointer ≡ self.old.pointer }
         ensures since { self.new.since.bytes ≡ self.old.pointer.node.inner.took }
@@ -150,7 +151,7 @@ impl<K: Kind, const N: u64> Holder<K, N> {
         self.since = since;
     }
 
-    // If there are other references, a copy of the block takes its place.
+    // Replaces the block by a copy, if there are other references.
     fn own(&mut self) -> Result<(), Refusal>
         ensures bytes { self.new.pointer.node.inner.bytes ≡ self.old.pointer.node.inner.bytes }
         ensures copied { (self.new ≡ self.old)

@@ -1,7 +1,7 @@
 //! Blocks of bytes that several references share: where long texts are stored.
 //!
-//! Contracts see a block as a list of bytes and the number `copied` of bytes that were copied for this reference. Only a
-//! sole reference may change the bytes, so what is done through one is never seen by another.
+//! Contracts see a block as a list of bytes and the number `copied` of bytes that were copied for this reference. Bytes
+//! are changed only through a block's only reference, so no reference sees the changes of another.
 #![tactic(auto)]
 
 mod atomic;

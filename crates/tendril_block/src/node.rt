@@ -1,7 +1,7 @@
-//! The node of a block: one allocation with the word that counts its references, and the body.
+//! The node of a block: one allocation with the count of its references and the body.
 //!
-//! All functions with a raw pointer are here. What a reference owns is said in `specs/Owned`, by the machine of
-//! `tendril_count` and the rule in which a node's word is kept.
+//! All functions with a raw pointer are here. `specs/Owned` defines what a reference owns, by the abstract machine of
+//! `tendril_count` and the invariant that owns a node's count.
 
 pub(crate) mod any_thread;
 pub(crate) mod handle;

@@ -1,4 +1,4 @@
-//! A counted pointer to a body: a handle of a node, one of at most N.
+//! A counted pointer to a body: a `Handle` of a node that has at most N of them.
 ghost use Rattle.std.specs.Prelude.{◌≡◌, length, IfOk, IfErr, IfSome};
 ghost use Rattle.std.specs.Borrow.{LendsSo, sem};
 ghost use Rattle.tendril_block.specs.Owned.{limit};
@@ -11,7 +11,8 @@ use crate::node::kind::Kind;
 use crate::sole::Sole;
 use std::alloc::Global;
 
-/// A pointer to a body, one of at most N, taken as 1 where N is 0 and as `MAX_HOLDERS` where N is more.
+/// A pointer to a body that has at most N of them. N = 0 means 1, and a greater N than `MAX_HOLDERS` means
+/// `MAX_HOLDERS`.
 #[derive(Drop)]
 pub(crate) struct Pointer<K: Kind, const N: u64> {
     node: Handle<K>,
@@ -21,7 +22,7 @@ pub(crate) struct Pointer<K: Kind, const N: u64> {
 impl<K: Kind, const N: u64> Pointer<K, N> {
     ghost use Rattle.tendril_block.specs.contracts.pointer.Pointer.{the_row};
 
-    /// The only pointer to a body, or the body back if its allocation fails.
+    /// Allocates a node for a body and returns its only pointer, or the body if the allocation fails.
     pub(crate) fn make(alloc: Global, body: Body) -> Result<Self, Body>
         ensures inner { IfOk result (λ p. p.node.inner ≡ body) }
         ensures back { IfErr result (λ b. b ≡ body) }
@@ -30,7 +31,7 @@ impl<K: Kind, const N: u64> Pointer<K, N> {
         Ok(Pointer { node })
     }
 
-    /// Adds a pointer, unless there are as many as there can be.
+    /// Adds a pointer, unless there are already as many as N allows.
     pub(crate) fn share(&self) -> Option<Self>
         ensures { IfSome result (λ p. p.node.inner ≡ self.now.node.inner) }
     {
@@ -44,12 +45,12 @@ impl<K: Kind, const N: u64> Pointer<K, N> {
         self.node.body()
     }
 
-    /// Whether this was the only pointer when the word was loaded. It may be stale.
+    /// Whether this was the only pointer when the count was loaded. It may be stale.
     pub(crate) fn is_alone(&self) -> bool {
         self.node.is_alone()
     }
 
-    /// The body, to change it, if this is the only pointer.
+    /// Borrows the body mutably, if this is the only pointer.
     pub(crate) fn alone_mut(&mut self) -> Option<&mut Body>
         ensures* lends { sem 𝓛 (LendsSo (the_row K.row N.row K.Kind) body_row self.entry result
             (λ n w. n.node.inner ≡ w)
@@ -59,7 +60,7 @@ impl<K: Kind, const N: u64> Pointer<K, N> {
         self.node.alone_mut()
     }
 
-    /// The bytes out of the block, or the pointer back if there are others.
+    /// Takes the bytes out of the block, or returns the pointer if there are others.
     pub(crate) fn into_sole(self) -> Result<Sole, Self>
         ensures bytes { IfOk result (λ s. s ≡ self.node.inner.bytes) }
         ensures back { IfErr result (λ p. p ≡ self) }

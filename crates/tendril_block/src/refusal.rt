@@ -8,7 +8,7 @@ use std::{fmt, io};
 
 /// Why a call failed: the error of every call here. The numbers and names are part of the product: programs print them.
 ///
-/// Where several apply, the first of this order is returned: 13, 14, 5, 6, 4, 7, 1, 3, 2.
+/// If several apply, a call returns the first in this order: 13, 14, 5, 6, 4, 7, 1, 3, 2.
 #[derive(Clone, Copy, Debug, PartialEq, Eq, Hash)]
 pub enum Refusal {
     /// The resulting text would have more than 4294967295 bytes.
@@ -19,7 +19,7 @@ pub enum Refusal {
     Count = 3,
     /// The bytes aren't valid in the format.
     Invalid = 4,
-    /// An offset, a length or an index past the text.
+    /// An offset, a length or an index is past the text.
     OutOfBounds = 5,
     /// The slice isn't valid in the format.
     ValidationFailed = 6,
@@ -105,7 +105,7 @@ impl<T: Drop> From<AllocFailed<T>> for Refusal {
     }
 }
 
-/// `Memory` where the error is `OutOfMemory`, else `Io`, so that `?` passes up a failed read or write.
+/// `Memory` if the error is `OutOfMemory`, else `Io`, so that `?` passes up a failed read or write.
 impl From<io::Error> for Refusal {
     ghost use Rattle.std.specs.Prelude.{◌⊎◌};
     ghost use Rattle.tendril_block.specs.declared.refusal.Refusal.TheVariants.{Io, Memory};
@@ -120,7 +120,7 @@ impl From<io::Error> for Refusal {
     }
 }
 
-/// The refusal of a call that returns its argument with it, so that `?` passes it up. The argument is dropped.
+/// The error of a call that also returns its argument, so that `?` passes up the error. The argument is dropped.
 impl<T: Drop> From<(Refusal, T)> for Refusal {
     ghost from_gives = { λ refused r. r ≡ refused.0 };
 

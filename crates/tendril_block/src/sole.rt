@@ -1,4 +1,4 @@
-//! Bytes that have left their block.
+//! Bytes taken out of their block.
 ghost use Rattle.std.specs.Prelude.{◌≡◌, IfOk, IfErr, length};
 
 use crate::body::Body;
@@ -7,7 +7,8 @@ use crate::refusal::Refusal;
 use std::alloc::Global;
 use std::marker::Model;
 
-/// The bytes of a block that had one reference, in its node, which may become a block of another atomicity.
+/// Bytes in a node without references: taken from a block that had only one, or copied. A block of any atomicity can be
+/// created from them.
 #[derive(Drop)]
 pub struct Sole {
     node: Box<Node>,
@@ -20,7 +21,7 @@ impl Model for Sole {
 
     ghost view = { λ s. s.node.value.body.bytes };
 
-    // As the first reference to the node needs it.
+    // The first reference to the node needs this count.
     ghost invariant = { λ s. s.node.value.count ≡ 1 };
 }
 
@@ -32,7 +33,7 @@ impl Sole {
         Sole { node }
     }
 
-    /// A copy of bytes. Few take one allocation, more take two.
+    /// A copy of bytes. Up to 40 (`NODE_CAPACITY`) take one allocation, more take two.
     pub fn copy(alloc: Global, bytes: &[u8]) -> Result<Self, Refusal>
         ensures bytes { IfOk result (λ s. s ≡ bytes.now) }
         ensures refusal { IfErr result (λ r. r ≡ Refusal.Memory) }

@@ -27,7 +27,7 @@ impl Stored {
         Stored::Small(few)
     }
 
-    /// A copy of these bytes with this capacity.
+    /// A copy of these bytes with at least this capacity.
     pub(crate) fn copy(alloc: Global, bytes: &[u8], capacity: usize) -> Result<Self, Refusal>
         ensures bytes { IfOk result (λ s. stored_bytes s ≡ bytes.now) }
         ensures refusal { IfErr result (λ r. r ≡ Refusal.Memory) }
@@ -93,7 +93,7 @@ impl Stored {
         Ok(())
     }
 
-    /// Appends bytes if the block has exactly `at` bytes, in a vector with the spare capacity; returns whether it did.
+    /// Appends bytes if there are exactly `at` bytes, in a vector with enough spare capacity; returns whether it did.
     #[inline(always)]
     pub(crate) fn append_at(&mut self, at: usize, more: &[u8]) -> bool
         ensures bytes { result ≡ true → stored_bytes self.new ≡ stored_bytes self.old ++ more.now }
@@ -109,7 +109,7 @@ impl Stored {
         }
     }
 
-    /// Replaces all bytes from `keep` on, where there is capacity for the new ones.
+    /// Replaces all bytes from `keep` on by a tail, for which there is capacity.
     pub(crate) fn replace_end(&mut self, keep: usize, tail: Tail)
         requires { HasRoom self.old (min keep (length (stored_bytes self.old)) + tail_room tail) }
         ensures { stored_bytes self.new ≡ take keep (stored_bytes self.old) ++ tail_bytes tail.entry }

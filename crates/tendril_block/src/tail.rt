@@ -1,10 +1,10 @@
-//! What is put at the end of a block.
+//! What is appended to a block.
 ghost use Rattle.std.specs.Prelude.{◌≡◌, ◌+◌, ◌≤◌, length, IfSome};
 ghost use Rattle.tendril_block.specs.Tail.{tail_bytes, tail_room};
 
 use crate::atomicity::MAX_LEN;
 
-/// What a block gets after the bytes that it keeps.
+/// What is appended to the bytes that a block keeps.
 #[derive(Clone, Copy)]
 pub enum Tail<'a> {
     /// Two slices, one after the other.
@@ -16,7 +16,7 @@ pub enum Tail<'a> {
 }
 
 impl Tail<'_> {
-    /// The number of bytes that are put at the end. It fits a text.
+    /// The number of bytes that are appended, which must be at most `MAX_LEN`.
     pub fn len(&self) -> usize
         requires { length (tail_bytes self.now) ≤ MAX_LEN }
         ensures { result ≡ length (tail_bytes self.now) }
@@ -28,7 +28,7 @@ impl Tail<'_> {
         }
     }
 
-    /// The capacity that this needs after `kept` bytes.
+    /// The capacity that `kept` bytes and this tail need, or `None` if it overflows.
     pub(crate) fn total(&self, kept: usize) -> Option<usize>
         ensures { IfSome result (λ total. total ≡ kept + tail_room self.now) }
     {

@@ -1,4 +1,4 @@
--- Each step keeps what is counted.
+-- Each step keeps the invariant of the machine.
 use Rattle.std.proofs.Common.{◌≡◌, ◌⊎◌, inl, inr, ⊎_elim, ℕ, zero, suc, ◌+◌, ◌-◌, ◌%◌, ◌^◌, ◌<◌, ◌≤◌, Bool, true, false, List, [], ◌∷◌, ◌++◌, length, refl, sym, ◌∙◌, ap, subst, arith, if◌then◌else◌, ◌==◌, nat_eq, ltb, ltb-true, eqb-true}
 use Rattle.std.proofs.lemmas.Bool.{eqb-false}
 use borrow.Author.Tests.{clash}
@@ -16,7 +16,7 @@ moved f [] k x live = omega (arith, live)
 moved f (h ∷ hs) zero x live = omega arith
 moved f (h ∷ hs) (suc k) x live = omega (arith, moved f hs k x live)
 
--- the same, where the holder is known
+-- `moved`, for a known reference h
 pub changed : (f : Holder → ℕ) (hs : List Holder) (k : ℕ) (x h : Holder) → holder_at hs k ≡ h → is_held h ≡ 1 → total f (becomes hs k x) + f h ≡ total f hs + f x
 changed f hs k x h is live = subst (λ y. total f (becomes hs k x) + f y ≡ total f hs + f x) is (moved f hs k x (ap is_held is ∙ live))
 
@@ -34,13 +34,13 @@ pub no_more : (hs : List Holder) → total is_surplus hs ≤ total is_held hs
 no_more [] = omega arith
 no_more (h ∷ hs) = omega (arith, no_more hs, one_of h)
 
--- a holder is counted
+-- a reference that exists is counted
 pub counts_at : (f : Holder → ℕ) (hs : List Holder) (k : ℕ) (h : Holder) → holder_at hs k ≡ h → is_held h ≡ 1 → f h ≤ total f hs
 counts_at f [] k h is live = omega (arith, ap is_held is, live)
 counts_at f (x ∷ hs) zero h is live = omega (arith, ap f is)
 counts_at f (x ∷ hs) (suc k) h is live = omega (arith, counts_at f hs k h is live)
 
--- the first entry that is this goes
+-- one entry is removed
 dropped : (t : ℕ) (ts : List ℕ) → has t ts ≡ true → length (without t ts) + 1 ≡ length ts
 dropped t [] e = absurd (clash e)
 dropped t (x ∷ xs) e = go (x == t) (dropped t xs) e
@@ -56,7 +56,7 @@ fewer (Reads t ∷ hs) = omega (arith, fewer hs)
 fewer (Writes t ∷ hs) = omega (arith, fewer hs)
 fewer (Surplus t ∷ hs) = omega (arith, fewer hs)
 
--- beside one that doesn't write
+-- if one reference doesn't write, fewer write than exist
 beside : (hs : List Holder) (k : ℕ) (h : Holder) → holder_at hs k ≡ h → is_held h ≡ 1 → is_writer h ≡ 0 → total is_writer hs < total is_held hs
 beside [] k h is live reads = omega (arith, ap is_held is, live)
 beside (x ∷ hs) zero h is live reads = omega (arith, ap is_held is, ap is_writer is, live, reads, fewer hs)
@@ -84,7 +84,7 @@ module _ (limit : ℕ) (low : IsLimit limit) (b : Block) (kept : Kept limit b) w
   small : b.word + 1 < 2 ^ 64
   small = omega (arith, kept.word, kept.within, low.1, no_more b.holders)
 
-  -- nobody writes beside one that reads
+  -- no reference writes while one reads
   quiet : (k t : ℕ) → holder_at b.holders k ≡ Reads t → total is_writer b.holders ≡ 0
   quiet k t is = elim (zero_or (total is_writer b.holders)) [
     | inl none ↦ none
@@ -118,7 +118,7 @@ module _ (limit : ℕ) (low : IsLimit limit) (b : Block) (kept : Kept limit b) w
         before = λ some. omega (arith, kept.before (omega (arith, counts_at is_held b.holders k (Reads t) is refl)));
       }
 
-  -- the holder changes and the counts stay
+  -- a reference changes its state and the counts stay
   same_kept : (k : ℕ) (x h : Holder) → holder_at b.holders k ≡ h → is_held h ≡ 1 → is_held x ≡ 1 → is_surplus x ≡ is_surplus h → (0 < total is_writer (becomes b.holders k x) → b.word ≡ 1) → Kept limit (with_holder b k x)
   same_kept k x h is live lives same writes =
       let c = changed is_held b.holders k x h is live in let s = changed is_surplus b.holders k x h is live in
@@ -268,7 +268,7 @@ none_in hs j none = elim (ended_or (holder_at hs j)) [
     lt_irr : 0 < 0 → ⊥
     lt_irr p = omega (arith, p)
 
--- where there is one holder, no other number is one
+-- if only one reference exists, every other has ended
 pub sole : (hs : List Holder) (j k t : ℕ) → holder_at hs k ≡ Writes t → total is_held hs ≤ 1 → (j ≡ k) ⊎ (holder_at hs j ≡ Ended)
 sole [] j k t is one = inr refl
 sole (h ∷ hs) zero zero t is one = inl refl

@@ -1,4 +1,4 @@
--- The invariant is made, and made again once a writer is done. Assumes `Logic`.
+-- The invariant is created, and again when a writer is done. Assumes `Logic`.
 use Rattle.std.proofs.Common.{◌≡◌, ℕ, ◌<◌, Bool, true, [], ◌∷◌, refl, lit<, arith, ap, sym, subst}
 use seplogic.Ra.Ura.{Ura}
 use base.Fraction.{full_share}
@@ -20,7 +20,7 @@ use Rattle.tendril_count.specs.Rule.{Role, Reader, Writer, role, roles, role_cod
 use Rattle.tendril_count.proofs.Reached.{begun, reached_step, reached_kept}
 use Rattle.tendril_count.proofs.Steps.{marked}
 
--- R Q says that Q is kept, as by an invariant
+-- `R Q` says that Q is kept by an invariant
 module _ {M : Type 1} {𝓤 : Ura M} (𝓛 : Logic 𝓤) (R : Fml → Fml) (keeps : (Q : Fml) → ent 𝓤 (sem 𝓛 Q) (𝓛.H.⇛ (sem 𝓛 (R Q)))) (whose : Threads) (limit : ℕ) (P : Fml) (b o : ℕ) where
   open 𝓛 use {H, A}
 
@@ -41,7 +41,7 @@ module _ {M : Type 1} {𝓤 : Ura M} (𝓛 : Logic 𝓤) (R : Fml → Fml) (keep
   abbrev c : Role → base.Stored.Gv
   c = role_coded.code
 
-  -- one holder, by the lifetime a and the name γ, and the borrow of what is shared
+  -- what the only reference owns, by the lifetime a and the ghost name γ, and the borrow of the content P
   abbrev pub first_holder : ℕ → ℕ × ℕ → Fml
   first_holder k i = fsep (fsep (R (Inv c whose limit P b o i.0 i.1)) (fsep (mark c i.1 k Reader) (part 63 i.0))) (fbor (i.0 ∷ []) P)
 
@@ -63,7 +63,7 @@ module _ {M : Type 1} {𝓤 : Ura M} (𝓛 : Logic 𝓤) (R : Fml → Fml) (keep
       qed 𝓛 (‵ (word b o 1) ∷ ‵ P ∷ []) ∵ updating ! $ use0 𝓛 (later (some (λ (γ : ℕ). ‵ (roster c γ 0 (Reader ∷ [])) ⊛ ‵ (mark c γ 0 Reader)))) (begins 𝓛 role_coded Reader) $ await ! tt $ pick ! (λ γ. split ! $
       move ! (2 ∷ 0 ∷ 1 ∷ 3 ∷ []) $ types.Kit.group ! 4 $ use1 𝓛 (later (‵ (fex (ℕ × ℕ) (first_holder 0)))) (opens_with s γ 0 (begun whose limit t turn) refl refl) $ await ! tt $ now ! $ done !)
 
-  -- who writes is done: the machine goes on from where it stood
+  -- a writer is done: the machine continues from its state
   pub resumed : (low : IsLimit limit) (γ k t : ℕ) → ⟦ mark c γ k Writer ⟧ ∗ (⟦ word b o 1 ⟧ ∗ (⟦ fex Block (λ s. fsep (roster c γ 0 (roles s.holders)) (fact (IsReached whose limit s × (s.word ≡ 1) × (holder_at s.holders k ≡ Writes t)))) ⟧ ∗ ⟦ P ⟧)) ⊢ H.⇛ ⟦ fex (ℕ × ℕ) (first_holder k) ⟧
   resumed low γ k t =
       qed 𝓛 (‵ (mark c γ k Writer) ∷ ‵ (word b o 1) ∷ ‵ (fex Block (λ s. fsep (roster c γ 0 (roles s.holders)) (fact (IsReached whose limit s × (s.word ≡ 1) × (holder_at s.holders k ≡ Writes t))))) ∷ ‵ P ∷ []) ∵ updating ! $

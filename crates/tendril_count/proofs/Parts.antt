@@ -1,4 +1,4 @@
--- A share of a holder's mark is cut and joined, and says what the holder is. Assumes `Logic`.
+-- A share of a mark is split and joined, and agrees with the machine. Assumes `Logic`.
 use Rattle.std.proofs.Common.{◌≡◌, ℕ, zero, suc, ◌+◌, List, [], ◌∷◌, refl, sym, subst, arith}
 use mathlib.Mathlib.Data.Part.{◌∈◌, mem_unique}
 use seplogic.Ra.Pcs.{OpDef-comm}
@@ -71,6 +71,6 @@ module _ {M : Type 1} {𝓤 : Ura M} (𝓛 : Logic 𝓤) (γ : ℕ) where
   told_from (w ∷ ws) n (suc i) j r h e = qed 𝓛 ((‵ (S n quarter (role w)) ⊛ ‵ (roster c γ (suc n) (roles ws))) ∷ ‵ (S j r h) ∷ []) ∵ split ! $ move ! (1 ∷ 2 ∷ []) $
       use2 𝓛 (given (role (holder_at ws i) ≡ h) (‵ (roster c γ (suc n) (roles ws)) ⊛ ‵ (S j r h))) (told_from ws (suc n) i j r h (omega arith)) $ learn ! (λ at. check ! at $ split ! $ move ! (2 ∷ 0 ∷ []) $ join ! $ done !)
 
-  -- a share of a mark says what the machine has there
+  -- a share of a mark has the role of the reference in the machine
   pub told : (hs : List Holder) (k : ℕ) (r : Share) (h : Role) → ⟦ roster c γ 0 (roles hs) ⟧ ∗ ⟦ S k r h ⟧ ⊢ guard 𝓤 (role (holder_at hs k) ≡ h) (⟦ roster c γ 0 (roles hs) ⟧ ∗ ⟦ S k r h ⟧)
   told hs k r h = told_from hs 0 k k r h (omega arith)

@@ -1,4 +1,4 @@
--- The machine's words, and what a step makes of a block that was reached.
+-- Roles of references, and the blocks that lists of steps lead to.
 use borrow.Author.Tests.{clash}
 use Rattle.std.specs.Prelude.{⊤}
 use Rattle.std.proofs.Common.{◌≡◌, ℕ, zero, suc, ◌+◌, ◌-◌, ◌%◌, ◌^◌, Bool, true, false, List, [], ◌∷◌, ◌++◌, length, set, refl, sym, ◌∙◌, ap, subst, arith, eq-eqb, if◌then◌else◌, ◌==◌, ltb}
@@ -37,7 +37,7 @@ at_becomes [] k h is = absurd (omega (arith, is))
 at_becomes (x ∷ hs) zero h is = refl
 at_becomes (x ∷ hs) (suc k) h is = at_becomes hs k h is
 
--- who reads does so on some thread
+-- a reference that reads is on some thread
 pub reads_on : (h : Holder) → role h ≡ Reader → (t : ℕ) × (h ≡ Reads t)
 reads_on Ended is = absurd (omega (arith, ap number is))
 reads_on (Reads t) is = (t, refl)
@@ -63,7 +63,7 @@ pub reached_step : (whose : Threads) (limit : ℕ) (b : Block) → IsReached who
 reached_step Any limit b is s one = by_any limit b is s
 reached_step (Only t) limit b is s one = (is.0 ++ s ∷ [], all_stay-append is.0 s is.1 one, ap (λ (x : Block). happens limit x s) is.2 ∙ sym (run-append limit is.0 s (happens limit nothing (Make t))))
 
--- what one thread's steps lead to, any threads' do
+-- a block that one thread's steps lead to is one that any threads' steps lead to
 pub by_some : (whose : Threads) (limit : ℕ) (b : Block) → IsReached whose limit b → IsReached Any limit b
 by_some Any limit b is = is
 by_some (Only t) limit b is = (t, is.0, is.2)
@@ -75,7 +75,7 @@ begun (Only thread) limit t turn = ([], refl, ap (λ (u : ℕ). happens limit no
 pub reached_kept : (whose : Threads) (limit : ℕ) → IsLimit limit → (b : Block) → IsReached whose limit b → Kept limit b
 reached_kept whose limit low b is = let any = by_some whose limit b is in subst (Kept limit) (sym any.2) (after_kept limit any.0 any.1 low)
 
--- whether a holder is this thread's, if it is one
+-- a reference has ended or is on thread t
 abbrev IsOn : ℕ → Holder → Type 0
 IsOn t Ended = ⊤
 IsOn t (Reads u) = t ≡ u
@@ -161,11 +161,11 @@ own_run t limit (s ∷ steps) b own all = go (stays s) refl all (λ is rest. own
     go true is rest goes = goes is rest
     go false is rest goes = absurd (clash rest)
 
--- the steps of one thread leave all holders with it
+-- after steps of one thread all references are on it
 reached_own : (t limit : ℕ) (b : Block) → IsReached (Only t) limit b → IsOwn t b
 reached_own t limit b is = subst (IsOwn t) (sym is.2) (own_run t limit is.0 (happens limit nothing (Make t)) (refl, (refl, tt)) is.1)
 
--- before its step a holder passes to the thread that takes the step
+-- a reference passes to the thread that takes its next step
 pub reached_pass : (whose : Threads) (limit : ℕ) (b : Block) (k t u : ℕ) → IsTurn whose u → IsReached whose limit b → holder_at b.holders k ≡ Reads t → IsReached whose limit (with_holder b k (Reads u))
 reached_pass Any limit b k t u turn is at = subst (IsReached Any limit) (ap (pass_by b k u) at) (by_any limit b is (Pass k u))
 reached_pass (Only thread) limit b k t u turn is at =
@@ -176,7 +176,7 @@ no_duties : (ts : List ℕ) → length ts ≡ 0 → ts ≡ []
 no_duties [] e = refl
 no_duties (t ∷ ts) e = absurd (omega (arith, e))
 
--- who finds 1 was the last holder, and has the duty
+-- a `Subtract` that finds 1 ends the last reference, and its thread has the duty
 pub last_one : (whose : Threads) (limit : ℕ) → IsLimit limit → (b : Block) (k t : ℕ) (h : Holder) → IsReached whose limit b → holder_at b.holders k ≡ h → is_held h ≡ 1 → b.word ≡ 1
     → (held (subtracted b k Ended t) ≡ 0) × (b.frees ≡ 0) × ((if b.word == 1 then t ∷ b.duties else b.duties) ≡ t ∷ [])
 last_one whose limit low b k t h is at live one =
@@ -186,7 +186,7 @@ last_one whose limit low b k t h is at live one =
       ap (λ (y : Bool). if y then t ∷ b.duties else b.duties) (eq-eqb b.word 1 one) ∙ ap (λ (ts : List ℕ). t ∷ ts) (no_duties b.duties (omega (arith, before))),
     )
 
--- of a writer that gives its holder up, by its machine before: nobody holds the block then, and its thread has the duty
+-- the block after the `Subtract` of a writer: it has no references, and thread t has the duty
 abbrev pub IsGivenUp : ℕ → Block → ℕ → Type 0
 IsGivenUp limit b t = IsReached Any limit b × (b.word ≡ 0) × ((held b ≡ 0) × (b.frees ≡ 0) × (b.duties ≡ t ∷ []))
 
@@ -197,7 +197,7 @@ given_up whose limit low b k t is at one = (
   last_one whose limit low b k t (Writes t) is at refl one,
 )
 
--- of a block that was freed
+-- the block was freed
 abbrev pub IsFreed : ℕ → Block → Type 0
 IsFreed limit b = IsReached Any limit b × (b.frees ≡ 1) × (b.duties ≡ [])
 

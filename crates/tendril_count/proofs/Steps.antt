@@ -1,4 +1,4 @@
--- One step on a block's word, under its invariant. Assumes `Logic`.
+-- One step on a block's count, under its invariant. Assumes `Logic`.
 use Rattle.std.proofs.Common.{◌≡◌, ◌≢◌, ℕ, ◌+◌, ◌-◌, ◌%◌, ◌^◌, ◌<◌, Bool, true, false, List, [], ◌∷◌, ◌++◌, refl, sym, ◌∙◌, ap, subst, arith, w64, lt-ltb, eq-eqb, ne_eqb, eqb, if◌then◌else◌}
 use mathlib.Core.Option.{some}
 use mathlib.Core.List.{Mem, not-mem-nil}
@@ -60,7 +60,7 @@ module _ {M : Type 1} {𝓤 : Ura M} (𝓛 : Logic 𝓤) (whose : Threads) (limi
   abbrev Beside : Block → Fml
   Beside = beside c whose limit P b o a γ
 
-  -- the rest of a step, with the invariant open
+  -- the remainder of a step, with the invariant open
   abbrev Goes : ℕ → Fml → Pr
   Goes j Q = shifted 𝓛 (if_none 𝓛 ⟦ Q ⟧) ((j, I) ∷ [])
 
@@ -102,14 +102,14 @@ module _ {M : Type 1} {𝓤 : Ura M} (𝓛 : Logic 𝓤) (whose : Threads) (limi
               assume ! (‵ (word b o (f s.word))) $ by ! (law j s g.1.fits))))
 
   module _ (low : IsLimit limit) where
-    -- a holder has a part of the token, so the lifetime is alive
+    -- a reference owns a part of the token, so the lifetime is alive
     pub part_alive : (X : Pr) → ⟦ fdead (a ∷ []) ⟧ ∗ (X ∗ ⟦ part 63 a ⟧) ⊢ never 𝓤
     part_alive X = qed 𝓛 (‵ (fdead (a ∷ [])) ∷ raw X ∷ ‵ (part 63 a) ∷ []) ∵ move ! (2 ∷ []) $ fpick ! (λ e. fpick ! (λ n. move ! (0 ∷ 1 ∷ []) $ use2 𝓛 (raw (never 𝓤)) (𝓛.lfts.lft-dead (a ∷ []) e) $ by ! (via 𝓤 _ (base.Logic.fst∗ 𝓤 (never 𝓤) X) (id⊢ 𝓤 (never 𝓤)))))
 
     pub share_alive : (X : Pr) (q : Share) → ⟦ fdead (a ∷ []) ⟧ ∗ (X ∗ A.lft (a ∷ []) q) ⊢ never 𝓤
     share_alive X q = qed 𝓛 (‵ (fdead (a ∷ [])) ∷ raw X ∷ ‵ (flft (a ∷ []) q) ∷ []) ∵ move ! (2 ∷ 0 ∷ []) $ use2 𝓛 (raw (never 𝓤)) (𝓛.lfts.lft-dead (a ∷ []) q) $ by ! (via 𝓤 _ (base.Logic.fst∗ 𝓤 (never 𝓤) X) (id⊢ 𝓤 (never 𝓤)))
 
-    -- who has the content and is alive has a live block
+    -- the invariant is open and the lifetime alive: the block is live
     abbrev pub LiveBeside : Pr → Block → Pr
     LiveBeside X s = guard 𝓤 (s.word < 2 ^ 64) (⟦ word b o s.word ⟧ ∗ (⟦ Beside s ⟧ ∗ X))
 
@@ -125,17 +125,17 @@ module _ {M : Type 1} {𝓤 : Ura M} (𝓛 : Logic 𝓤) (whose : Threads) (limi
     pub token_alive : (q : Share) → ⟦ fdead (a ∷ []) ⟧ ∗ A.lft (a ∷ []) q ⊢ never 𝓤
     token_alive q = qed 𝓛 (‵ (fdead (a ∷ [])) ∷ ‵ (flft (a ∷ []) q) ∷ []) ∵ move ! (1 ∷ 0 ∷ []) $ by ! (𝓛.lfts.lft-dead (a ∷ []) q)
 
-    -- a live block's word is not 0
+    -- a live block's count is not 0
     pub some_word : (s : Block) → ⟦ Beside s ⟧ ⊢ guard 𝓤 (0 < s.word) ⟦ Beside s ⟧
     some_word s = qed 𝓛 (‵ (Beside s) ∷ []) ∵ fsplit ! $ move ! (1 ∷ []) $ fsplit ! $ fpick ! (λ so. check ! (let kept = reached_kept whose limit low s so.0 in omega (arith, kept.word, so.1)) $
         fpack ! (IsReached whose limit s × (0 < held s)) (λ _. ftrue) so $ fjoin ! $ move ! (1 ∷ 0 ∷ []) $ fjoin ! $ done !)
 
-    -- a load that is no step, by a share of the token
+    -- a load that isn't a step needs only a share of the token
     pub peeks : (q : Share) → A.inv I ∗ A.lft (a ∷ []) q ⊢ asks 𝓛 (block_ptr b o) (λ n. n) always (λ _. flft (a ∷ []) q)
     peeks q = let Q : Fml = flft (a ∷ []) q in opened (λ n. n) (λ _. Q) (A.lft (a ∷ []) q) (qed 𝓛 (‵ (fdead (a ∷ [])) ∷ ‵ Q ∷ []) ∵ move ! (1 ∷ 0 ∷ []) $ by ! (𝓛.lfts.lft-dead (a ∷ []) q)) (λ j s fits.
         via 𝓤 (⟦ I ⟧ ∗ ⟦ Q ⟧) (qed 𝓛 (‵ (word b o s.word) ∷ ‵ (Beside s) ∷ ‵ Q ∷ []) ∵ fjoin ! $ fpack ! Block (live c whose limit P b o a γ) s $ fpack ! Bool (state c whose limit P b o a γ) true $ done !) (now j Q))
 
-    -- what the holder's mark says of the machine, and its move there
+    -- a reference's mark agrees with the machine, and changes with it
     pub marked : (s : Block) (k : ℕ) (r : Role) (h : Holder) → ⟦ roster c γ 0 (roles s.holders) ⟧ ∗ ⟦ mark c γ k r ⟧
         ⊢ guard 𝓤 (role (holder_at s.holders k) ≡ r) (upd 𝓤 (⟦ roster c γ 0 (roles (becomes s.holders k h)) ⟧ ∗ ⟦ mark c γ k (role h) ⟧))
     marked s k r h = let rs : List Role = roles s.holders in qed 𝓛 (‵ (roster c γ 0 rs) ∷ ‵ (mark c γ k r) ∷ []) ∵
@@ -143,7 +143,7 @@ module _ {M : Type 1} {𝓤 : Ura M} (𝓛 : Logic 𝓤) (whose : Threads) (limi
         use1 𝓛 (raw (Moved 𝓛 role_coded γ 0 rs k k (role h))) (all_e 𝓤 (Moved 𝓛 role_coded γ 0 rs k k) (role h)) $
         by ! (subst (λ (hs : List Role). Moved 𝓛 role_coded γ 0 rs k k (role h) ⊢ upd 𝓤 (⟦ roster c γ 0 hs ⟧ ∗ ⟦ mark c γ k (role h) ⟧)) (set_is s.holders k h) (id⊢ 𝓤 _)))
 
-    -- a holder that reads passes to the thread that takes its next step
+    -- a reference that reads passes to the thread that takes its next step
     turned : (s : Block) (k u : ℕ) (r : Share) → IsTurn whose u → ⟦ Beside s ⟧ ∗ ⟦ seen c γ k r Reader ⟧
         ⊢ guard 𝓤 (holder_at (becomes s.holders k (Reads u)) k ≡ Reads u) (⟦ Beside (with_holder s k (Reads u)) ⟧ ∗ ⟦ seen c γ k r Reader ⟧)
     turned s k u r turn = let s' : Block = with_holder s k (Reads u) in let mine : Fml = seen c γ k r Reader in
@@ -155,7 +155,7 @@ module _ {M : Type 1} {𝓤 : Ura M} (𝓛 : Logic 𝓤) (whose : Threads) (limi
         -- [roster; mark; rest and P]
         move ! (2 ∷ []) $ nothing ! $ fpack ! (IsReached whose limit s' × (0 < held s')) (λ _. ftrue) (reached_pass whose limit s k on.0 u turn so.0 on.1, omega (arith, same, so.1)) $ fjoin ! $ move ! (1 ∷ 0 ∷ []) $ fjoin ! $ done !))
 
-    -- the invariant again, with the word that the machine has
+    -- the invariant is closed again, with the count of the machine
     shut : (s : Block) → IsReached whose limit s → 0 < held s → ⟦ word b o s.word ⟧ ∗ (⟦ roster c γ 0 (roles s.holders) ⟧ ∗ (⟦ rest 63 a (held s) ⟧ ∗ ⟦ flent (a ∷ []) P ⟧)) ⊢ ⟦ I ⟧
     shut s is more = qed 𝓛 (‵ (word b o s.word) ∷ ‵ (roster c γ 0 (roles s.holders)) ∷ ‵ (rest 63 a (held s)) ∷ ‵ (flent (a ∷ []) P) ∷ []) ∵
         move ! (2 ∷ 3 ∷ []) $ fjoin ! $ nothing ! $ fpack ! (IsReached whose limit s × (0 < held s)) (λ _. ftrue) (is, more) $ fjoin ! $ move ! (2 ∷ 0 ∷ []) $ fjoin ! $ move ! (1 ∷ 0 ∷ []) $ fjoin ! $
@@ -164,7 +164,7 @@ module _ {M : Type 1} {𝓤 : Ura M} (𝓛 : Logic 𝓤) (whose : Threads) (limi
     reached : (s : Block) (e : CountStep) (s' : Block) → happens limit s e ≡ s' → stays e ≡ true → IsReached whose limit s → IsReached whose limit s'
     reached s e s' is stay so = subst (IsReached whose limit) is (reached_step whose limit s so e stay)
 
-    -- the add that goes on only where the word is still old, which is below the limit. A share of the mark is enough
+    -- `Add` by compare and exchange of `old`, which is below the limit. A share of the mark is enough
     module _ (k t : ℕ) (turn : IsTurn whose t) (r q : Share) (old : ℕ) (lower : old < limit) where
       abbrev pub Joins : ℕ → Fml
       Joins n = fsep (seen c γ k r Reader) (fsep (flft (a ∷ []) q) (fex Bool (join_gives c whose limit P b o a γ old n)))
@@ -195,7 +195,7 @@ module _ {M : Type 1} {𝓤 : Ura M} (𝓛 : Logic 𝓤) (whose : Threads) (limi
           -- [rest; P; roster; the share; word; the token]
           move ! (4 ∷ 2 ∷ 0 ∷ 1 ∷ 3 ∷ 5 ∷ []) $ by ! (grown s' so.0 so.1 at same)))
 
-      -- the same for one thread, where it found old
+      -- the `Add` of a block of one thread, which found `old`
       pub joins_plainly : (s : Block) → s.word ≡ old → ⟦ word b o (old + 1) ⟧ ∗ (⟦ Beside s ⟧ ∗ (⟦ seen c γ k r Reader ⟧ ∗ A.lft (a ∷ []) q)) ⊢ H.⇛ (⟦ I ⟧ ∗ ⟦ Joins s.word ⟧)
       joins_plainly s same = let is : one_more s.word ≡ old + 1 = ap (λ (y : Bool). either y (old + 1) s.word) (eq-eqb s.word old same) in
           via 𝓤 (upd 𝓤 (⟦ I ⟧ ∗ ⟦ Joins s.word ⟧)) (qed 𝓛 (‵ (word b o (old + 1)) ∷ ‵ (Beside s) ∷ ‵ (seen c γ k r Reader) ∷ ‵ (flft (a ∷ []) q) ∷ []) ∵ rewrite ! 0 (λ (m : ℕ). ‵ (word b o m)) (sym is) refl $ by ! (found_same s same)) (basic 𝓛 _)
@@ -215,7 +215,7 @@ module _ {M : Type 1} {𝓤 : Ura M} (𝓛 : Logic 𝓤) (whose : Threads) (limi
       abbrev Mine : Fml
       Mine = mark c γ k Reader
 
-      -- the machine after the holder passed to the thread that takes the step
+      -- the machine after the reference passed to the thread that takes the step
       abbrev Turned : Block → Block
       Turned s = with_holder s k (Reads t)
 
@@ -228,11 +228,11 @@ module _ {M : Type 1} {𝓤 : Ura M} (𝓛 : Logic 𝓤) (whose : Threads) (limi
       single : (s : Block) → IsReached whose limit s → 0 < held s → s.word ≡ 1 → held s ≡ 1
       single s is some_held one = let kept = reached_kept whose limit low s is in omega (arith, kept.word, one, some_held)
 
-      -- what the rule has but the token, the word at n
+      -- what the step owns apart from the token, with the count n
       abbrev Taken : Block → ℕ → Pr
       Taken s n = ⟦ flent (a ∷ []) P ⟧ ∗ (⟦ roster c γ 0 (roles s.holders) ⟧ ∗ (⟦ word b o n ⟧ ∗ ⟦ Mine ⟧))
 
-      -- who found 1 has the whole token
+      -- a step that found 1 owns the whole token
       gathers : (s : Block) (n : ℕ) → s.word ≡ 1 → ⟦ word b o n ⟧ ∗ (⟦ Beside s ⟧ ∗ (⟦ Mine ⟧ ∗ ⟦ part 63 a ⟧)) ⊢ guard 𝓤 (Told (Turned s)) (A.lft (a ∷ []) full_share ∗ Taken (Turned s) n)
       gathers s n one = let s' : Block = Turned s in
           qed 𝓛 (‵ (word b o n) ∷ ‵ (Beside s) ∷ ‵ Mine ∷ ‵ (part 63 a) ∷ []) ∵ move ! (1 ∷ 2 ∷ []) $
@@ -240,14 +240,14 @@ module _ {M : Type 1} {𝓤 : Ura M} (𝓛 : Logic 𝓤) (whose : Threads) (limi
           -- [rest; P; roster; mark; word; part]
           rewrite ! 0 (λ (m : ℕ). ‵ (rest 63 a m)) (single s' so.0 so.1 one) refl $ move ! (0 ∷ 5 ∷ []) $ use2 𝓛 (‵ (flft (a ∷ []) full_share)) (whole 63 𝓛 a) $ move ! (0 ∷ 1 ∷ 2 ∷ 4 ∷ 3 ∷ []) $ done !))
 
-      -- who has the whole token takes all that the invariant has
+      -- with the whole token everything is taken out of the invariant
       goes_out : (Is : Block → Type 0) (s : Block) → IsReached whose limit s → Is s → (n : ℕ) → s.word ≡ n → ⟦ fdead (a ∷ []) ⟧ ∗ (⟦ word b o s.word ⟧ ∗ (⟦ roster c γ 0 (roles s.holders) ⟧ ∗ ⟦ flent (a ∷ []) P ⟧)) ⊢ ⟦ Leaves Is n ⟧
       goes_out Is s is so n same = qed 𝓛 (‵ (fdead (a ∷ [])) ∷ ‵ (word b o s.word) ∷ ‵ (roster c γ 0 (roles s.holders)) ∷ ‵ (flent (a ∷ []) P) ∷ []) ∵ rewrite ! 1 (λ (m : ℕ). ‵ (word b o m)) same refl $
           move ! (2 ∷ []) $ nothing ! $ fpack ! (IsReached whose limit s × (s.word ≡ n) × Is s) (λ _. ftrue) (is, same, so) $ move ! (1 ∷ 0 ∷ []) $ fjoin ! $
           fpack ! Block (λ s'. fsep (roster c γ 0 (roles s'.holders)) (fact (IsReached whose limit s' × (s'.word ≡ n) × Is s'))) s $
           move ! (3 ∷ 0 ∷ []) $ fjoin ! $ move ! (1 ∷ 0 ∷ []) $ fjoin ! $ move ! (1 ∷ 0 ∷ []) $ fjoin ! $ done !
 
-      -- the load
+      -- the load of `Alone`
       abbrev pub Seen : ℕ → Fml
       Seen n = fex Bool (alone_gives c whose limit P b o a γ k t n)
 
@@ -272,7 +272,7 @@ module _ {M : Type 1} {𝓤 : Ura M} (𝓛 : Logic 𝓤) (whose : Threads) (limi
           sees_one j s one = let X : Pr = Taken (Turned s) s.word in qed 𝓛 (‵ (word b o s.word) ∷ ‵ (Beside s) ∷ ‵ Mine ∷ ‵ (part 63 a) ∷ []) ∵ group ! 4 $
               use1 𝓛 (given (Told (Turned s)) (‵ (flft (a ∷ []) full_share) ⊛ raw X)) (gathers s s.word one) $ learn ! (λ so. by ! (ending j X (Seen s.word) (writes (Turned s) so one)))
 
-      -- the same for one thread, which holds the invariant's content while it looks
+      -- the load of a block of one thread, which owns the content of the invariant meanwhile
       pub looks_plainly : (s : Block) → ⟦ word b o s.word ⟧ ∗ (⟦ Beside s ⟧ ∗ (⟦ Mine ⟧ ∗ ⟦ part 63 a ⟧)) ⊢ H.⇛ (⟦ I ⟧ ∗ ⟦ Seen s.word ⟧)
       looks_plainly s = dite (ℕ_discrete s.word 1)
           (λ one. let X : Pr = Taken (Turned s) s.word in qed 𝓛 (‵ (word b o s.word) ∷ ‵ (Beside s) ∷ ‵ Mine ∷ ‵ (part 63 a) ∷ []) ∵ updating ! $ group ! 4 $
@@ -281,7 +281,7 @@ module _ {M : Type 1} {𝓤 : Ura M} (𝓛 : Logic 𝓤) (whose : Threads) (limi
           use1 𝓛 (later (‵ (Seen s.word))) (basic 𝓛 ⟦ Seen s.word ⟧) $ await ! tt $ move ! (1 ∷ []) $ fpack ! Bool (state c whose limit P b o a γ) false $ Kit.now ! $ done !))
           (λ more. via 𝓤 (⟦ I ⟧ ∗ ⟦ Seen s.word ⟧) (reads_on_as_before s more) (𝓛.laws.⇛_intro _))
 
-      -- the subtract
+      -- `Subtract`
       abbrev pub Given : ℕ → Fml
       Given n = fex Bool (subtract_gives c whose limit P b o a γ t n)
 
@@ -320,7 +320,7 @@ module _ {M : Type 1} {𝓤 : Ura M} (𝓛 : Logic 𝓤) (whose : Threads) (limi
           takes_one j s one = let X : Pr = Taken (Turned s) (less s.word) in qed 𝓛 (‵ (word b o (less s.word)) ∷ ‵ (Beside s) ∷ ‵ Mine ∷ ‵ (part 63 a) ∷ []) ∵ group ! 4 $
               use1 𝓛 (given (Told (Turned s)) (‵ (flft (a ∷ []) full_share) ⊛ raw X)) (gathers s (less s.word) one) $ learn ! (λ so. by ! (ending j X (Given s.word) (frees (Turned s) so one)))
 
-      -- the same for one thread
+      -- `Subtract` of a block of one thread
       pub subtracts_plainly : (s : Block) → ⟦ word b o (less s.word) ⟧ ∗ (⟦ Beside s ⟧ ∗ (⟦ Mine ⟧ ∗ ⟦ part 63 a ⟧)) ⊢ H.⇛ (⟦ I ⟧ ∗ ⟦ Given s.word ⟧)
       subtracts_plainly s = let Z : Pr = ⟦ I ⟧ ∗ ⟦ Given s.word ⟧ in dite (ℕ_discrete s.word 1)
           (λ one. let X : Pr = Taken (Turned s) (less s.word) in qed 𝓛 (‵ (word b o (less s.word)) ∷ ‵ (Beside s) ∷ ‵ Mine ∷ ‵ (part 63 a) ∷ []) ∵ updating ! $ group ! 4 $

@@ -1,5 +1,6 @@
--- A counted block as a machine. A step of a holder is one exchange or load on the block's word of 64 bits. Holders are
--- numbered in the order in which they were made, and a number is never used again. Only holders read.
+-- A counted block as an abstract machine. A step is one access to the block's count of 64 bits (`word`) for one
+-- reference (`Holder`). References are numbered in the order in which they were created, and no number is used again. A
+-- block is read only through a reference.
 use Rattle.std.specs.Prelude.{
   ◌≡◌,
   ◌⊎◌,
@@ -26,12 +27,12 @@ use Rattle.std.specs.Prelude.{
 }
 use lib.Dec.{ltb}
 
--- what a number stands for: a holder that has ended, or a holder of this thread
+-- the state of a reference: it has ended, or it is one of this thread
 pub data Holder : Type 0 where
   Ended : Holder
   Reads : (thread : ℕ) → Holder
   Writes : (thread : ℕ) → Holder
-  -- its add found the limit: a surplus holder stands beside it, whose only step is its subtract
+  -- its `Add` found the limit, and it has a surplus reference, whose only step is `Subtract`
   Surplus : (thread : ℕ) → Holder
 
 pub record Block : Type 0 where
@@ -42,7 +43,7 @@ pub record Block : Type 0 where
   pub duties : List ℕ
   pub frees : ℕ
 
--- five kinds of step, the end of a write, and the pass of a holder to another thread
+-- the steps: `Done` ends a write, and `Pass` moves a reference to another thread
 pub data CountStep : Type 0 where
   Make : (thread : ℕ) → CountStep
   Add : (holder : ℕ) → CountStep
@@ -57,13 +58,13 @@ holder_at [] k = Ended
 holder_at (h ∷ hs) zero = h
 holder_at (h ∷ hs) (suc k) = holder_at hs k
 
--- the same holders, where holder k is now x
+-- the references, with x in place of reference k
 abbrev pub becomes : List Holder → ℕ → Holder → List Holder
 becomes [] k x = []
 becomes (h ∷ hs) zero x = x ∷ hs
 becomes (h ∷ hs) (suc k) x = h ∷ becomes hs k x
 
--- the list without the first of its entries that is this
+-- the list without its first entry that equals t
 abbrev pub without : ℕ → List ℕ → List ℕ
 without t [] = []
 without t (x ∷ xs) = if x == t then xs else x ∷ without t xs
@@ -72,11 +73,11 @@ abbrev pub has : ℕ → List ℕ → Bool
 has t [] = false
 has t (x ∷ xs) = if x == t then true else has t xs
 
--- nothing is there yet
+-- the state before `Make`
 abbrev pub nothing : Block
 nothing = record { made = false; word = 0; holders = []; duties = []; frees = 0 }
 
--- one add, by what it found: a new holder below the limit, else a surplus one
+-- an `Add`, by whether it found a count below the limit: it creates a reference, else a surplus one
 abbrev pub added : ℕ → Block → ℕ → ℕ → Bool → Block
 added limit b k t true =
     record {
@@ -95,7 +96,7 @@ added limit b k t false =
       frees = b.frees;
     }
 
--- one subtract of thread t: who found 1 has the duty to free
+-- a `Subtract` by thread t: if it found 1, the thread has the duty to free
 abbrev pub subtracted : Block → ℕ → Holder → ℕ → Block
 subtracted b k h t =
     record {
@@ -120,7 +121,7 @@ abbrev pub add_by : ℕ → Block → ℕ → Holder → Block
 add_by limit b k (Reads t) = added limit b k t (ltb b.word limit)
 add_by limit b k h = b
 
--- allowed where the load finds 1
+-- allowed if the load finds 1
 abbrev pub alone_by : Block → ℕ → Holder → Block
 alone_by b k (Reads t) = if b.word == 1 then with_holder b k (Writes t) else b
 alone_by b k h = b
@@ -139,7 +140,7 @@ abbrev pub pass_by : Block → ℕ → ℕ → Holder → Block
 pass_by b k t (Reads s) = with_holder b k (Reads t)
 pass_by b k t h = b
 
--- A step that is not allowed leaves the block as it is. A load that finds more than 1 is no step.
+-- One step. A step that isn't allowed changes nothing, nor does an `Alone` whose load finds more than 1.
 abbrev pub happens : ℕ → Block → CountStep → Block
 happens limit b (Make t) =
     if b.made then b else record { made = true; word = 1; holders = Reads t ∷ []; duties = []; frees = 0 }
@@ -163,18 +164,18 @@ abbrev pub run : ℕ → List CountStep → Block → Block
 run limit [] b = b
 run limit (s ∷ steps) b = run limit steps (happens limit b s)
 
--- after a make by this thread, and then these steps
+-- the state after `Make` by this thread, and then these steps
 abbrev pub after : ℕ → ℕ → List CountStep → Block
 after limit thread steps = run limit (Make thread ∷ steps) nothing
 
--- how many holders a number stands for, the surplus one left out
+-- 1 for a reference that exists, a surplus one not counted
 abbrev pub is_held : Holder → ℕ
 is_held Ended = 0
 is_held (Reads t) = 1
 is_held (Writes t) = 1
 is_held (Surplus t) = 1
 
--- how many surplus holders it stands for
+-- 1 for a reference that has a surplus one
 abbrev pub is_surplus : Holder → ℕ
 is_surplus Ended = 0
 is_surplus (Reads t) = 0
@@ -194,18 +195,18 @@ surplus b = total is_surplus b.holders
 abbrev pub IsLimit : ℕ → Type 0
 IsLimit limit = (0 < limit) × (limit ≤ 4294967295)
 
--- the word is the number of holders, and what bounds them
+-- the count is the number of references, and its bounds
 pub record IsCounted (limit : ℕ) (b : Block) : Type 0 where
   pub word : b.word ≡ held b + surplus b
   pub most : b.word ≤ 2 * limit
   pub within : held b ≤ limit
 
--- it is freed at most once, and never while it is held
+-- it is freed at most once, and never while a reference exists
 pub record IsFreedOnce (b : Block) : Type 0 where
   pub once : b.frees ≤ 1
   pub not_held : 0 < b.frees → (held b ≡ 0) × (surplus b ≡ 0)
 
--- a block without holders is freed, or one thread has the duty. A block with holders is nobody's duty
+-- without references the block is freed, or exactly one thread has the duty to free it; with references no thread has
 pub record IsOnesDuty (b : Block) : Type 0 where
   pub without_holders : held b ≡ 0 → ((b.frees ≡ 1) × (b.duties ≡ [])) ⊎ ((b.frees ≡ 0) × (length b.duties ≡ 1))
   pub with_holders : 0 < held b → (b.frees ≡ 0) × (b.duties ≡ [])
@@ -213,10 +214,10 @@ pub record IsOnesDuty (b : Block) : Type 0 where
 abbrev pub IsWriter : Block → ℕ → ℕ → Type 0
 IsWriter b k t = holder_at b.holders k ≡ Writes t
 
--- who writes is the only holder
+-- there is exactly one reference
 abbrev pub IsAlone : Block → Type 0
 IsAlone b = (held b ≡ 1) × (surplus b ≡ 0)
 
--- the steps of who writes
+-- the steps that end the write of reference k
 abbrev pub IsEndOfWrite : CountStep → ℕ → Type 0
 IsEndOfWrite s k = (s ≡ Done k) ⊎ (s ≡ Subtract k)

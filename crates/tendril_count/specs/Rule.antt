@@ -1,5 +1,6 @@
--- What an invariant holds of a counted block's word, and what a holder owns. The word lies at b, o. The holders share P
--- for the lifetime a, and each has one part in 2 ^ 63 of a's token. The name γ has each holder's role.
+-- The invariant of a counted block, and what a reference owns. The count is at offset o of the heap block b. The
+-- references borrow P for the lifetime a, and each owns one of 2 ^ 63 parts of a's token. The ghost name γ has the role
+-- of each reference.
 use mathlib.Core.Path.{sym, ap, ◌∙◌}
 use Rattle.std.specs.Prelude.{◌≡◌, ◌≢◌, refl, ℕ, zero, suc, ◌<◌, Bool, true, false, if◌then◌else◌, ⊤, List, [], ◌∷◌}
 use base.Stored.{Gv, Coded, coded_ℕ, coded_via}
@@ -27,12 +28,12 @@ use Rattle.tendril_count.specs.Machine.{
   holder_at,
 }
 
--- what a mark says of a holder: what it does, on whatever thread
+-- what the mark of a reference says that it does, on whatever thread
 pub data Role : Type 0 where
   Gone : Role
   Reader : Role
   Writer : Role
-  -- a surplus holder stands beside it
+  -- it has a surplus reference
   Owing : Role
 
 abbrev pub role : Holder → Role
@@ -63,16 +64,16 @@ back Reader = refl
 back Writer = refl
 back Owing = refl
 
--- how the ghost name says a role
+-- the ghost value of a role
 pub role_coded : Coded Role
 role_coded = coded_via coded_ℕ number (λ x y e. sym (back x) ∙ ap role_by e ∙ back y)
 
--- whose steps a rule allows: any thread's, to which holders pass, or those of one thread
+-- the threads whose steps are allowed: all threads, between which references may pass, or one
 pub data Threads : Type 0 where
   Any : Threads
   Only : (thread : ℕ) → Threads
 
--- whether a step leaves each holder with its thread
+-- whether a step leaves each reference on its thread
 abbrev pub stays : CountStep → Bool
 stays (Make t) = true
 stays (Add k) = true
@@ -86,7 +87,7 @@ abbrev pub all_stay : List CountStep → Bool
 all_stay [] = true
 all_stay (s ∷ steps) = if stays s then all_stay steps else false
 
--- a block that some list of these threads' steps leads to
+-- some list of these threads' steps leads to the block
 abbrev pub IsReached : Threads → ℕ → Block → Type 0
 IsReached Any limit s = (thread : ℕ) × (steps : List CountStep) × (s ≡ after limit thread steps)
 IsReached (Only thread) limit s = (steps : List CountStep) × (all_stay steps ≡ true) × (s ≡ after limit thread steps)
@@ -97,7 +98,7 @@ IsTurn Any t = ⊤
 IsTurn (Only thread) t = thread ≡ t
 
 module _ (c : Role → Gv) where
-  -- the right to the steps of holder k
+  -- the mark of reference k: the right to its steps
   abbrev pub mark : ℕ → ℕ → Role → Fml
   mark γ k r = seen c γ k three_quarters r
 
@@ -113,11 +114,12 @@ module _ (c : Role → Gv) where
     state true = fex Block live
     state false = fdead (a ∷ [])
 
-    -- what holds between any two steps
+    -- the invariant: what holds between any two steps
     abbrev pub Inv : Fml
     Inv = fex Bool state
 
-    -- what who leaves with the word has: the word and P, and the machine as it stands
+    -- what a thread owns that took everything out of the invariant: the count n, P, and the machine, of which `Is`
+    -- holds
     abbrev pub out : (Block → Type 0) → ℕ → Fml
     out Is n = fsep (word b o n)
         (fsep (fdead (a ∷ []))
@@ -125,18 +127,18 @@ module _ (c : Role → Gv) where
         (fex Block (λ s. fsep (roster c γ 0 (roles s.holders))
         (fact (IsReached whose limit s × (s.word ≡ n) × Is s))))))
 
-    -- what an add gives that goes on only where the word is still old: a new holder where it found that
+    -- what an `Add` gives, by compare and exchange of `old`: a new reference if it found that
     abbrev pub join_gives : ℕ → ℕ → Bool → Fml
     join_gives old n true = fsep (fact (n ≡ old)) (fsep (fex ℕ (λ j. mark γ j Reader)) (part 63 a))
     join_gives old n false = fact (n ≢ old)
 
-    -- what a load that found n gives: alone at 1, else nothing new
+    -- what a load that found n gives: at 1 all that `out` owns, else nothing new
     abbrev pub alone_gives : ℕ → ℕ → ℕ → Bool → Fml
     alone_gives k t n true =
         fsep (fact (n ≡ 1)) (fsep (mark γ k Writer) (out (λ s. holder_at s.holders k ≡ Writes t) 1))
     alone_gives k t n false = fsep (fact (n ≢ 1)) (fsep (mark γ k Reader) (part 63 a))
 
-    -- what a subtract that found n gives: at 1 the duty to free, and all that is freed
+    -- what a `Subtract` that found n gives: at 1 the duty to free and all that `out` owns, else nothing
     abbrev pub subtract_gives : ℕ → ℕ → Bool → Fml
     subtract_gives t n true = fsep (fact (n ≡ 1)) (out (λ s. (held s ≡ 0) × (s.frees ≡ 0) × (s.duties ≡ t ∷ [])) 0)
     subtract_gives t n false = fact (n ≢ 1)

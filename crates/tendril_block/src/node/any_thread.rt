@@ -1,4 +1,4 @@
-//! References in any threads: the rule is kept by atomic steps on the node's word.
+//! References in any threads: atomic operations on the node's count keep its invariant.
 ghost use Rattle.std.specs.Prelude.{true, refl};
 
 use crate::node::kind::Kind;

@@ -1,4 +1,4 @@
-//! One reference to a node, whose kind says in which threads the others may be.
+//! One reference to a node. Its kind says in which threads the references may be.
 ghost use Rattle.std.specs.Prelude.{◌≡◌, ℕ, ◌+◌, ◌<◌, MatchResult, IfSome, IfOk};
 ghost use Rattle.std.specs.Borrow.{sem};
 ghost use Rattle.tendril_block.specs.Owned.{Crosses, block_owns, block_shares, BodyIn, body_coded, limit};
@@ -11,7 +11,7 @@ use crate::node::loose::Loose;
 use std::alloc::Global;
 use std::marker::{Model, PhantomData, Send};
 
-/// A reference, with the node's limit of references and its body.
+/// A reference to a node. In proofs it also has the node's limit of references and its body.
 pub(crate) struct Handle<K: Kind> {
     node: *mut Node,
     alloc: Global,
@@ -32,7 +32,7 @@ impl<K: Kind> Handle<K> {
     ghost use Rattle.std.specs.Borrow.{LendsIf};
     ghost use Rattle.tendril_block.specs.Written.{with_body};
 
-    /// The only reference to a new node, or the body back if its allocation fails.
+    /// Allocates a node and returns its only reference, or the body if the allocation fails.
     pub(crate) fn make(alloc: Global, limit: u64, body: Body) -> Result<Handle<K>, Body>
         ensures { MatchResult result (λ b. (b.limit ≡ limit) × (b.inner ≡ body)) (λ v. v ≡ body) }
     {
@@ -42,7 +42,7 @@ impl<K: Kind> Handle<K> {
         }
     }
 
-    /// The only reference to a node that belonged to nobody, with a word of 1.
+    /// The only reference to a node that had none, whose count is 1.
     pub(crate) fn from_node(node: Box<Node>, limit: u64) -> Handle<K>
         requires { node.value.count ≡ 1 }
         ensures { (result.limit ≡ limit) × (result.inner ≡ node.value.body) }
@@ -50,7 +50,7 @@ impl<K: Kind> Handle<K> {
         Handle::of(Loose::of(node), limit)
     }
 
-    // The first reference to a node whose word is 1.
+    // The first reference to a node whose count is 1.
     fn of(loose: Loose<Node, Global>, _limit: u64) -> Handle<K>
         requires { loose.value.count ≡ 1 }
         ensures { (result.limit ≡ _limit) × (result.inner ≡ loose.value.body) }
@@ -63,25 +63,25 @@ impl<K: Kind> Handle<K> {
         }
     }
 
-    /// The body, which nothing else changes.
+    /// The body, which no other reference changes.
     pub(crate) fn body(&self) -> &Body
         ensures { result.now ≡ self.now.inner }
     {
         unsafe { &(*self.node).body }
     }
 
-    // How many references there were when the word was loaded. It may be stale.
+    // How many references there were when the count was loaded. It may be stale.
     fn count(&self) -> u64 {
         let node = self.node;
         unsafe { K::peek(&raw mut (*node).count) }
     }
 
-    /// Whether this was the only reference when the word was loaded. It may be stale.
+    /// Whether this was the only reference when the count was loaded. It may be stale.
     pub(crate) fn is_alone(&self) -> bool {
         self.count() == 1
     }
 
-    // Adds a reference if the word is still `seen`. Else returns the word.
+    // Adds a reference if the count is still `seen`, else returns the count.
     fn add_at(&self, alloc: Global, seen: u64, next: u64) -> Result<Handle<K>, u64>
         requires below { seen < limit self.now.limit }
         requires next { next ≡ seen + 1 }
@@ -100,10 +100,10 @@ impl<K: Kind> Handle<K> {
         }
     }
 
-    // An add past the limit would make a surplus reference, which the thread must subtract before anything else, and through a
-    // `&` nothing could record that. The loop repeats only where another thread changed the word. With plain steps it has one
-    // round, and compiles to a load, a test and a store.
-    /// Adds a reference by compare and exchange, unless there are as many as there can be.
+    // An add past the limit would create a surplus reference, which the thread must subtract before anything else, and
+    // a `&` can't record that duty. The loop repeats only if another thread changed the count. Without atomics it has
+    // one iteration, and compiles to a load, a test and a store.
+    /// Adds a reference by compare and exchange, unless there are `most` already.
     pub(crate) fn share(&self, most: u64) -> Option<Handle<K>>
         requires { most ≡ limit self.now.limit }
         ensures { IfSome result (λ b. (b.limit ≡ self.now.limit) × (b.inner ≡ self.now.inner)) }
@@ -122,7 +122,7 @@ impl<K: Kind> Handle<K> {
         None
     }
 
-    /// The body, to change it, if this is the only reference.
+    /// Borrows the body mutably, if this is the only reference.
     pub(crate) fn alone_mut(&mut self) -> Option<&mut Body>
         ensures* lends { sem 𝓛 (LendsIf (the_row K.row K.Kind) BodyRow self.entry result (with_body self.old) self.old) }
         ensures bytes { IfSome result (λ v. v.now ≡ self.old.inner) }
@@ -135,8 +135,8 @@ impl<K: Kind> Handle<K> {
         unsafe { Some(&mut (*node).body) }
     }
 
-    // Gives the reference up if it is the only one, else returns it. The word stays 1: nothing else can read it any more, and
-    // the next first reference to the node needs that.
+    // Consumes the reference if it is the only one, else returns it. The count stays 1: nothing else can read it any
+    // more, and the node's next first reference needs a count of 1.
     fn take_alone(self) -> Result<Last, Handle<K>>
         ensures { MatchResult result (λ l. (l.count ≡ 1) × (l.inner ≡ self.inner)) (λ b. b ≡ self) }
     {
@@ -148,7 +148,7 @@ impl<K: Kind> Handle<K> {
         Ok(Last { node, alloc })
     }
 
-    /// The node, which belongs to nobody then, with a word of 1, or the reference back if there are others.
+    /// Takes the node, with a count of 1, or returns the reference if there are others.
     pub(crate) fn into_node(self) -> Result<Box<Node>, Handle<K>>
         ensures { MatchResult result
             (λ n. (n.value.count ≡ 1) × (n.value.body ≡ self.inner))
@@ -160,7 +160,7 @@ impl<K: Kind> Handle<K> {
         }
     }
 
-    // Gives the reference up. The last one gets the node, and the duty to free it.
+    // Subtracts the reference from the count. If it was the last one, returns the node, which must then be freed.
     fn release(self) -> Option<Last>
         ensures { IfSome result (λ l. l.inner ≡ self.inner) }
     {
@@ -186,5 +186,5 @@ impl<K: Kind> Drop for Handle<K> {
     }
 }
 
-// For a kind that may be in any threads the rule is kept by atomic steps.
+// A kind that is `Send` changes the count atomically.
 unsafe impl<K: Kind + Send> Send for Handle<K> {}

@@ -1,4 +1,4 @@
-//! The node of a block to which there is no reference any more.
+//! A node to which there is no reference any more.
 ghost use Rattle.std.specs.Prelude.{◌≡◌, ℕ};
 ghost use Rattle.std.specs.Borrow.{sem};
 ghost use Rattle.tendril_block.specs.Owned.{BodyIn, Id, body_coded, freed, last_owns};
@@ -9,12 +9,12 @@ use crate::node::loose::Loose;
 use std::alloc::Global;
 use std::marker::Model;
 
-/// A node that its last reference gave up, with the duty to free it. It can't be dropped otherwise.
+/// A node whose last reference is gone, and which must be freed by `free`: the compiler rejects dropping it.
 pub(crate) struct Last {
     pub(crate) node: *mut Node,
     pub(crate) alloc: Global,
     pub(crate) ghost limit: { ℕ },
-    // What the word still says.
+    // The number that is still in the node's count.
     pub(crate) ghost count: { ℕ },
     pub(crate) ghost inner: { BodyIn } by { body_coded },
 }
@@ -24,7 +24,7 @@ impl Model for Last {
 }
 
 impl Last {
-    /// The machine's free: gives the node back to the heap.
+    /// The node as its box's pointer, to be dropped or reused. This is the machine's `Free`.
     pub(crate) fn free(self) -> Loose<Node, Global>
         ensures node { (result.value.count ≡ self.count) × (result.value.body ≡ self.inner) }
         ensures* freed { sem 𝓛 (fex Id (freed self.limit)) }

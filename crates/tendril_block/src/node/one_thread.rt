@@ -1,4 +1,4 @@
-//! References that stay in one thread: the same rule, kept for that thread, on a plain word.
+//! References that stay in one thread: plain loads and stores of the node's count keep its invariant.
 ghost use Rattle.std.specs.Prelude.{false, []};
 ghost use base.Fml.{ftok};
 ghost use base.Mask.{every};
@@ -12,7 +12,7 @@ pub struct OneThread {
     stays: PhantomData<*const u8>,
 }
 
-// A value would own its thread's token, which no thread can give away. So the type can't go to another thread.
+// A value would own its thread's token, which can't leave the thread. So the type isn't `Send`.
 impl Model for OneThread {
     ghost also_owns = { λ _. ftok every };
 }

@@ -1,4 +1,4 @@
--- Each clause from what every step keeps.
+-- Each clause, from the invariant of the machine.
 use Rattle.std.proofs.Common.{◌≡◌, ◌⊎◌, inl, inr, ⊎_elim, ℕ, zero, suc, ◌+◌, ◌<◌, List, [], ◌∷◌, length, refl, ap, arith}
 use Rattle.tendril_count.specs.Machine.{CountStep, Make, Add, Alone, Done, Subtract, Free, Pass, Ended, IsEndOfWrite, Block, Writes, held, holder_at, is_held, IsCounted, IsFreedOnce, IsOnesDuty, IsWriter, IsAlone, happens}
 use Rattle.tendril_count.proofs.Kept.{Kept, after_kept, is_writer, counts_at, no_more, sole}
@@ -44,7 +44,7 @@ module _ (limit : ℕ) (b : Block) (kept : Kept limit b) where
       let there = counts_at is_held b.holders k (Writes t) is refl in
       (omega (arith, one, kept.word, there), omega (arith, one, kept.word, there))
 
-  -- another number is no holder while k writes
+  -- while k writes, every other reference has ended
   other : (k t j : ℕ) → IsWriter b k t → (j ≡ k) ⊎ (holder_at b.holders j ≡ Ended)
   other k t j is = sole b.holders j k t is (omega (arith, (writer k t is).0))
 

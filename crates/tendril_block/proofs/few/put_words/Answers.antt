@@ -3,11 +3,11 @@ use Rattle.std.proofs.lemmas.List.{take-take, take_at}
 use Rattle.std.proofs.Math.Seq.{take-length}
 use Rattle.tendril_block.proofs.few.put_words.Goals as goal
 
--- a list with the eight elements of another from a place on, at the same place
+-- ys with its eight elements from s on replaced by those of xs
 abbrev with_word : List ℕ → ℕ → List ℕ → List ℕ
 with_word xs s ys = take s ys ++ (take 8 (drop s xs) ++ drop (s + 8) ys)
 
--- a word that begins within equal fronts makes them longer
+-- a copy of eight elements that begins within the equal prefixes, or right after them, makes them longer
 word_joins : (m s : ℕ) (xs ys zs : List ℕ) → s ≤ m → s + 8 ≤ length xs → take m ys ≡ take m xs → zs ≡ with_word xs s ys → take (s + 8) zs ≡ take (s + 8) xs
 word_joins m s xs ys zs h k e put =
     let word : List ℕ = take 8 (drop s xs) in
@@ -18,7 +18,7 @@ word_joins m s xs ys zs h k e put =
     put ∙ ap (λ v. v ++ (word ++ rest)) front ∙ sym (append_assoc (take s xs) word rest) ∙ ap (λ v. v ++ rest) (sym (take-add s 8 xs)) in
     ap (take (s + 8)) whole ∙ take_at (take (s + 8) xs) rest (s + 8) (length-take-le (s + 8) xs k)
 
--- five words cover up to forty elements
+-- five copies of eight elements cover up to forty
 words_cover : (xs p a b c d e : List ℕ) → 8 ≤ length xs → length xs ≤ 40 → length e ≡ length xs → a ≡ with_word xs 0 p → b ≡ with_word xs (min (length xs - 8) 8) a → c ≡ with_word xs (min (length xs - 8) 16) b → d ≡ with_word xs (min (length xs - 8) 24) c → e ≡ with_word xs (length xs - 8) d → e ≡ xs
 words_cover xs p a b c d e long short len first second third fourth last =
     let n : ℕ = length xs - 8 in

@@ -1,4 +1,4 @@
--- `front_mut` lends the first bytes of an array: they are cut from the rest, and joined with it again at the end.
+-- `front_mut` borrows the first bytes of an array: they are split off, and joined with the others when the borrow ends.
 use Rattle.std.proofs.Common.{◌≡◌, ℕ, ◌+◌, ◌^◌, ◌<◌, ◌≤◌, List, [], ◌∷◌, ◌++◌, length, take, drop, take-append-drop, length-drop, length-append, length-take-le, refl, sym, ap, ◌∙◌, arith, w64}
 use Rattle.std.proofs.raw_atomic.Walks.{proved}
 use mir.Syntax.{named, w8, ty_int, ty_array, ty_struct}
@@ -54,7 +54,7 @@ S = cells_of.the_row
 abbrev members : List Member
 members = record { row = Array u8 40; ty = ty_array (ty_int w8) 40 } ∷ []
 
--- as many bytes as were lent, before the rest, are the array written over
+-- m bytes ws, then all but the first m of an array, are the array overwritten by ws
 whole_again : (m : ℕ) (xs ws : List ℕ) → m ≤ length xs → length ws ≡ m → ws ++ drop m xs ≡ refill (length xs) xs ws
 whole_again m xs ws le e =
     sym (take_all (length xs) (ws ++ drop m xs) (omega (arith, length-append ws (drop m xs), length-drop m xs, le, e))) ∙ ap (λ (k : ℕ). take (length xs) (ws ++ drop k xs)) (sym e)
@@ -77,7 +77,7 @@ module _ {M : Type 1} {𝓤 : Ura M} (𝓛 : Logic 𝓤) (κ : Lft) (q : Share) 
   abbrev past : ℕ → ℕ
   past = at (o + 0) (mem u8).size
 
-  -- what is left of the struct while its field is out
+  -- what is owned of the struct while its field is borrowed
   abbrev Left : Fml
   Left = fleft full_share (ty_struct [] (raw_tys members)) (raw_tys members) b o
 

@@ -1,4 +1,4 @@
--- `add` is one step on the word.
+-- `add` is one atomic operation on the count.
 use Rattle.std.proofs.Common.{◌≡◌, ℕ, ◌+◌, ◌<◌, ◌^◌, true, List, [], ◌∷◌, refl, sym, subst, eqb, w64}
 use Rattle.std.proofs.raw_atomic.Walks.{proved}
 use base.Logic.{ent, id⊢, via}

@@ -1,4 +1,4 @@
--- `alone` is one step on the word.
+-- `alone` is one atomic load of the count.
 use Rattle.std.proofs.Common.{ℕ, ◌^◌, true, List, [], ◌∷◌, refl, lit<, w64}
 use Rattle.std.proofs.raw_atomic.Walks.{proved}
 use base.Logic.{id⊢, via}

@@ -1,4 +1,4 @@
--- `peek` is one load of the word.
+-- `peek` is one atomic load of the count.
 use Rattle.std.proofs.Common.{ℕ, ◌^◌, true, List, [], ◌∷◌, refl, lit<, w64}
 use Rattle.std.proofs.raw_atomic.Walks.{proved}
 use base.Logic.{id⊢, via}

@@ -1,4 +1,4 @@
--- `subtract` is one step on the word.
+-- `subtract` is one atomic operation on the count.
 use Rattle.std.proofs.Common.{ℕ, ◌^◌, true, List, [], ◌∷◌, refl, lit<, w64}
 use Rattle.std.proofs.raw_atomic.Walks.{proved}
 use base.Logic.{id⊢, via}

@@ -1,4 +1,4 @@
--- A `&` to a holder holds a share of its token. Assumes `Logic`.
+-- A `&` to a handle owns a share of its lifetime's token. Assumes `Logic`.
 use Rattle.std.proofs.Common.{ℕ, ◌+◌, Bool, false, [], ◌∷◌}
 use seplogic.Ra.Ura.{Ura}
 use base.Logic.{ent}

@@ -1,4 +1,4 @@
--- A holder of a kind that crosses threads crosses them too: what it and the count's invariant own names no key.
+-- A handle of a kind that is `Send` is `Send` too: what it and the count's invariant own names no thread's key.
 use Rattle.std.proofs.Common.{◌≡◌, ℕ, ◌+◌, Bool, true, false, [], ◌∷◌, sym, subst}
 use denote.RattleType.{RattleType}
 use base.Fraction.{full_share}

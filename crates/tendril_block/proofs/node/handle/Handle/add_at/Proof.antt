@@ -1,4 +1,5 @@
--- `add_at` steps through a `&`, by shares of the lifetime's token and of the mark, and makes a holder where the step added one.
+-- `add_at` steps through a `&`, with shares of the lifetime's token and of the mark.
+-- If the step added a reference, the call returns it.
 use Rattle.std.proofs.Common.{◌≡◌, ℕ, ◌+◌, ◌^◌, ◌<◌, Bool, false, List, [], ◌∷◌, ◌++◌, refl, sym, ap, ◌∙◌, subst, lit<, w64}
 use lib.Dec.{eqb→eq}
 use mir.Syntax.{Dict, Fn, ty_ptr}
@@ -96,7 +97,7 @@ add_at_spec 𝓤 𝓛 𝓜 𝓡 wired K law k d met =
     move ! (6 ∷ 2 ∷ []) $ shr_bor-open ! tt (mark_halves 𝓛 i.1 i.2 Reader) (λ r.
     -- [the open mark; its share; the open token; its share; the pointer; invariant; shown; the handle; nothing]
     move ! (5 ∷ []) $ let P : Fml = rule shared l₀ me.alloc x pb po i in let Kept : Fml = rule_kept shared pb (po + 0) P in use1 𝓛 (‵ Kept ⊛ ‵ Kept) (kept_twice 𝓛 shared pb (po + 0) P) $ split ! $ move ! (3 ∷ 5 ∷ []) $ fjoin ! $ move ! (1 ∷ 0 ∷ []) $ fjoin ! $
-    -- [what the step asks; invariant; the open mark; the open token; the pointer; shown; the handle; nothing]
+    -- [what the step needs; invariant; the open mark; the open token; the pointer; shown; the handle; nothing]
     let w : Ptr = block_ptr pb (po + 0) in let g : Joining = ((l₀, me.alloc, x, po, i), s, r) in let y : step.Ghost = ((κs.1, z.0.1.1, tt, (w, (old, (new, tt))), (ptr_val w ∷ [], (vint w64 old ∷ [], (vint w64 new ∷ [], tt)))), g) in
     use0 𝓛 (raw (fact 𝓤 (new ≡ old + 1))) (fact_i 𝓤 (new ≡ old + 1) (emp 𝓤) next) $ join ! $ use0 𝓛 (raw (fact 𝓤 (old < limit l₀))) (fact_i 𝓤 (old < limit l₀) (emp 𝓤) below) $ join ! $ use0 𝓛 (raw (fact 𝓤 (κs.1.0 ⊑ K.lives))) (fact_i 𝓤 (κs.1.0 ⊑ K.lives) (emp 𝓤) le) $ join ! $
     nothing ! $ flt_i ! new (2 ^ 64) are.1.1.1.0.1 $ feq_i ! (List Val) (vint w64 new ∷ []) (vint w64 new ∷ []) refl $ fjoin ! $ fjoin ! $

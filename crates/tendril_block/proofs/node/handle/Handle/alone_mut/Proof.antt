@@ -1,4 +1,4 @@
--- `alone_mut` lends the list of a holder that was found alone. The rest of the node comes back with the list.
+-- `alone_mut` borrows the body of the only reference. When the borrow ends, it is joined with the node's other parts.
 use Rattle.std.proofs.Common.{◌≡◌, ℕ, ◌+◌, Bool, false, List, [], ◌∷◌, refl, sym, ap, lit<}
 use mir.Syntax.{Dict, Fn, named}
 use mir.MapTy.{inst_fn}
@@ -99,7 +99,7 @@ alone_mut_spec 𝓤 𝓛 𝓜 𝓡 wired K law k d met =
     sets_last ! (agg ! (and_then ! (lit ! tt) (and_then ! (get ! refl) (no_more !)))) refl (tt, (record { fits = lit< tt }, (tt, tt))) $
     exec ! 𝓣.C 𝓣.Λ Ev (after 6 fn.body) (at_ret Ev Post) $ sets ! (of_opd ! (get ! refl)) refl (tt, (record { fits = lit< tt }, (tt, tt))) $
     use1 𝓛 (later (‵ (part_at BodyRow full_share x pb there) ⊛ ‵ (all_but_body shared me.limit h x pb po i))) (granted 𝓛 shared s pb n (is_so n 1 last)) $ await ! tt $ split ! $
-    -- [the list; the rest of the node; shown; invariant; the handle; the cell; the open borrow; obs; auth]
+    -- [the body; the node's other parts; shown; invariant; the handle; the cell; the open borrow; obs; auth]
     move ! (1 ∷ 4 ∷ 5 ∷ []) $ fjoin3 ! $ move ! (4 ∷ 5 ∷ 6 ∷ 1 ∷ 0 ∷ []) $ group ! 5 $
     let Back : Fml = fsep (all_but_body shared me.limit h x pb po i) (fsep (Z.own_val h (u ∷ [])) (cell_at full_share R.mir (v ∷ []) b o)) in
     use1 𝓛 (later (some (λ (γ' : GName). ‵ (Lent.own_val (record { ref_ptr = (pb, there); ghost_name = γ'; now = x }) (at ∷ [])) ⊛ ‵ (flft κ q) ⊛ ‵ (follows R BodyRow γ γ' (with_body me)))))

@@ -1,4 +1,4 @@
--- `body` shows what every holder sees.
+-- `body` borrows the body, which all references share.
 use Rattle.std.proofs.Common.{◌≡◌, ℕ, ◌+◌, Bool, List, [], ◌∷◌, refl, sym, ap, ◌∙◌}
 use mir.Syntax.{Dict, Fn, ty_ptr, named}
 use mir.MapTy.{inst_fn}
@@ -65,13 +65,13 @@ body_spec 𝓤 𝓛 𝓜 𝓡 wired K law k d met =
     split ! $ move ! (1 ∷ []) $ unhide ! $ fsplit ! $ fpick ! (λ inb. drop ! $
     use1 𝓛 (‵ (shown me.alloc x pb po κ)) (sees (λ i. rule_kept y pb (po + 0) (rule y me.limit me.alloc x pb po i)) (λ i W 𝓤' 𝓛'. kept_twice 𝓛' y pb (po + 0) (rule y me.limit me.alloc x pb po i)) (shown me.alloc x pb po) (shown_laws me.alloc x pb po) 𝓛 κ) $ fsplit ! $ drop ! $ hide ! $
     move ! (1 ∷ []) $ unhide ! $ fsplit ! $ fsplit ! $ hide ! $ move ! (0 ∷ 3 ∷ 4 ∷ []) $ use1 𝓛 (‵ (hidden_shr RawPtr κ p b (o + 0))) (id⊢ 𝓤 _) $
-    -- [the pointer; the list; the token]
+    -- [the pointer; the body; the token]
     enter ! 𝓣.C 𝓣.Λ fn (vptr b o ∷ []) Post $ alloc_all ! (λ l. pass_all ! refl ((tt, tt), tt) $ let Ev = env fn.locals l in
     move ! (0 ∷ 2 ∷ []) $ looks ! tt RawPtr (plain_Copied 𝓛 Ptr coded_ptr (ty_ptr ∷ []) ptr_own rawptr_pure ptr_val RawPtr-laws.tells).opens {κ = κ} {q = q} p b (o + 0) (λ q' vs. move ! (1 ∷ []) $ feq_l ! (λ e.
     rewrite ! 0 (λ (us : List Val). ‵ (cell_at q' RawPtr.mir us b (o + 0))) (e ∙ ap (λ (r : Ptr). ptr_val r ∷ []) (at_block p inb)) refl $ first ! $ blocks ! $
     sets_last ! (is ! (addr ! (through ! refl (fld ! refl (hop ! (look ! 0 refl) (fld ! refl (stop !)))))) (ap (λ (n : ℕ). vptr pb (po + n)) eight)) refl (tt, tt) $ exec ! 𝓣.C 𝓣.Λ Ev (after 1 fn.body) (at_ret Ev Post) $ sets ! (of_opd ! (get ! refl)) refl (tt, tt) $
     feq_i ! (List Val) (vptr pb po ∷ []) (ptr_val p ∷ []) (ap (λ (r : Ptr). ptr_val r ∷ []) (sym (at_block p inb))) $ move ! (1 ∷ 0 ∷ []) $ shuts ! tt RawPtr q' p (vptr pb po ∷ []) b (o + 0) $
-    -- [the token; the pointer; the list]
+    -- [the token; the pointer; the body]
     move ! (2 ∷ []) $ feq_i ! (List Val) (vptr pb there ∷ []) (vptr pb there ∷ []) refl $ fjoin ! $
     use1 𝓛 (‵ ((type_at En.signature.result κs).own_val (record { ref_ptr = (pb, there); now = x }) (vptr pb there ∷ []))) (id⊢ 𝓤 _) $
     use0 𝓛 (raw (fact 𝓤 (x ≡ x))) (fact_i 𝓤 (x ≡ x) (emp 𝓤) refl) $ nothing ! $ nothing ! $ fjoin ! $ move ! (3 ∷ 7 ∷ []) $ join ! $

@@ -1,4 +1,4 @@
--- `count` loads the word through a `&`, by a share of the lifetime's token.
+-- `count` loads the node's count through a `&`, with a share of the lifetime's token.
 use Rattle.std.proofs.Common.{ℕ, ◌+◌, ◌^◌, Bool, List, [], ◌∷◌, refl, sym, ap, ◌∙◌, w64}
 use mir.Syntax.{Dict, Fn, ty_ptr}
 use mir.MapTy.{inst_fn}

@@ -1,4 +1,4 @@
--- `of` cuts the node, and makes the count's invariant.
+-- `of` splits the node into its count and its content, and creates the count's invariant.
 use Rattle.std.proofs.Common.{◌≡◌, ℕ, ◌+◌, Bool, false, List, [], ◌∷◌, ◌++◌, refl, sym, subst}
 use mir.Syntax.{Dict, Fn, w64}
 use mir.MapTy.{inst_fn}
@@ -64,7 +64,7 @@ of_spec 𝓤 𝓛 𝓜 𝓡 wired K law k d met =
     suffices ! (Run (w ∷ u ∷ [])) (subst (λ (us : List Val). ent 𝓤 (Run (w ∷ u ∷ [])) (Run us)) (sym (λ i. ws i ++ (are.1.0.0 i ++ []))) (id⊢ 𝓤 (Run (w ∷ u ∷ [])))) $
     enter ! 𝓣.C 𝓣.Λ fn (w ∷ u ∷ []) Post $ alloc_all ! (λ l. pass_all ! refl (typed, ((tt, record { fits = are.1.0.1 }), tt)) $
     use2 𝓛 (later (‵ (fex Id (reader y n a x b o)))) (begin 𝓛 y n a x b o) $ await ! tt $ fpack ! Bool (sole_or_counted (fex Id (writer y n a x b o)) (fex Id (reader y n a x b o))) false $
-    -- [the holder; the handle; the end of the parameters; the tokens]
+    -- [the reference; the handle; the end of the parameters; the tokens]
     sets ! (of_opd ! (get_in ! (fld ! refl (stop !)) (sub ! 0 refl (whole !)))) refl (tt, tt) $ sets ! (of_opd ! (get_in ! (fld ! refl (stop !)) (sub ! 1 refl (whole !)))) refl fits $
     sets ! (agg ! (no_more !)) refl (tt, tt) $
     sets ! (agg ! (and_then ! (get ! refl) (and_then ! (get ! refl) (and_then ! (get ! refl) (no_more !))))) refl (handle_good b o h fits) $

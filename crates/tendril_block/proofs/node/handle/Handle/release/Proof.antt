@@ -1,4 +1,4 @@
--- `release` takes a holder off the count, and joins the node again where it was the last.
+-- `release` subtracts a reference from the count. If it was the last one, the node's parts are joined again.
 use Rattle.std.proofs.Common.{◌≡◌, ℕ, ◌+◌, Bool, List, [], ◌∷◌, ◌++◌, refl, sym, ap, subst, lit<}
 use lib.Dec.{eqb→eq}
 use mir.Syntax.{Dict, Fn}

@@ -1,4 +1,4 @@
--- `take_alone` joins the node again where the holder is alone, and else puts the holder back.
+-- `take_alone` joins the node's parts again if this is the only reference, else it restores the handle.
 use Rattle.std.proofs.Common.{◌≡◌, ℕ, ◌+◌, Bool, false, List, [], ◌∷◌, ◌++◌, refl, sym, ap, subst, lit<}
 use mir.Syntax.{Dict, Fn}
 use mir.MapTy.{inst_fn}
@@ -95,9 +95,11 @@ take_alone_spec 𝓤 𝓛 𝓜 𝓡 wired K law k d met =
     (λ last. let d : Node = record { count = 1; body = x } in let lr : L.Denot = record { node = block_ptr b o; alloc = a; limit = v.limit; count = 1; inner = x } in let v₀ : Val = live 0 (vcons w vnil) in
     let good : Good (layout Out) v₀ = (and_tt _ good_w.0, (record { fits = lit< tt }, (good_w.1, tt))) in skips ! $ exec ! 𝓣.C 𝓣.Λ Ev (after 7 fn.body) (at_ret Ev Post) $
     use1 𝓛 (later (‵ (part_at BodyRow full_share x b (o + body_at)) ⊛ ‵ (all_but_body shared v.limit a x b o i))) (granted 𝓛 shared g b n (is_so n 1 last)) $ await ! tt $ split ! $ move ! (1 ∷ []) $ fsplit3 ! $ move ! (2 ∷ []) $ fsplit3 ! $
-    -- [the machine; the right to free; apart; mark; word; list; shown; invariant; the handle; the end of the parameters; the tokens]
+    -- [the machine; the right to free; apart; mark; word; body; shown; invariant; the handle; the end of the
+    -- parameters; the tokens]
     move ! (3 ∷ 0 ∷ []) $ use2 𝓛 (later (‵ (owed v.limit i))) (gives_up 𝓛 shared v.limit b (o + 0) (content a x b o) i) $ await ! tt $ fpack ! Id (owed v.limit) i $
-    -- [the duty; the right to free; apart; word; list; shown; invariant; the handle; the end of the parameters; the tokens]
+    -- [the duty; the right to free; apart; word; body; shown; invariant; the handle; the end of the parameters; the
+    -- tokens]
     move ! (3 ∷ 4 ∷ 2 ∷ []) $ use3 𝓛 (‵ (part_at node.the_row full_share d b o)) (rejoin 𝓛 d b o) $ move ! (0 ∷ 2 ∷ []) $ fjoin ! $ fjoin ! $ move ! (0 ∷ 3 ∷ []) $ last_in ! v.limit 1 b o h a x $
     sets ! (agg ! (and_then ! (get ! refl) (and_then ! (get ! refl) (no_more !)))) refl good_w $ sets ! (agg ! (and_then ! (lit ! tt) (and_then ! (get ! refl) (no_more !)))) refl good $
     use1 𝓛 (‵ (Out.own_val (Ok lr) (v₀ ∷ []))) (Ok-of 𝓛 L R lr w) $

@@ -1,4 +1,4 @@
--- `free` is the machine's free, by the thread that has the duty.
+-- `free` is the machine's `Free`, by the thread that has the duty to free.
 use Rattle.std.proofs.Common.{◌≡◌, List, [], ◌∷◌, ◌++◌, refl, sym, subst}
 use mir.Val.{Val, vptr}
 use base.Logic.{SProp, ent, emp, id⊢}

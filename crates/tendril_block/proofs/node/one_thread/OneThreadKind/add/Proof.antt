@@ -1,4 +1,4 @@
--- `add` opens the rule with the thread's token, and adds a holder where the word is still the one that was seen.
+-- `add` opens the invariant with the thread's token, and adds a reference if the count is still `seen`.
 use Rattle.std.proofs.Common.{◌≡◌, ◌≢◌, ℕ, ◌+◌, ◌^◌, ◌<◌, Bool, true, false, List, [], ◌∷◌, ◌++◌, refl, sym, w64}
 use mir.Val.{Val, vint, vptr}
 use base.Logic.{SProp, sep, wand, apply∗, id⊢}
@@ -51,10 +51,10 @@ add_spec 𝓤 𝓛 𝓜 𝓡 wired =
     let P : Fml = node_rule false g.0 b w in let Cn : Fml = content g.0.1 g.0.2 b g.0.3 in
     fsplit3 ! $ move ! (0 ∷ 3 ∷ []) $ use2 𝓛 (later (‵ P ⊛ raw (wand 𝓤 (sem 𝓛 P) (H.⇛ (A.tok every))))) (opens_rule 𝓛 (b, w) P) $
     enter ! C Λ fn (vptr b w ∷ vint w64 old ∷ vint w64 new ∷ []) Post $ alloc_all ! (λ ls. pass_all ! refl ((tt, tt), ((tt, record { fits = are.1.0.1 }), ((tt, record { fits = are.1.1.0.1 }), tt))) $ let Ev = env fn.locals ls in await ! tt $ split ! $
-    -- [what the rule says; its way back; the share of the mark; that of the token]
+    -- [what the invariant owns; the way to close it; the share of the mark; that of the token]
     move ! (0 ∷ 2 ∷ 3 ∷ []) $ use3 𝓛 (some (λ (s : Counted). given (s.word < 2 ^ 64) (‵ (word b w s.word) ⊛ ‵ (beside role_coded.code (Only i.3) l Cn b w i.0 i.1 s) ⊛ ‵ Sn ⊛ ‵ Tk)))
     (found_live 𝓛 (Only i.3) l Cn b w i.0 i.1 (low g.0.0) (sep 𝓤 (sem 𝓛 Sn) (sem 𝓛 Tk)) (share_alive 𝓛 (Only i.3) l Cn b w i.0 i.1 (low g.0.0) (sem 𝓛 Sn) g.1)) $ pick ! (λ s. learn ! (λ small. split3 ! $ let n = s.word in
-    -- [the word; the machine; the shares; the way back]
+    -- [the word; the machine; the shares; the way to close the invariant]
     first ! $ blocks ! $ sets_last ! (of_opd ! (load ! (through ! refl (stop !)) (look ! 0 refl))) refl (tt, record { fits = small }) $
     exec ! C Λ Ev (after 1 fn.body) (at_ret Ev Post) $ sets ! (of_opd ! (get ! refl)) refl (tt, record { fits = small }) $
     sets ! (bin ! (get ! refl) (get ! refl) tt) refl (tt, tt) $ first ! $ branches ! (get ! refl)

@@ -1,4 +1,4 @@
--- `alone` opens the rule with the thread's token for one look at the word.
+-- `alone` opens the invariant with the thread's token, for one load of the count.
 use Rattle.std.proofs.Common.{◌^◌, ◌<◌, false, List, [], ◌∷◌, ◌++◌, refl, sym, w64}
 use mir.Val.{Val, vint, vptr}
 use base.Logic.{SProp, sep, wand, apply∗, id⊢}
@@ -47,10 +47,10 @@ alone_spec 𝓤 𝓛 𝓜 𝓡 wired =
     let P : Fml = node_rule false g b w in let Cn : Fml = content g.1 g.2 b g.3 in
     fsplit3 ! $ move ! (0 ∷ 3 ∷ []) $ use2 𝓛 (later (‵ P ⊛ raw (wand 𝓤 (sem 𝓛 P) (H.⇛ (A.tok every))))) (opens_rule 𝓛 (b, w) P) $
     enter ! C Λ fn (vptr b w ∷ []) Post $ alloc_all ! (λ ls. pass_all ! refl ((tt, tt), tt) $ let Ev = env fn.locals ls in await ! tt $ split ! $
-    -- [what the rule says; its way back; mark; part]
+    -- [what the invariant owns; the way to close it; mark; part]
     move ! (0 ∷ 2 ∷ 3 ∷ []) $ use3 𝓛 (some (λ (s : Counted). given (s.word < 2 ^ 64) (‵ (word b w s.word) ⊛ ‵ (beside role_coded.code (Only i.3) l Cn b w i.0 i.1 s) ⊛ ‵ Mk ⊛ ‵ (part 63 i.0))))
     (found_live 𝓛 (Only i.3) l Cn b w i.0 i.1 (low g.0) (sep 𝓤 (sem 𝓛 Mk) (sem 𝓛 (part 63 i.0))) (part_alive 𝓛 (Only i.3) l Cn b w i.0 i.1 (low g.0) (sem 𝓛 Mk))) $ pick ! (λ s. learn ! (λ small. split3 ! $ let n = s.word in
-    -- [the word; the machine; mark and part; the way back]
+    -- [the word; the machine; mark and part; the way to close the invariant]
     first ! $ blocks ! $ sets_last ! (of_opd ! (load ! (through ! refl (stop !)) (look ! 0 refl))) refl (tt, record { fits = small }) $
     exec ! C Λ Ev (after 1 fn.body) (at_ret Ev Post) $ sets ! (of_opd ! (get ! refl)) refl (tt, record { fits = small }) $
     use3 𝓛 (later (‵ P ⊛ ‵ (sees false g b w n))) (looks_plainly 𝓛 (Only i.3) l Cn b w i.0 i.1 (low g.0) i.2 i.3 refl s) $ await ! tt $ split ! $ move ! (0 ∷ 2 ∷ []) $

@@ -1,4 +1,4 @@
--- `peek` opens the rule with the thread's token, and loads the word.
+-- `peek` opens the invariant with the thread's token, and loads the count.
 use Rattle.std.proofs.Common.{◌^◌, ◌<◌, Bool, true, false, List, [], ◌∷◌, ◌++◌, refl, w64}
 use mir.Val.{Val, vint, vptr}
 use base.Logic.{SProp, wand, apply∗, id⊢}
@@ -46,7 +46,7 @@ peek_spec 𝓤 𝓛 𝓜 𝓡 wired =
     let P : Fml = node_rule false g.0 b w in let Cn : Fml = content g.0.1 g.0.2 b g.0.3 in
     fsplit ! $ move ! (0 ∷ 2 ∷ []) $ use2 𝓛 (later (‵ P ⊛ raw (wand 𝓤 (sem 𝓛 P) (H.⇛ (A.tok every))))) (opens_rule 𝓛 (b, w) P) $
     enter ! C Λ fn (vptr b w ∷ []) Post $ alloc_all ! (λ ls. pass_all ! refl ((tt, tt), tt) $ let Ev = env fn.locals ls in await ! tt $ split ! $
-    -- [what the rule says; its way back; the share]
+    -- [what the invariant owns; the way to close it; the share]
     move ! (0 ∷ 2 ∷ []) $ use2 𝓛 (some (λ (t : Counted). given (t.word < 2 ^ 64) (‵ (word b w t.word) ⊛ ‵ (beside role_coded.code (Only i.3) l Cn b w i.0 i.1 t) ⊛ ‵ Tk)))
     (found_live 𝓛 (Only i.3) l Cn b w i.0 i.1 (low g.0.0) (sem 𝓛 Tk) (token_alive 𝓛 (Only i.3) l Cn b w i.0 i.1 (low g.0.0) g.1)) $ pick ! (λ t. learn ! (λ small. split3 ! $ let n = t.word in
     first ! $ blocks ! $ sets_last ! (of_opd ! (load ! (through ! refl (stop !)) (look ! 0 refl))) refl (tt, record { fits = small }) $
