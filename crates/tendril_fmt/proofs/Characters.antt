@@ -1,4 +1,4 @@
--- Characters that have an encoding spell a text, and where each stands in it.
+-- The encodings of characters are a text, and the offset of each character in it.
 use Rattle.std.proofs.Common.{◌≡◌, ℕ, zero, suc, ◌+◌, ◌<◌, true, ◌&&◌, List, [], ◌∷◌, ◌++◌, length, slice_get, Some, IsAscii, IsUtf8, chars, encode_utf8, refl, sym, ap, ap₂, subst, ◌∙◌, arith, length-append}
 use Rattle.std.specs.List.{AllByRecursion}
 use Rattle.std.specs.Str.{all_scalars}
@@ -34,7 +34,7 @@ SpellText-utf8 cs h =
     let s = all_scalars-all cs h in
     ((cs, (s, sym (encodings-encode_utf8 cs))), ap chars (encodings-encode_utf8 cs) ∙ chars-encodes cs s)
 
--- the same from any place on
+-- the offset of a character, if the first one's is `at`
 places_from-at : (encoding : ℕ → List ℕ) (cs ds : List ℕ) (c at : ℕ) → slice_get (places_from encoding at (cs ++ c ∷ ds)) (length cs) ≡ Some (at + length (encodings encoding cs), c)
 places_from-at encoding [] ds c at = ap (λ k. Some (k, c)) (omega arith)
 places_from-at encoding (b ∷ cs) ds c at =

@@ -9,7 +9,7 @@ use Rattle.tendril_fmt.specs.CodePoints.{IsCodePoint, IsContinuation}
 use Rattle.tendril_fmt.specs.Proved.Cuts.{IsStart-encode, Cut, Opens, cut}
 use Rattle.tendril_fmt.proofs.Sequences.{sequence_len-continuation}
 
--- the first byte of a code point is no continuation
+-- the first byte of a code point is no continuation byte
 pub first_byte : (c : ℕ) (rest : List ℕ) → IsCodePoint c → Opens (encode_utf8 c ++ rest)
 first_byte c rest top some h =
     let is = IsStart-encode c top in
@@ -19,7 +19,7 @@ first_byte c rest top some h =
     let l = is.0 in
     absurd (omega arith)
 
--- after the bytes of one of them, code points are cut too
+-- code points are also cut after the bytes of one of them
 pub cut_after : (cs xs : List ℕ) (c : ℕ) (ys : List ℕ) → AllByRecursion IsCodePoint cs → IsCodePoint c → encode_utf8_all cs ≡ (xs ++ encode_utf8 c) ++ ys → Cut cs (xs ++ encode_utf8 c) ys
 cut_after cs xs c ys all top e =
     let first = cut cs xs (encode_utf8 c ++ ys) all (e ∙ append_assoc xs (encode_utf8 c) ys) (first_byte c ys top) in

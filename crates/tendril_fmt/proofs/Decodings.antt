@@ -5,7 +5,7 @@ use Rattle.std.proofs.lemmas.Str.{length-encode, len_utf8_bounds}
 use Rattle.tendril_fmt.specs.CodePoints.{IsCodePoint, IsContinuation}
 use Rattle.tendril_fmt.specs.Proved.Encodings.{Shape, of1, of2, of3, of4, encode_utf8_2, encode_utf8_3, encode_utf8_4, point_shape}
 
--- bytes of the ranges of each length encode the number of their payload bits
+-- bytes in the ranges of each length encode the number of their payload bits
 pub spelt_2 : (a b : ℕ) → 194 ≤ a → a < 224 → IsContinuation b → encode_utf8 ((a - 192) * 64 + (b - 128)) ≡ a ∷ b ∷ []
 spelt_2 a b l h f =
     let c = (a - 192) * 64 + (b - 128) in

@@ -162,7 +162,7 @@ module _ (P : Meaning → Type 0) (known : (m : Meaning) → P m → IsWholeOrSu
       (λ (long : 4 ≤ length bs). both_reads P known bs long)
       (cases_lt (length bs) 4)
 
--- so both tests do, that of UTF-8 and that of WTF-8
+-- so the tests of UTF-8 and of WTF-8 do
 pub RestsOnFourBytes-whole : RestsOnFourBytes IsWhole
 RestsOnFourBytes-whole = rests IsWhole whole_pointed
 
@@ -188,7 +188,7 @@ pub wtf8_slice_decides : (part whole first last : List ℕ) → IsWtf8 whole →
     → (IsWtf8 part ↔ (PassesAsEnd IsWholeOrSurrogate first × PassesAsFront IsWholeOrSurrogate last))
 wtf8_slice_decides = slice_decides IsWtf8 IsWholeOrSurrogate RestsOnFourBytes-whole_or_surrogate SliceTestIsWhole-wtf8
 
--- a front by its last four bytes, and an end by its first four: the side that isn't asked is empty
+-- a prefix by its last four bytes, and a suffix by its first four: the side that isn't tested is empty
 module _ (valid : List ℕ → Type 0) (P : Meaning → Type 0) (reads : RestsOnFourBytes P) where
   pub front_decides : FrontTestIsWhole valid P → (part whole last : List ℕ) → valid whole → IsFrontOf part whole → last ≡ last_four part
       → (valid part ↔ (PassesAsEnd P [] × PassesAsFront P last))

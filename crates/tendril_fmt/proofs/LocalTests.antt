@@ -1,4 +1,4 @@
--- The local tests are the test of the whole.
+-- A slice of valid bytes passes the local tests exactly if it is valid.
 use Rattle.std.proofs.Common.{◌≡◌, ℕ, ◌+◌, ◌-◌, ◌<◌, ◌≤◌, true, List, [], ◌∷◌, ◌++◌, length, take, drop, slice_range, IsUtf8, refl, sym, ap, ap₂, subst, ◌∙◌, arith, inl, inr, ⊎_elim, append_assoc, append-nil, length-append, length-drop, take-append-drop, take_at, drop_at, take_all}
 use Rattle.std.specs.List.{AllByRecursion}
 use Rattle.std.specs.Char.{encode_utf8}
@@ -23,7 +23,7 @@ use Rattle.tendril_fmt.specs.Proved.Unpaired.{AreUnpaired, AreUnpaired-points, A
 abbrev pub Spelt : (List ℕ → Type 0) → List ℕ → Type 0
 Spelt V bs = (cs : List ℕ) × V cs × (encode_utf8_all cs ≡ bs)
 
--- what a test and the lists that are valid owe each other
+-- what must hold of the accepted meanings P and the valid lists of code points V
 pub record Fits (V : List ℕ → Type 0) (P : Meaning → Type 0) : Type 0 where
   pub empty : V []
   pub code_points : (cs : List ℕ) → V cs → AllByRecursion IsCodePoint cs
@@ -89,7 +89,7 @@ module _ (V : List ℕ → Type 0) (P : Meaning → Type 0) (fits : Fits V P) wh
   none_spelt : (part : List ℕ) → length part ≡ 0 → Spelt V part
   none_spelt part none = ([], fits.empty, sym (nil_from_length part none))
 
-  -- a front whose last byte ends a sequence
+  -- a prefix that passes its test is valid
   from_front : (part after : List ℕ) → Spelt V (part ++ after) → PassesAsFront P part → Spelt V part
   from_front part after h (inl none) = none_spelt part none
   from_front part after h (inr w) =
@@ -105,7 +105,7 @@ module _ (V : List ℕ → Type 0) (P : Meaning → Type 0) (fits : Fits V P) wh
       let d = cut_after h.0 (take s part) k.0 after (fits.code_points h.0 h.1) k.1 (h.2 ∙ ap (λ l. l ++ after) is) in
       (d.front, fits.front d.front d.back (subst V {y = d.front ++ d.back} d.split h.1), d.before ∙ sym is)
 
-  -- an end whose first byte begins a sequence opens
+  -- a suffix whose first byte begins an accepted sequence begins with no continuation byte
   opens : (part more : List ℕ) → StandsAccepted P part 0 → Opens (part ++ more)
   opens part more w =
       let s = w.0 in
@@ -140,7 +140,7 @@ module _ (V : List ℕ → Type 0) (P : Meaning → Type 0) (fits : Fits V P) wh
         λ w. ⊎_elim (none_spelt part) (λ a. from_front part f.1 (from_end f.0 part f.1 h a) w.1) w.0,
       )
 
--- UTF-8: the lists of scalars
+-- UTF-8: the lists of scalar values
 
 scalar_parts : (xs ys : List ℕ) → all_scalars (xs ++ ys) ≡ true → (all_scalars xs ≡ true) × (all_scalars ys ≡ true)
 scalar_parts [] ys h = (refl, h)
@@ -177,7 +177,7 @@ spelt_from bs u = (u.0, u.1.0, u.1.1)
 spelt_to : (bs : List ℕ) → AsSpelt bs → IsUtf8 bs
 spelt_to bs u = (u.0, (u.1, u.2))
 
--- so the tests of UTF-8 are those of the whole
+-- so a slice of UTF-8 passes the local tests exactly if it is valid
 pub FrontTestIsWhole-utf8 : FrontTestIsWhole IsUtf8 IsWhole
 FrontTestIsWhole-utf8 part whole v f = let k = FrontTestIsWhole-fits _ _ utf8_fits part whole (spelt_from _ v) f in (λ u. k.0 (spelt_from part u), λ w. spelt_to part (k.1 w))
 
@@ -187,7 +187,7 @@ EndTestIsWhole-utf8 part whole v f = let k = EndTestIsWhole-fits _ _ utf8_fits p
 pub SliceTestIsWhole-utf8 : SliceTestIsWhole IsUtf8 IsWhole
 SliceTestIsWhole-utf8 part whole v f = let k = SliceTestIsWhole-fits _ _ utf8_fits part whole (spelt_from _ v) f in (λ u. k.0 (spelt_from part u), λ w. spelt_to part (k.1 w))
 
--- WTF-8: the lists of code points of which no lead stands right before a trail
+-- WTF-8: the lists of code points of which no lead is right before a trail
 
 -- what an accepted meaning says of the bytes
 pub wtf8_meant : (m : Meaning) → IsWholeOrSurrogate m → (buf : List ℕ) (idx s n : ℕ) → Means buf idx s n m → (c : ℕ) × IsCodePoint c × (slice_range buf s (s + n) ≡ encode_utf8 c)
@@ -222,7 +222,7 @@ wtf8_fits = record {
 wtf8_to : (bs : List ℕ) → Spelt AreUnpaired bs → IsWtf8 bs
 wtf8_to bs h = subst IsWtf8 h.2 (IsWtf8-from_points h.0 h.1)
 
--- so the tests of WTF-8 are those of the whole
+-- so a slice of WTF-8 passes the local tests exactly if it is valid
 pub FrontTestIsWhole-wtf8 : FrontTestIsWhole IsWtf8 IsWholeOrSurrogate
 FrontTestIsWhole-wtf8 part whole v f = let k = FrontTestIsWhole-fits _ _ wtf8_fits part whole (points_of _ v) f in (λ u. k.0 (points_of part u), λ w. wtf8_to part (k.1 w))
 

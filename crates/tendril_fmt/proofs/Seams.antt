@@ -1,4 +1,4 @@
--- A lead surrogate at the end of bytes, and a trail at their front.
+-- A lead surrogate at the end of bytes, and a trail at their beginning.
 use Rattle.std.proofs.Common.{◌≡◌, ◌≢◌, ℕ, ◌+◌, ◌-◌, ◌<◌, ◌≤◌, List, [], ◌++◌, length, take, drop, refl, sym, ap, ap₂, subst, ◌∙◌, arith, append_assoc, append-nil, length-append, take_at, drop_at, take_all, take-append-drop, length-drop}
 use Rattle.std.specs.Char.{encode_utf8}
 use Rattle.std.specs.Char.Utf16.{surrogate_pair_char}
@@ -26,13 +26,13 @@ trail_len i small = surrogate_len (0xDC00 + i) (omega arith) (omega arith)
 same_code : (c d : ℕ) → encode_utf8 c ≡ encode_utf8 d → c ≡ d
 same_code c d e = (encode_same c d [] [] (ap (λ l. l ++ []) e)).0
 
--- the last three bytes, where a lead ends them
+-- the last three bytes, if a lead ends them
 last_three : (bytes : List ℕ) (start i : ℕ) → start + 3 ≡ length bytes → i < 0x400 → EndsWithCodePoint bytes (0xD800 + i) → drop start bytes ≡ encode_utf8 (0xD800 + i)
 last_three bytes start i long small h =
     let place : start ≡ length h.0 = omega (arith, ap length h.1, length-append h.0 (encode_utf8 (0xD800 + i)), lead_len i small) in
     ap₂ drop place h.1 ∙ drop_at h.0 (encode_utf8 (0xD800 + i)) (length h.0) refl
 
--- no lead ends fewer than three bytes, nor bytes of which the last three encode nothing, or no lead
+-- no lead ends fewer than three bytes, or bytes of which the last three encode no code point, or one that isn't a lead
 pub no_lead_short : (bytes : List ℕ) → length bytes < 3 → (i : ℕ) → i < 0x400 → ¬ (EndsWithCodePoint bytes (0xD800 + i))
 no_lead_short bytes short i small h = omega (arith, ap length h.1, length-append h.0 (encode_utf8 (0xD800 + i)), lead_len i small)
 
@@ -52,11 +52,12 @@ lead_found bytes start i is = (
   (take start bytes, sym (take-append-drop start bytes) ∙ ap (λ l. take start bytes ++ l) (is.2 ∙ ap encode_utf8 is.3.1)),
 )
 
--- the first three bytes, where a trail begins them
+-- the first three bytes, if a trail begins them
 first_three : (bytes : List ℕ) (i : ℕ) → i < 0x400 → BeginsWithCodePoint bytes (0xDC00 + i) → take 3 bytes ≡ encode_utf8 (0xDC00 + i)
 first_three bytes i small h = ap (take 3) h.1 ∙ take_at (encode_utf8 (0xDC00 + i)) h.0 3 (trail_len i small)
 
--- no trail begins fewer than three bytes, nor bytes of which the first three encode nothing, or no trail
+-- no trail begins fewer than three bytes, or bytes of which the first three encode no code point, or one that isn't a
+-- trail
 pub no_trail_short : (bytes : List ℕ) → length bytes < 3 → (i : ℕ) → i < 0x400 → ¬ (BeginsWithCodePoint bytes (0xDC00 + i))
 no_trail_short bytes short i small h = omega (arith, ap length h.1, length-append (encode_utf8 (0xDC00 + i)) h.0, trail_len i small)
 
@@ -75,7 +76,7 @@ trail_found bytes i is = (
   (drop 3 bytes, sym (take-append-drop 3 bytes) ∙ ap (λ l. l ++ drop 3 bytes) (is.2 ∙ ap encode_utf8 is.3.1)),
 )
 
--- the end of bytes, as a slice
+-- a suffix of bytes, as a slice
 pub rest_slice : (bytes : List ℕ) (start : ℕ) → take (length bytes - start) (drop start bytes) ≡ drop start bytes
 rest_slice bytes start = take_all (length bytes - start) (drop start bytes) (omega (arith, length-drop start bytes))
 
@@ -109,7 +110,7 @@ ends_long bytes u a b h = omega (arith, ap length h.1, length-append h.0 (encode
 pub begins_long : (bytes : List ℕ) (v : ℕ) → 0xD800 ≤ v → v < 0xE000 → BeginsWithCodePoint bytes v → 3 ≤ length bytes
 begins_long bytes v a b h = omega (arith, ap length h.1, length-append (encode_utf8 v) h.0, surrogate_len v a b)
 
--- where one of the two looks found nothing, no surrogates meet
+-- if no lead ends the left, or no trail begins the right, no surrogates meet
 pub none_meet_left : (l r : List ℕ) → ((i : ℕ) → i < 0x400 → ¬ (EndsWithCodePoint l (0xD800 + i))) → NoneMeet l r
 none_meet_left l r none u v a b c d h k =
     let same : u ≡ 0xD800 + (u - 0xD800) = omega arith in

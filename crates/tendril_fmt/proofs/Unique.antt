@@ -1,4 +1,4 @@
--- One sequence stands round a byte.
+-- A byte is part of at most one sequence.
 use Rattle.std.proofs.Common.{◌≡◌, ◌⊎◌, ◌↔◌, ℕ, ◌+◌, ◌-◌, ◌<◌, ◌≤◌, List, [], ◌++◌, length, slice_index, slice_range, refl, sym, ap, subst, ◌∙◌, arith, inl, inr, ⊎_elim}
 use Rattle.std.specs.Char.{encode_utf8, IsScalar}
 use Rattle.std.proofs.lemmas.Bool.{cases_lt}
@@ -13,12 +13,12 @@ use Rattle.tendril_fmt.specs.Local.{StandsAccepted}
 use Rattle.tendril_fmt.specs.Proved.Encodings.{IsCodePoint-scalar}
 use Rattle.tendril_fmt.proofs.Sequences.{spelt_at, sequence_len-continuation}
 
--- a code point's bytes, or a start with too few after it
+-- a code point's bytes, or a start with too few bytes after it
 abbrev Kind : List ℕ → ℕ → ℕ → Meaning → Type 0
 Kind buf s n m = ((c : ℕ) × IsCodePoint c × (sequence_len (slice_index buf s) ≡ n) × (slice_range buf s (s + n) ≡ encode_utf8 c) × IsMeaningOf c m)
     ⊎ ((k : ℕ) × (0 < k) × (sequence_len (slice_index buf s) ≡ n + k) × (s + n ≡ length buf) × (m ≡ Prefix k))
 
--- what stands round idx: continuations from the front on, or a start and continuations
+-- a sequence with the byte at idx: continuation bytes from the beginning on, or a start and continuation bytes
 abbrev Standing : List ℕ → ℕ → ℕ → ℕ → Meaning → Type 0
 Standing buf idx s n m = ((s ≡ 0) × (n ≡ idx + 1) × AreContinuations buf 0 (idx + 1) × (m ≡ Suffix))
     ⊎ ((0 < sequence_len (slice_index buf s)) × AreContinuations buf (s + 1) (idx + 1) × Kind buf s n m)
@@ -97,11 +97,11 @@ module _ (buf : List ℕ) (idx : ℕ) where
       let q = same_kind s n r m k h.within (subst (λ i. i + r ≤ length buf) (sym e) j.within) a.2 (subst (λ i. Kind buf i r k) (sym e) b.2) in
       (e, q.0, q.1)
 
-  -- the sequence round a byte, and its meaning, are unique
+  -- the sequence that a byte is part of is unique, and so is its meaning
   pub one_class : (s n t r : ℕ) (m k : Meaning) → Stands buf idx s n m → Stands buf idx t r k → (s ≡ t) × (n ≡ r) × (m ≡ k)
   one_class s n t r m k h j = both_stand s n t r m k h j (standing buf idx s n m h) (standing buf idx t r k j)
 
-  -- so a test of the answer's meaning is the test of some sequence that stands there
+  -- so the meaning that was found is accepted exactly if the byte is part of an accepted sequence
   pub accepts-round : (P : Meaning → Type 0) (found : Codepoint) → IsSequenceRound buf idx found → P found.meaning ↔ StandsAccepted P buf idx
   accepts-round P found h = (
     (λ p. (idx - found.rewind, length found.bytes.now, found.meaning, h.stands, p)),

@@ -1,4 +1,4 @@
--- How many bytes units have behind another, and how many units and bytes a code point has.
+-- How many bytes units add after another unit, and how many units and bytes a code point has.
 use Rattle.std.proofs.Common.{◌≡◌, ℕ, ◌+◌, ◌<◌, ◌≤◌, true, if◌then◌else◌, List, [], ◌∷◌, ◌++◌, length, refl, ap, ◌∙◌, arith, ⊎_elim, length-append}
 use Rattle.std.specs.List.{AllByRecursion}
 use Rattle.std.specs.Char.{encode_utf8}
@@ -38,7 +38,7 @@ length-pair u v us meet =
 length-three : (u : ℕ) → 0x800 ≤ u → u < 0x1_0000 → length (encode_utf8 u) ≡ 3
 length-three u low high = ap length (encode_utf8_3 u low high)
 
--- units have no fewer bytes than the first of them alone
+-- units have at least as many bytes as the first of them by itself
 length-first : (u : ℕ) (us : List ℕ) → length (encode_utf8 u) ≤ length (wtf8 (u ∷ us))
 length-first u [] = omega (arith, length-one u)
 length-first u (v ∷ us) = ⊎_elim
@@ -69,7 +69,7 @@ bytes_behind-cons last u us = ⊎_elim
 pub bytes_behind-nil : (last : ℕ) → bytes_behind last [] ≡ 0
 bytes_behind-nil last = omega arith
 
--- behind a unit that isn't a lead, units have as many bytes as by themselves
+-- after the unit 0, which isn't a lead, units add as many bytes as they have by themselves
 pub bytes_behind-zero : (us : List ℕ) → bytes_behind 0 us ≡ length (wtf8 us)
 bytes_behind-zero [] = bytes_behind-nil 0
 bytes_behind-zero (v ∷ us) = omega (arith, length-alone 0 (v ∷ us) refl, length-one 0)
@@ -81,7 +81,7 @@ utf16_fits c = ⊎_elim
     (λ high. omega (arith, ap length (two_units c high), ap length (encode_utf8_4 c high)))
     (cases_lt c 0x1_0000)
 
--- units of ASCII at the front are their own bytes
+-- the WTF-8 of ASCII units is these units, whatever follows
 pub wtf8-ascii : (front rest : List ℕ) → AllByRecursion (λ u. u < 0x80) front → wtf8 (front ++ rest) ≡ front ++ wtf8 rest
 wtf8-ascii [] rest h = refl
 wtf8-ascii (u ∷ front) rest h =

@@ -1,4 +1,4 @@
--- Valid WTF-8 taken a code point at a time, with the units of each, and units with the bytes of each.
+-- Code points split off valid WTF-8, with the units of each, and off units, with the bytes of each.
 use Rattle.std.proofs.Common.{◌≡◌, ℕ, suc, ◌+◌, ◌-◌, ◌*◌, ◌^◌, ◌<◌, ◌≤◌, true, false, List, [], ◌∷◌, ◌++◌, length, take, drop, flat_map, slice_index, Option, None, refl, sym, ap, ap₂, subst, ◌∙◌, arith, ⊎_elim, length-append}
 use Rattle.std.specs.List.{AllByRecursion}
 use Rattle.std.specs.Char.{encode_utf8, len_utf8}
@@ -17,11 +17,11 @@ use Rattle.tendril_fmt.specs.Proved.Unpaired.{AreUnpaired}
 use Rattle.tendril_fmt.proofs.Seams.{rest_slice}
 use Rattle.tendril_fmt.proofs.Wtf8Joins.{surrogates_of, units_of}
 
--- a unit alone has three bytes at most
+-- the WTF-8 of one unit has at most three bytes
 small_len : (u : ℕ) → u < 0x1_0000 → len_utf8 u ≤ 3
 small_len u h = grind (arith, nat_tests)
 
--- what is left after the first of them
+-- the remainder after the first code point
 SplitsText-cons : (c : ℕ) (cs : List ℕ) → AreUnpaired (c ∷ cs) → SplitsText (encode_utf8_all (c ∷ cs)) c (encode_utf8_all cs)
 SplitsText-cons c cs h = record {
   point = h.0;
@@ -38,8 +38,8 @@ split_first bytes w some = let k = points_of bytes w in by k.0 k.1 k.2
     by [] h e = absurd (omega (arith, ap length e))
     by (c ∷ cs) h e = (c, encode_utf8_all cs, subst (λ (b : List ℕ). SplitsText b c (encode_utf8_all cs)) e (SplitsText-cons c cs h))
 
--- What the first byte says of valid bytes: how many there are of the first code point, and which it is. The bytes are
--- a, b, d and e, so far as there are so many.
+-- `SplitsAt`: valid bytes begin with a code point of `count` bytes, which is `code`. `First`: what the first byte of
+-- valid bytes decides. The bytes begin a, b, d, e, as far as there are so many.
 pub record SplitsAt (bytes : List ℕ) (code count : ℕ) : Type 0 where
   pub within : count ≤ length bytes
   pub splits : SplitsText bytes code (take (length bytes - count) (drop count bytes))
@@ -120,14 +120,14 @@ First-holds bytes w some = let k = split_first bytes w some in by k.0 k.1 k.2 (p
         let is : bytes ≡ a ∷ b ∷ d ∷ x ∷ rest = h.split ∙ ap (λ l. l ++ rest) e in
         subst FirstOf (sym is) (of_four a b d x c rest l f g k s (subst (λ (bs : List ℕ). SplitsText bs c rest) is h))
 
--- Units taken a code point at a time, with the bytes of each.
+-- Code points split off units, with the bytes of each.
 
 pub SplitsUnits-pair : (u v : ℕ) (rest : List ℕ) → pairs u v ≡ true → SplitsUnits (u ∷ v ∷ rest) (surrogate_pair_char u v) rest
 SplitsUnits-pair u v rest meet =
     let b = surrogates_of u v meet in
     record { point = omega arith; spelt = ap encode_utf8_all (cond-true (pairs u v) _ _ meet); shorter = omega arith }
 
--- no trail follows a lead at the front
+-- no trail follows the unit u, if it is a lead
 abbrev pub IsAlone : ℕ → List ℕ → Type 0
 IsAlone u [] = Unit {0}
 IsAlone u (v ∷ us) = pairs u v ≡ false
@@ -136,7 +136,7 @@ pub SplitsUnits-alone : (u : ℕ) (rest : List ℕ) → u < 0x1_0000 → IsAlone
 SplitsUnits-alone u [] low h = record { point = omega arith; spelt = refl; shorter = omega arith }
 SplitsUnits-alone u (v ∷ us) low h = record { point = omega arith; spelt = ap encode_utf8_all (cond-false (pairs u v) _ _ h); shorter = omega arith }
 
--- each unit has three bytes at most
+-- each unit has at most three bytes
 pub length-wtf8 : (us : List ℕ) → AllByRecursion IsUnit us → length (wtf8 us) ≤ 3 * length us
 length-wtf8 [] h = omega arith
 length-wtf8 (u ∷ []) h = omega (arith, length-append (encode_utf8 u) [], length-encode u, small_len u h.0)
@@ -153,6 +153,6 @@ AreUnits-slice (u ∷ us) h = (h 0, AreUnits-slice us (λ k. h (suc k)))
 pub units-nil : (bytes : List ℕ) → bytes ≡ [] → units bytes ≡ []
 units-nil bytes empty = ap units empty ∙ ap (flat_map encode_utf16) chars-nil
 
--- nothing is left of no bytes and no trail
+-- no units remain, if there are no bytes and no trail
 pub units_left-none : (trail : Option ℕ) (bytes : List ℕ) → trail ≡ None → bytes ≡ [] → units_left trail bytes ≡ []
 units_left-none trail bytes none empty = ap₂ units_left none empty ∙ units-nil [] refl

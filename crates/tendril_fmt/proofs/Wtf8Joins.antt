@@ -27,7 +27,7 @@ join_points : (cs ds es : List ℕ) → AreUnpaired cs → AreUnpaired ds → Ar
     → wtf8_join (encode_utf8_all cs) (encode_utf8_all ds) ≡ encode_utf8_all es
 join_points cs ds es h j k e = ap wtf8 (ap₂ (λ x y. x ++ y) (units_of cs h) (units_of ds j) ∙ e) ∙ ap encode_utf8_all (code_points-units es k)
 
--- no lead at the end of the left meets a trail at the front of the right: the bytes stay
+-- if no lead at the end of the left meets a trail at the beginning of the right, the join concatenates
 pub join_apart : (front : List ℕ) (c : ℕ) (ds : List ℕ) → AreUnpaired (front ++ c ∷ []) → AreUnpaired ds → IsApart c ds
     → wtf8_join (encode_utf8_all (front ++ c ∷ [])) (encode_utf8_all ds) ≡ encode_utf8_all (front ++ c ∷ []) ++ encode_utf8_all ds
 join_apart front c ds h j a =
@@ -49,7 +49,7 @@ AreUnpaired-pair [] u v ys a b c d h j = let k = pair_high u v a b c d in (k.0, 
 AreUnpaired-pair (x ∷ []) u v ys a b c d h j = (h.0, and_false x (surrogate_pair_char u v) (pair_high u v a b c d).2, AreUnpaired-pair [] u v ys a b c d h.2 j)
 AreUnpaired-pair (x ∷ y ∷ front) u v ys a b c d h j = (h.0, h.1, AreUnpaired-pair (y ∷ front) u v ys a b c d h.2 j)
 
--- a lead and a trail that meet become their scalar
+-- a lead and a trail that meet become their character
 pub join_pair : (front : List ℕ) (u v : ℕ) (ys : List ℕ) → 0xD800 ≤ u → u < 0xDC00 → 0xDC00 ≤ v → v < 0xE000 → AreUnpaired (front ++ u ∷ []) → AreUnpaired (v ∷ ys)
     → wtf8_join (encode_utf8_all front ++ encode_utf8 u) (encode_utf8 v ++ encode_utf8_all ys) ≡ encode_utf8_all front ++ (encode_utf8 (surrogate_pair_char u v) ++ encode_utf8_all ys)
 join_pair front u v ys a b c d h j =
@@ -77,7 +77,7 @@ join-nil_left b w = ap (λ us. wtf8 (us ++ units b)) units-nil ∙ wtf8-units b 
 pub join-nil_right : (b : List ℕ) → IsWtf8 b → wtf8_join b [] ≡ b
 join-nil_right b w = ap (λ us. wtf8 (units b ++ us)) units-nil ∙ ap wtf8 (append-nil (units b)) ∙ wtf8-units b w
 
--- a text that is cut between two valid parts is their join
+-- a text that is cut into two valid slices is their join
 pub join_cut : (l r : List ℕ) → IsWtf8 l → IsWtf8 r → IsWtf8 (l ++ r) → wtf8_join l r ≡ l ++ r
 join_cut l r h k w =
     let left = points_of l h in
@@ -89,7 +89,7 @@ join_cut l r h k w =
     ∙ join_points left.0 right.0 (left.0 ++ right.0) left.1 right.1 (subst AreUnpaired (sym same) whole.1) (sym (flat-append left.0 right.0))
     ∙ bytes
 
--- Where the bytes of a lead end the left and those of a trail begin the right
+-- the join, if the bytes of a lead end the left and those of a trail begin the right
 pub join_surrogates : (l r front rest : List ℕ) (u v : ℕ) → IsWtf8 l → IsWtf8 r → 0xD800 ≤ u → u < 0xDC00 → 0xDC00 ≤ v → v < 0xE000
     → l ≡ front ++ encode_utf8 u → r ≡ encode_utf8 v ++ rest → wtf8_join l r ≡ front ++ (encode_utf8 (surrogate_pair_char u v) ++ rest)
 join_surrogates l r front rest u v h k a b c d e f =
@@ -118,7 +118,7 @@ apart_where_none_meet l r none front d (v ∷ ds) e f = ⊎_elim
     (λ no. no)
     (cases_Bool (is_high_surrogate d && is_low_surrogate v))
 
--- then the bytes stay
+-- then the join concatenates
 pub join_apart_bytes : (l r : List ℕ) → IsWtf8 l → IsWtf8 r → NoneMeet l r → wtf8_join l r ≡ l ++ r
 join_apart_bytes l r h k none = let left = points_of l h in by left.0 left.1 left.2
   where

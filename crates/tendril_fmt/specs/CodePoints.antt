@@ -23,20 +23,20 @@ use Rattle.tendril_fmt.specs.declared.futf.Meaning.TheVariants.{Whole, LeadSurro
 abbrev pub IsCodePoint : ℕ → Type 0
 IsCodePoint c = c < 0x11_0000
 
--- a byte that goes on with a sequence
+-- a continuation byte: one that continues a sequence
 abbrev pub IsContinuation : ℕ → Type 0
 IsContinuation b = (0x80 ≤ b) × (b < 0xC0)
 
--- how many bytes a sequence has that this byte starts, and 0 where it starts none
+-- how many bytes a sequence has that begins with this byte, or 0 if none does
 abbrev pub sequence_len : ℕ → ℕ
 sequence_len b = if nat_lt b 0x80 then 1 else (if nat_lt b 0xC0 then 0 else (if nat_lt b 0xE0 then 2
     else (if nat_lt b 0xF0 then 3 else (if nat_lt b 0xF8 then 4 else 0))))
 
--- the bytes from i on and below j are continuations
+-- the bytes from i on, before j, are continuation bytes
 abbrev pub AreContinuations : List ℕ → ℕ → ℕ → Type 0
 AreContinuations bytes i j = (k : ℕ) → i ≤ k → k < j → IsContinuation (slice_index bytes k)
 
--- the code point c, as a meaning: a surrogate by its index among those of its half, any other as a character
+-- the meaning of the code point c: of a surrogate, its index among the leads or the trails, of any other, the character
 abbrev pub IsMeaningOf : ℕ → Meaning → Type 0
 IsMeaningOf c (Whole d) = IsScalar c × (d ≡ c)
 IsMeaningOf c (LeadSurrogate i) = (i < 0x400) × (c ≡ 0xD800 + i)
@@ -56,11 +56,11 @@ IsDecoded bytes found = MatchOption found (EncodeNone bytes) (λ c. IsCodePoint 
 abbrev pub Encode : List ℕ → Meaning → Type 0
 Encode bytes m = (c : ℕ) × IsCodePoint c × (bytes ≡ encode_utf8 c) × IsMeaningOf c m
 
--- no code point's bytes stand at the front
+-- the bytes begin with those of no code point
 abbrev pub SplitsIntoNone : List ℕ → Type 0
 SplitsIntoNone bytes = (c : ℕ) (rest : List ℕ) → IsCodePoint c → bytes ≢ encode_utf8 c ++ rest
 
--- the bytes of a code point of this meaning stand at the front, and then the rest
+-- the bytes begin with those of a code point of this meaning, and `rest` follows
 abbrev pub SplitsInto : List ℕ → Meaning → List ℕ → Type 0
 SplitsInto bytes m rest = (c : ℕ) × IsCodePoint c × (bytes ≡ encode_utf8 c ++ rest) × IsMeaningOf c m
 

@@ -12,21 +12,21 @@ JoinIsAssociative valid join = (a b c : List ℕ) → valid a → valid b → va
 abbrev pub EmptyIsUnit : (List ℕ → Type 0) → (List ℕ → List ℕ → List ℕ) → Type 0
 EmptyIsUnit valid join = (b : List ℕ) → valid b → (join [] b ≡ b) × (join b [] ≡ b)
 
--- a valid text that is cut between two valid parts is their join
+-- a valid text that is cut into two valid slices is their join
 abbrev pub CutIsJoin : (List ℕ → Type 0) → (List ℕ → List ℕ → List ℕ) → Type 0
 CutIsJoin valid join = (l r : List ℕ) → valid l → valid r → valid (l ++ r) → join l r ≡ l ++ r
 
--- all that holds of joining in a format
+-- the laws of joining in a format
 pub record JoinLaws (valid : List ℕ → Type 0) (join : List ℕ → List ℕ → List ℕ) : Type 0 where
   pub associative : JoinIsAssociative valid join
   pub unit : EmptyIsUnit valid join
   pub cut : CutIsJoin valid join
 
--- no units are lost: those of an encoding are the ones that it encodes
+-- no units are lost: the units of the WTF-8 of units are these units
 abbrev pub UnitsRoundTrip : Type 0
 UnitsRoundTrip = (us : List ℕ) → AllByRecursion IsUnit us → units (wtf8 us) ≡ us
 
--- nor any bytes: the units of a valid text encode to it
+-- no bytes are lost: the WTF-8 of a valid text's units is the text
 abbrev pub TextRoundTrip : Type 0
 TextRoundTrip = (bytes : List ℕ) → IsWtf8 bytes → wtf8 (units bytes) ≡ bytes
 
@@ -34,12 +34,12 @@ TextRoundTrip = (bytes : List ℕ) → IsWtf8 bytes → wtf8 (units bytes) ≡ b
 abbrev pub JoinAppendsUnits : Type 0
 JoinAppendsUnits = (l r : List ℕ) → IsWtf8 l → IsWtf8 r → units (wtf8_join l r) ≡ units l ++ units r
 
--- characters that have an encoding, in any order, spell a text, and it has these characters
+-- the encodings of characters that have one, in any order, are a text, which has exactly these characters
 abbrev pub SpellText : (List ℕ → Type 0) → (List ℕ → List ℕ) → (ℕ → Type 0) → (ℕ → List ℕ) → Type 0
 SpellText valid chars encodes encoding =
     (cs : List ℕ) → AllByRecursion encodes cs → valid (encodings encoding cs) × (chars (encodings encoding cs) ≡ cs)
 
--- the place of a character is the number of bytes of those before it
+-- the offset of a character is the number of bytes of those before it
 abbrev pub PlaceIsLengthBefore : Type 0
 PlaceIsLengthBefore =
     (encoding : ℕ → List ℕ) (cs ds : List ℕ) (c : ℕ)

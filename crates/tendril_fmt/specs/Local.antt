@@ -1,4 +1,4 @@
--- The local tests: what the sequence round the last byte, and round the first, says of a part of a valid list.
+-- The local tests: the sequences at the first and at the last byte of a slice decide whether it is valid.
 use Rattle.std.specs.Prelude.{◌≡◌, ℕ, ◌-◌, ◌⊎◌, ◌↔◌, List, length, take, drop}
 use Rattle.tendril_fmt.specs.declared.futf.Meaning.{Meaning}
 use Rattle.tendril_fmt.specs.declared.futf.Meaning.TheVariants.{Whole, LeadSurrogate, TrailSurrogate, Prefix, Suffix}
@@ -21,43 +21,43 @@ IsWholeOrSurrogate (TrailSurrogate i) = Unit {0}
 IsWholeOrSurrogate (Prefix k) = ⊥
 IsWholeOrSurrogate Suffix = ⊥
 
--- round the byte at idx stands a sequence whose meaning is accepted
+-- the byte at idx is part of a sequence whose meaning is accepted
 abbrev pub StandsAccepted : (Meaning → Type 0) → List ℕ → ℕ → Type 0
 StandsAccepted accepted bytes idx = (s : ℕ) × (n : ℕ) × (m : Meaning) × Stands bytes idx s n m × accepted m
 
--- the local test of a front: nothing is there, or an accepted sequence stands round the last byte
+-- the local test of a prefix: it is empty, or its last byte is part of an accepted sequence
 abbrev pub PassesAsFront : (Meaning → Type 0) → List ℕ → Type 0
 PassesAsFront accepted bytes = (length bytes ≡ 0) ⊎ StandsAccepted accepted bytes (length bytes - 1)
 
--- the local test of an end: nothing is there, or an accepted sequence stands round the first byte
+-- the local test of a suffix: it is empty, or its first byte is part of an accepted sequence
 abbrev pub PassesAsEnd : (Meaning → Type 0) → List ℕ → Type 0
 PassesAsEnd accepted bytes = (length bytes ≡ 0) ⊎ StandsAccepted accepted bytes 0
 
--- of each front of a valid list the local test is the test of the whole
+-- a prefix of a valid list is valid exactly if it passes the local test
 abbrev pub FrontTestIsWhole : (List ℕ → Type 0) → (Meaning → Type 0) → Type 0
 FrontTestIsWhole valid accepted =
     (part whole : List ℕ) → valid whole → IsFrontOf part whole → (valid part ↔ PassesAsFront accepted part)
 
--- and so of each end
+-- a suffix of a valid list is valid exactly if it passes the local test
 abbrev pub EndTestIsWhole : (List ℕ → Type 0) → (Meaning → Type 0) → Type 0
 EndTestIsWhole valid accepted =
     (part whole : List ℕ) → valid whole → IsEndOf part whole → (valid part ↔ PassesAsEnd accepted part)
 
--- and of each slice, with both local tests
+-- a slice of a valid list is valid exactly if it passes both local tests
 abbrev pub SliceTestIsWhole : (List ℕ → Type 0) → (Meaning → Type 0) → Type 0
 SliceTestIsWhole valid accepted =
     (part whole : List ℕ) → valid whole → IsSliceOf part whole
     → (valid part ↔ (PassesAsEnd accepted part × PassesAsFront accepted part))
 
--- the first four bytes, or all where there are fewer
+-- the first four bytes, or all if there are fewer
 abbrev pub first_four : List ℕ → List ℕ
 first_four bytes = take 4 bytes
 
--- the last four bytes, or all where there are fewer
+-- the last four bytes, or all if there are fewer
 abbrev pub last_four : List ℕ → List ℕ
 last_four bytes = drop (length bytes - 4) bytes
 
--- the local tests rest on four bytes at each end
+-- each local test depends on four bytes only
 abbrev pub RestsOnFourBytes : (Meaning → Type 0) → Type 0
 RestsOnFourBytes accepted =
     (bytes : List ℕ)

@@ -1,4 +1,4 @@
--- Lemmas that a format's laws rest on. They stand here since an `impl` may cite nothing else of its own crate.
+-- Lemmas that the laws of formats depend on. They are here since an `impl` may cite only `specs/` of its own crate.
 pub mod Bytes
 pub mod Characters
 pub mod Cuts

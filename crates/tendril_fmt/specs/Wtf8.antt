@@ -1,10 +1,10 @@
--- WTF-8: UTF-8 with lone surrogates in their three bytes, as the image of an encoder of 16-bit units.
+-- WTF-8: UTF-8 that may have lone surrogates, of three bytes each. It is what an encoder of 16-bit units can return.
 use Rattle.std.specs.Prelude.{◌≡◌, ℕ, ◌<◌, ◌&&◌, List, [], ◌∷◌, ◌++◌, if◌then◌else◌, flat_map, chars, encode_utf8_all}
 use Rattle.std.specs.List.{AllByRecursion}
 use Rattle.std.specs.Char.Utf16.{is_high_surrogate, is_low_surrogate, surrogate_pair_char}
 use Rattle.std.specs.Char.Escape.{encode_utf16}
 
--- a 16-bit unit, as of UTF-16
+-- a 16-bit unit, as in UTF-16
 abbrev pub IsUnit : ℕ → Type 0
 IsUnit u = u < 0x1_0000
 
@@ -28,6 +28,6 @@ IsWtf8 bs = (us : List ℕ) × AllByRecursion IsUnit us × (wtf8 us ≡ bs)
 abbrev pub units : List ℕ → List ℕ
 units bs = flat_map encode_utf16 (chars bs)
 
--- two valid texts as one: the bytes of the left one's units and then the right one's
+-- the join of two valid texts: the WTF-8 of the left one's units, then the right one's
 abbrev pub wtf8_join : List ℕ → List ℕ → List ℕ
 wtf8_join l r = wtf8 (units l ++ units r)

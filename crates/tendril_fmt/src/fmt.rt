@@ -1,7 +1,7 @@
 //! What it means for bytes to be valid in a format.
 //!
-//! Contracts see a `Format` as two ghost members: `valid`, the lists of bytes that are valid in it, and `join`,
-//! two valid lists as one. Code above is generic in the format and proved once, from the laws of the trait alone.
+//! Contracts see a `Format` as two ghost members: `valid`, the lists of bytes that are valid in it, and `join`, which
+//! makes one of two valid lists. Code that uses formats is generic, and proved once, from the laws of the trait alone.
 
 mod ascii;
 mod ascii_cuts;

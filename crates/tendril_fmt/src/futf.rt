@@ -1,7 +1,7 @@
 //! Which UTF-8 sequence a byte is part of.
 //!
-//! It looks from a byte back to the start of its sequence, three bytes at most, and on to the sequence's end. So it tells
-//! whether a text may be cut at a place without reading all of it.
+//! The search goes from a byte back to the start of its sequence, at most three bytes, and on to the sequence's end. So
+//! it finds whether a text may be cut at an offset without reading all of it.
 ghost use Rattle.std.specs.Prelude.{ℕ, ◌+◌, ◌-◌, ◌<◌, ◌≤◌, length, IfSome, IfNone, MatchOption, slice_index};
 ghost use Rattle.tendril_fmt.specs.Classify.{IsSequenceRound, NoneStands};
 ghost use Rattle.tendril_fmt.specs.CodePoints.{IsContinuation, AreContinuations};
@@ -11,9 +11,9 @@ mod decode;
 pub(crate) use decode::{decode, split_code_point, split_text};
 use decode::{is_continuation, sequence_len_of};
 
-/// What a sequence of bytes means, whole or in part.
+/// What a sequence of bytes means, even if only its beginning or its end is there.
 ///
-/// Not all is checked: a `Prefix` or a `Suffix` may have no valid completion.
+/// A `Prefix` or a `Suffix` may have no valid completion.
 #[derive(Clone, Copy, Debug, PartialEq, Eq, PartialOrd, Ord, Hash)]
 pub enum Meaning {
     /// A whole character.
@@ -30,7 +30,7 @@ pub enum Meaning {
     /// The first bytes of a sequence that continues past the end of the bytes, and how many bytes it lacks.
     Prefix(usize),
 
-    /// The end of a sequence that began before the bytes, as far as the byte that was asked for.
+    /// The end of a sequence that began before the bytes, up to the byte that was asked for.
     Suffix,
 }
 
@@ -47,7 +47,7 @@ pub struct Codepoint<'a> {
     pub meaning: Meaning,
 }
 
-// The place of the nearest byte at or before `idx`, at most three back, that is no continuation.
+// The index of the nearest byte at or before `idx`, at most three back, that isn't a continuation byte.
 fn start_before(buf: &[u8], idx: usize) -> Option<usize>
     requires { idx < length buf.now }
     ensures { MatchOption result (AreContinuations buf.now (idx - 3) (idx + 1))
@@ -97,9 +97,9 @@ fn sequence_at(buf: &[u8], start: usize, idx: usize) -> Option<Codepoint<'_>>
 
 /// The sequence that the byte at `idx` is part of.
 ///
-/// `None` if `idx` is past the bytes, or if they are not well formed there, as Unicode's table 3-7 has it; the
-/// surrogates, which the table leaves out, are told apart. Reads four bytes at most. The bytes of a `Prefix` past
-/// `idx` are not looked at.
+/// `None` if `idx` is past the bytes, or if the bytes there are not well formed by Unicode's table 3-7. Surrogates,
+/// which that table excludes, have meanings of their own. Reads at most four bytes. The bytes of a `Prefix` after `idx`
+/// aren't checked.
 pub fn classify(buf: &[u8], idx: usize) -> Option<Codepoint<'_>>
     ensures found { IfSome result (IsSequenceRound buf.now idx) }
     ensures none { IfNone result (NoneStands buf.now idx) }

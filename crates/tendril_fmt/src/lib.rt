@@ -1,8 +1,8 @@
-//! Formats of bytes: which lists of bytes are valid, how two valid ones join, and how the ends of a slice of a valid one
-//! tell whether the slice is valid.
+//! Formats of bytes: which lists of bytes are valid, how two valid ones join, and how the ends of a slice of a valid
+//! one show whether the slice is valid.
 //!
-//! `fmt` has the formats, and `futf` the classification of one UTF-8 sequence that their tests use. Nothing here allocates,
-//! and every call accepts any bytes.
+//! `fmt` has the formats, and `futf` the classification of one UTF-8 sequence that their tests use. Nothing here
+//! allocates. A call that accepts only valid bytes says so in `requires`.
 #![tactic(auto)]
 
 pub mod fmt;

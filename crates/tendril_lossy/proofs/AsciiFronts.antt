@@ -1,4 +1,4 @@
--- How many bytes at the front of a word are ASCII: its lowest bit among the highest ones of its bytes says it.
+-- How many of a number's bytes are ASCII before the first that isn't: the lowest of its bytes' highest bits shows it.
 use Rattle.std.proofs.Common.{◌≡◌, ℕ, zero, suc, ◌+◌, ◌-◌, ◌*◌, ◌/◌, ◌%◌, ◌^◌, ◌<◌, ◌≤◌, min, List, [], ◌∷◌, slice_index, refl, sym, ap, ap₂, ◌∙◌, arith, ⊎_elim, bit_and}
 use Rattle.std.specs.Int.{bit_at, from_le_bytes, trailing_zeros, w64}
 use Rattle.std.proofs.lemmas.Bool.{cases_lt}
@@ -8,7 +8,7 @@ use Rattle.std.proofs.lemmas.Nat.{and_le_r}
 use lib.Count.{trailing_of_zero, trailing_le}
 use lib.ListN.{replicate}
 
--- the number whose digits to the base 256 these bytes are, from the lowest on
+-- the number whose digits in base 256 are these bytes, from the lowest on
 number : List ℕ → ℕ
 number [] = 0
 number (b ∷ bs) = number bs * 2 ^ 8 + b
@@ -29,7 +29,7 @@ word_is : (bs : List ℕ) → from_le_bytes w64 bs ≡ number (eight bs)
 unfolding number eight
 word_is bs = omega arith
 
--- each of the eight
+-- each of the eight bytes
 each : (bs : List ℕ) (k : ℕ) → k < 8 → slice_index (eight bs) k ≡ slice_index bs k
 unfolding eight
 each bs zero lt = refl
@@ -93,7 +93,7 @@ only_top (suc (suc (suc (suc (suc (suc (suc k))))))) lt = absurd (omega arith)
 abbrev marked : ℕ → ℕ
 marked word = bit_and word mask
 
--- the highest bit of byte k, and no other bit
+-- masking keeps the highest bit of byte k, and none of its other bits
 marked-top : (bs : List ℕ) (word k : ℕ) → word ≡ from_le_bytes w64 bs → ((i : ℕ) → slice_index bs i < 256) → k < 8 → bit_at (marked word) (8 * k + 7) ≡ slice_index bs k / 128 % 2
 marked-top bs word k is small lt =
     let b = slice_index bs k in

@@ -1,4 +1,4 @@
--- Kept bytes, filled to four from the input, and the first part of them.
+-- Kept bytes, filled up to four from the input, and what `first_part` returns for them.
 use Rattle.std.proofs.Common.{◌≡◌, ◌⊎◌, ℕ, ◌+◌, ◌-◌, ◌<◌, ◌≤◌, List, [], ◌∷◌, ◌++◌, length, take, drop, map, true, IsUtf8, refl, sym, ap, subst, ◌∙◌, arith, append_assoc, length-append, length-drop, length-take-le, take-append-drop, take_at, drop_at, drop-drop, ⊎_elim, inl, inr}
 use Rattle.std.specs.Char.{encode_utf8}
 use Rattle.std.specs.Str.{StartsWithNoChar, chars, encode_utf8_all, all_scalars}
@@ -14,13 +14,13 @@ use Rattle.tendril_lossy.specs.declared.search.Ending.TheVariants.{Whole, Broken
 use Rattle.tendril_lossy.proofs.Fronts.{text_front, past_kept, ends_within}
 use Rattle.tendril_lossy.proofs.Streams.{IsLossy-lossy, IsOpen-no_char}
 
--- what `first_part` says
+-- what `first_part` returns for bs
 pub record IsFirstPart (bs front : List ℕ) (ending : Ending) : Type 0 where
   pub front_is : front ≡ take (length front) bs
   pub text : IsUtf8 front
   pub items : lossy bs ≡ map Keep (chars front) ++ items_after bs (length front) ending
 
--- the items after the front
+-- the items after the longest valid prefix
 pub rest_items : (bs front : List ℕ) (ending : Ending) → IsFirstPart bs front ending → lossy (drop (length front) bs) ≡ items_after bs (length front) ending
 rest_items bs front ending p =
     let n = length front in
@@ -28,19 +28,19 @@ rest_items bs front ending p =
     text_front bs n (subst IsUtf8 p.front_is p.text) ∙ ap (λ l. map Keep (chars l) ++ lossy (drop n bs)) (sym p.front_is) in
     append_cancel_left (map Keep (chars front)) (lossy (drop n bs)) (items_after bs n ending) (sym all ∙ p.items)
 
--- what is cut off after the front
+-- after the longest valid prefix a character is cut off
 pub ends_open : (bs front : List ℕ) → IsFirstPart bs front Open → (length front < length bs) × IsOpen (drop (length front) bs)
 ends_open bs front p =
     let h = subst (IsLossy (drop (length front) bs)) (rest_items bs front Open p) (IsLossy-lossy (drop (length front) bs)) in
     (omega (arith, h.0, length-drop (length front) bs), h.2)
 
--- what stands after the front
+-- what follows the longest valid prefix
 pub ends : (bs front : List ℕ) (ending : Ending) → IsFirstPart bs front ending → EndsWithin bs (length front) ending
 ends bs front Whole p = tt
 ends bs front (Broken k) p = ends_within bs front k p.text p.items
 ends bs front Open p = ends_open bs front p
 
--- no character begins what follows the front
+-- what follows the longest valid prefix is empty or begins with no character
 none_follows : (bs front : List ℕ) (ending : Ending) → IsFirstPart bs front ending → (drop (length front) bs ≡ []) ⊎ StartsWithNoChar (drop (length front) bs)
 none_follows bs front ending p = by ending (subst (IsLossy (drop (length front) bs)) (rest_items bs front ending p) (IsLossy-lossy (drop (length front) bs)))
   where
@@ -49,7 +49,7 @@ none_follows bs front ending p = by ending (subst (IsLossy (drop (length front) 
     by (Broken k) h = inr h.0
     by Open h = inr (IsOpen-no_char (drop (length front) bs) h.2)
 
--- no longer front is a text
+-- no longer prefix is valid
 pub longest : (bs front : List ℕ) (ending : Ending) → IsFirstPart bs front ending → IsLongestText bs front
 longest bs front ending p = record { front = p.front_is; text = p.text; longest = λ m more within u. refuted m more within (rest m more within u) }
   where
@@ -76,11 +76,11 @@ longest bs front ending p = record { front = p.front_is; text = p.text; longest 
         by none (c ∷ cs) s e = none c (encode_utf8_all cs ++ drop m bs) (and_parts _ _ s).0
             (all ∙ ap (λ l. l ++ drop m bs) (sym e) ∙ append_assoc (encode_utf8 c) (encode_utf8_all cs) (drop m bs))
 
--- a front of some character's bytes, and not all of them, has at most three
+-- a proper prefix of a character's bytes has at most three
 pub open_len : (xs : List ℕ) → IsOpen xs → length xs ≤ 3
 open_len xs o = omega (arith, ap length o.4, length-append xs o.1, o.3, length-encode o.0, (len_utf8_bounds o.0).1)
 
--- what is left behind more bytes than are kept
+-- what follows at least all kept bytes
 pub past_all_kept : (kept input : List ℕ) (n : ℕ) → length kept ≤ n → drop n (kept ++ input) ≡ drop (n - length kept) input
 past_all_kept kept input n covers =
     let parts : n ≡ length kept + (n - length kept) = omega arith in
@@ -91,7 +91,7 @@ rest_of_input kept input front is covers =
     let n = length front in
     sym (take-append-drop n (kept ++ input)) ∙ ap (λ l. l ++ drop n (kept ++ input)) (sym is) ∙ ap (λ l. front ++ l) (past_all_kept kept input n covers)
 
--- What no character begins among the first four bytes, none begins with all of them.
+-- If the first four bytes begin with no character, all bytes begin with none.
 module _ (all : List ℕ) where
   abbrev four : List ℕ
   four = take 4 all
@@ -135,12 +135,12 @@ module _ (kept input : List ℕ) (waits : IsOpen kept) where
   kept-within : length kept ≤ length bytes
   kept-within = omega (arith, short, length-take 4 (kept ++ input), length-append kept input)
 
-  -- the first items, where no text stands before them
+  -- the items, if the longest valid prefix is empty
   bare : (front : List ℕ) (ending : Ending) → IsFirstPart bytes front ending → length front ≡ 0 → IsLossy bytes (items_after bytes 0 ending)
   unfolding chars
   bare front ending p none = subst (IsLossy bytes) (p.items ∙ ap (λ l. map Keep (chars l) ++ items_after bytes (length l) ending) (nil_from_length front none)) (IsLossy-lossy bytes)
 
-  -- where a text stands at the front, it has all kept bytes
+  -- if the bytes begin with a text, it has all kept bytes
   pub completes : (front : List ℕ) (ending : Ending) → IsFirstPart bytes front ending → 0 < length front → CompletesTo kept input front (drop (length front - length kept) input)
   completes front ending p some =
       let n = length front in
@@ -149,7 +149,7 @@ module _ (kept input : List ℕ) (waits : IsOpen kept) where
       let past = past_kept kept input n waits some (omega (arith, within, length-take 4 (kept ++ input))) (subst IsUtf8 is p.text) in
       record { all = rest_of_input kept input front is (omega (arith, past)); longest = longest bytes front ending p; covers = omega (arith, past); within = omega (arith, within, length-take 4 (kept ++ input), length-append kept input); left = refl; some = inl some }
 
-  -- where there are no bytes, the text is empty
+  -- if there are no bytes, the text is empty
   pub completes_nothing : (front : List ℕ) → IsFirstPart bytes front Whole → length front ≡ 0 → CompletesTo kept input front (drop (length front - length kept) input)
   completes_nothing front p none =
       let h : bytes ≡ [] = bare front Whole p none in
@@ -178,7 +178,7 @@ module _ (kept input : List ℕ) (waits : IsOpen kept) where
         left = refl;
       }
 
-  -- they still begin a character
+  -- the kept bytes and all of the input are still only the beginning of a character
   pub opens : (front : List ℕ) → IsFirstPart bytes front Open → length front ≡ 0 → StillOpen kept input bytes
   opens front p none =
       let h = bare front Open p none in

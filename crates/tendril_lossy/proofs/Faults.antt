@@ -1,4 +1,4 @@
--- What `utf8_error_len` reads of bytes, and that it is the length of a maximal subpart.
+-- Which bytes `utf8_error_len` reads, and that it returns the length of a maximal subpart.
 use Rattle.std.proofs.Common.{◌≡◌, ◌⊎◌, ℕ, suc, ◌+◌, ◌-◌, ◌*◌, ◌<◌, ◌≤◌, min, Bool, true, false, cond, nat_lt, List, [], ◌∷◌, ◌++◌, length, take, drop, slice_index, Some, None, refl, sym, ap, ap₂, subst, ◌∙◌, arith, inl, inr, ⊎_elim, append_assoc, append-nil, length-append, length-drop, length-take-le, get_or-take, take-append-drop, take_at, true≢false}
 use Rattle.std.specs.Prelude.{Option, ◌==◌}
 use Rattle.std.specs.Int.{is_in_range}
@@ -87,7 +87,7 @@ bounds n x y z r k (no_fourth p _ _ _ e) i = let s : k ≡ 3 = cc in (omega arit
 pub error-bounds : (bs : List ℕ) (k : ℕ) → utf8_error_len bs ≡ Some k → (0 < k) × (k ≤ length bs) × (k < 4)
 error-bounds bs k e = bounds _ _ _ _ _ k (fault bs) e
 
--- where the bytes read are these, nothing is at fault
+-- without an error in the bytes that it reads, it returns None
 none_by : (n x y z : ℕ) (r : Option ℕ) → Fault n x y z r → (0 < n → lead x ≡ true) → (1 < n → second x y ≡ true) → (2 < n → later z ≡ true) → n < 4 → r ≡ None
 none_by n x y z r (empty _ e) l s t b = e
 none_by n x y z r (no_start p h e) l s t b = absurd (true≢false (sym (l p) ∙ h))
@@ -113,7 +113,7 @@ past_start n x y z p l = cond-false _ _ _ (not_zero n (omega arith)) ∙ cond-tr
 pub past_second : (n x y z : ℕ) → 3 ≤ n → lead x ≡ true → second x y ≡ true → err n x y z ≡ cond (later z) (cond (nat_lt n 4) None (Some 3)) (Some 2)
 past_second n x y z p l s = past_start n x y z (omega arith) l ∙ cond-true _ _ _ s ∙ cond-false _ _ _ (not_less n 3 p)
 
--- a fault is the same of other bytes that agree as far as it reads
+-- an error is the same in other bytes that agree as far as it reads
 pub same_error : (bs cs : List ℕ) (k : ℕ) → utf8_error_len bs ≡ Some k → min (length bs) (suc k) ≤ length cs
     → ((i : ℕ) → i < length bs → i < length cs → slice_index bs i ≡ slice_index cs i) → utf8_error_len cs ≡ Some k
 same_error bs cs k i le agree = err_is cs ∙ by (utf8_error_len bs) (fault bs) i
@@ -147,7 +147,7 @@ same_error bs cs k i le agree = err_is cs ∙ by (utf8_error_len bs) (fault bs) 
         past_second (length cs) (slice_index cs 0) (slice_index cs 1) (slice_index cs 2) (omega arith) (ap lead (sym a) ∙ h) (ap₂ second (sym a) (sym b) ∙ s)
         ∙ cond-true _ _ _ (ap later (sym d) ∙ t) ∙ cond-false _ _ _ (not_less (length cs) 4 (omega arith)) ∙ ap Some (sym three)
 
--- A proper front of a character has no fault.
+-- A proper prefix of a character has no error.
 
 scalar_ranges : (c : ℕ) → IsScalar c → (c < 0xD800) ⊎ ((0xE000 ≤ c) × (c < 0x11_0000))
 scalar_ranges = scalar_cases
@@ -198,7 +198,7 @@ IsOpen-none xs o = by (point_shape o.0 (IsCodePoint-scalar o.0 o.2))
         none_by _ _ _ _ _ (fault xs) (λ p. ap lead (front_at xs o.1 _ 0 all p) ∙ start)
         (λ p. ap₂ second (front_at xs o.1 _ 0 all (omega arith)) (front_at xs o.1 _ 1 all p) ∙ next) (λ p. ap later (front_at xs o.1 _ 2 all p) ∙ third) (omega arith)
 
--- Bytes without a fault, which no character begins, can be completed.
+-- Bytes without an error, which begin with no character, can be completed to one.
 
 lead_bounds : (x : ℕ) → lead x ≡ true → (194 ≤ x) × (x < 245)
 lead_bounds x h = (grind (arith, nat_tests), grind (arith, nat_tests))
@@ -315,7 +315,7 @@ no_char-take bs k none c rest s e = none c (rest ++ drop k bs) s (sym (take-appe
 take_at-below : (bs : List ℕ) (m i : ℕ) → i < length (take m bs) → m ≤ length bs → slice_index (take m bs) i ≡ slice_index bs i
 take_at-below bs m i lt le = get_or-take m bs i 0 (omega (arith, length-take-le m bs le))
 
--- the bytes of a fault before the one that breaks it have none
+-- the bytes of a broken sequence have no error by themselves, if there is more than one
 broken_front : (bs : List ℕ) (k : ℕ) → utf8_error_len bs ≡ Some k → (k ≡ 1) ⊎ (utf8_error_len (take k bs) ≡ None)
 broken_front bs k i = by (utf8_error_len bs) (fault bs) i
   where
@@ -355,7 +355,7 @@ IsMaximalSubpart-error bs k none e =
           IsOpen-faultless (take m bs) k (same_error bs (take m bs) k e (omega arith) (λ i p q. sym (take_at-below bs m i q le))) o;
     }
 
--- An error stays where more bytes follow.
+-- An error stays the same if more bytes follow.
 
 pub error-append : (bs more : List ℕ) (k : ℕ) → utf8_error_len bs ≡ Some k → utf8_error_len (bs ++ more) ≡ Some k
 error-append bs more k e = same_error bs (bs ++ more) k e (omega (arith, length-append bs more)) (λ i p q. sym (get_or_append_left bs more 0 i p))

@@ -1,4 +1,4 @@
--- What stands at the front of bytes, whatever follows.
+-- What bytes begin with, whatever follows.
 use Rattle.std.proofs.Common.{◌≡◌, ℕ, ◌+◌, ◌<◌, ◌≤◌, List, [], ◌∷◌, ◌++◌, length, take, drop, take_at, map, Some, true, IsUtf8, refl, append-nil, sym, ap, subst, ◌∙◌, arith, ⊎_elim, append_assoc, length-append, length-take-le, take-append-drop}
 use Rattle.std.specs.Char.{encode_utf8}
 use Rattle.std.specs.Str.{StartsWithNoChar, chars, encode_utf8_all, all_scalars}
@@ -13,7 +13,7 @@ use Rattle.tendril_lossy.proofs.Lossy.{lossy-front, lossy-bad}
 use Rattle.tendril_lossy.proofs.Faults.{error-append, no_char-append}
 use Rattle.tendril_lossy.proofs.Streams.{IsLossy-lossy, IsOpen-no_char}
 
--- text is read off, whatever follows
+-- a text gives its characters, whatever follows
 pub text_first : (t rest : List ℕ) → IsUtf8 t → lossy (t ++ rest) ≡ map Keep (chars t) ++ lossy rest
 text_first t rest u =
     ap (λ l. lossy (l ++ rest)) (sym u.1.1) ∙ lossy-front u.0 rest u.1.0 ∙ ap (λ cs. map Keep cs ++ lossy rest) (chars_from_encodes u.0 t u u.1.1)
@@ -21,7 +21,7 @@ text_first t rest u =
 pub text_front : (bs : List ℕ) (n : ℕ) → IsUtf8 (take n bs) → lossy bs ≡ map Keep (chars (take n bs)) ++ lossy (drop n bs)
 text_front bs n u = ap lossy (sym (take-append-drop n bs)) ∙ text_first (take n bs) (drop n bs) u
 
--- text at the front of kept bytes k and those that follow goes past the kept ones
+-- if the kept bytes k and those that follow begin with text, the text is longer than k
 pub past_kept : (k p : List ℕ) (n : ℕ) → IsOpen k → 0 < n → n ≤ length (k ++ p) → IsUtf8 (take n (k ++ p)) → length k < n
 past_kept k p n o some within u = ⊎_elim
     (λ (h : length k < n). h)
@@ -41,7 +41,7 @@ bad_front bs w m some none e =
     let whole = take-append-drop w bs in
     lossy-bad bs m some (subst StartsWithNoChar whole (no_char-append (take w bs) (drop w bs) m none e)) (ap utf8_error_len (sym whole) ∙ error-append (take w bs) (drop w bs) m e)
 
--- a broken sequence after text stands within the bytes
+-- a broken sequence after text is within the bytes
 
 within_items : (cs bs : List ℕ) (k : ℕ) (items : List Item) → IsLossy bs (map Keep cs ++ Bad k ∷ items) → (length (encode_utf8_all cs) + k ≤ length bs) × (0 < k)
 within_items [] bs k items h = let w = h.2.within in (omega arith, h.2.some)
@@ -55,7 +55,7 @@ ends_within bs t k u e =
     let h = within_items (chars t) bs k (lossy (drop (length t + k) bs)) (subst (IsLossy bs) e (IsLossy-lossy bs)) in
     (h.1, subst (λ l. length l + k ≤ length bs) same h.0)
 
--- no bytes are a front of any character's, and text isn't one that is cut off
+-- the empty list is a proper prefix of a character's bytes; bytes that begin with text, which isn't empty, aren't
 
 pub IsOpen-nil : IsOpen []
 IsOpen-nil = (0x41, encode_utf8 0x41, search, omega (arith, length-encode 0x41, (len_utf8_bounds 0x41).0), refl)

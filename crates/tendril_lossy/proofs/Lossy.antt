@@ -13,7 +13,7 @@ use Rattle.tendril_fmt.specs.Proved.Encodings.{chars-front}
 use Rattle.tendril_fmt.specs.Proved.Encodings.{IsCodePoint-scalar}
 use Rattle.tendril_lossy.proofs.Faults.{error-bounds}
 
--- what begins bytes
+-- with which item bytes begin
 
 begins : (c : ℕ) (rest : List ℕ) → IsScalar c → begins_with (encode_utf8 c ++ rest) c ≡ true
 begins c rest s = and_from _ _ s ((bytes_decides _ _).1 (sym (take_at (encode_utf8 c) rest (len_utf8 c) (length-encode c))))
@@ -38,14 +38,14 @@ first_item-none bs none = ⊎_elim
     (λ no. cond-false _ _ _ no)
     (cases_Bool (begins_with bs (slice_index (chars bs) 0)))
 
--- a character begins the bytes, or none does
+-- bytes begin with a character, or with none
 pub first_item-cases : (bs : List ℕ) → ((c : ℕ) × (rest : List ℕ) × IsScalar c × (bs ≡ encode_utf8 c ++ rest)) ⊎ (StartsWithNoChar bs × (first_item bs ≡ broken (utf8_error_len bs) bs))
 first_item-cases bs = ⊎_elim
     (λ yes. let k = begins-split bs (slice_index (chars bs) 0) yes in inl (_, _, k.0, k.1))
     (λ no. inr (λ c rest s e. true≢false (sym (begins c rest s) ∙ ap (λ l. begins_with l c) (sym e) ∙ ap (begins_with bs) (sym (first_code bs c rest s e)) ∙ no), cond-false _ _ _ no))
     (cases_Bool (begins_with bs (slice_index (chars bs) 0)))
 
--- each item takes a byte
+-- each item has at least one byte
 
 pub item-pos : (bs : List ℕ) → 0 < length bs → 0 < item_len (first_item bs)
 item-pos bs some = ⊎_elim
@@ -97,7 +97,7 @@ lossy-char c rest s =
     let item = first_item-char c rest s in
     lossy-step bs some ∙ ap (λ i. i ∷ lossy (drop (item_len i) bs)) item ∙ ap (λ l. Keep c ∷ lossy l) (drop_at (encode_utf8 c) rest (len_utf8 c) (length-encode c))
 
--- text at the front gives its characters, whatever follows
+-- a text that bytes begin with gives its characters, whatever follows
 pub lossy-front : (cs rest : List ℕ) → all_scalars cs ≡ true → lossy (encode_utf8_all cs ++ rest) ≡ map Keep cs ++ lossy rest
 lossy-front [] rest s = refl
 lossy-front (c ∷ cs) rest s =
@@ -116,7 +116,7 @@ lossy-cut bs some none e =
     lossy-step bs some ∙ ap (λ i. i ∷ lossy (drop (item_len i) bs)) (first_item-none bs none ∙ ap (λ o. broken o bs) e)
     ∙ ap (λ l. Cut bs ∷ l) (ap lossy (nil_from_length (drop (length bs) bs) (omega (arith, length-drop (length bs) bs))) ∙ lossy-nil)
 
--- one step of a decoder: the valid front, then the broken sequence, then the rest
+-- one step of a decoder: the valid prefix, then the broken sequence, then the remainder
 
 pub none_after : (bs : List ℕ) (n : ℕ) → IsValidUpTo bs n → StartsWithNoChar (drop n bs)
 none_after bs n valid c rest s e =

@@ -1,4 +1,4 @@
--- What stands at the front of four bytes or more: a character, or a broken sequence.
+-- What four bytes or more begin with: a character, or a broken sequence.
 use Rattle.std.proofs.Common.{◌≡◌, ℕ, ◌+◌, ◌<◌, ◌≤◌, Bool, true, false, List, [], ◌∷◌, ◌++◌, length, take, drop, map, slice_index, Some, IsUtf8, refl, sym, ap, subst, ◌∙◌, arith, inl, ⊎_elim, true≢false, length-take-le, length-drop, get_or-take}
 use Rattle.std.specs.Prelude.{◌&&◌}
 use Rattle.std.specs.Char.{encode_utf8, IsScalar}
@@ -22,7 +22,7 @@ use Rattle.tendril_lossy.proofs.Windows.{grow, bad_at}
 abbrev begin : List ℕ → Bool
 begin bs = lead (slice_index bs 0) && second (slice_index bs 0) (slice_index bs 1)
 
--- Whole characters.
+-- Bytes that begin with a character.
 
 front_1 : (bs : List ℕ) → 1 ≤ length bs → take 1 bs ≡ slice_index bs 0 ∷ []
 front_1 [] h = absurd (omega arith)
@@ -67,9 +67,9 @@ whole_4 bs le b t l u =
     let p = and_parts (lead x) (second x y) b in
     spelt (take 4 bs) (x ∷ y ∷ z ∷ w ∷ []) (front_4 bs le) (spells_4 x y z w p.0 l p.1 t (later_bounds w u))
 
--- No character.
+-- Bytes that begin with no character.
 
--- what bytes are that a character begins
+-- four bytes that begin with a character, by its length
 data Begins (x y z w : ℕ) : Type 0 where
   one : x < 128 → Begins x y z w
   two : x < 224 → lead x ≡ true → second x y ≡ true → Begins x y z w
@@ -130,7 +130,7 @@ none_3 bs high broken c rest s e = by (begins bs c rest s e)
     by (three h _ _ _) = omega arith
     by (four _ _ _ t) = true≢false (sym t ∙ broken)
 
--- How long the broken sequence is.
+-- The length of the broken sequence.
 
 pub error_1 : (bs : List ℕ) → 4 ≤ length bs → begin bs ≡ false → utf8_error_len bs ≡ Some 1
 error_1 bs le broken =
@@ -152,19 +152,19 @@ error_3 bs le b t =
     let p = and_parts (lead x) (second x y) b in
     err_is bs ∙ past_second n x y z (omega arith) p.0 p.1 ∙ cond-true _ _ _ t ∙ cond-false _ _ _ (not_less n 4 le)
 
--- What ends the text at a place is said of the text's length.
+-- The offset at which a text ends is the text's length.
 
 pub at_length : (bs : List ℕ) (m : ℕ) (ending : Ending) → m ≤ length bs → lossy bs ≡ map Keep (chars (take m bs)) ++ items_after bs (length (take m bs)) ending
     → lossy bs ≡ map Keep (chars (take m bs)) ++ items_after bs m ending
 at_length bs m ending le e = subst (λ n. lossy bs ≡ map Keep (chars (take m bs)) ++ items_after bs n ending) (length-take-le m bs le) e
 
--- A part of the bytes behind text.
+-- A slice of the bytes after text.
 
--- text at its front makes the text longer
+-- if it begins with text, the text gets longer
 pub grow_part : (bs : List ℕ) (at w n : ℕ) → IsUtf8 (take at bs) → n ≤ w → IsUtf8 (take n (take w (drop at bs))) → IsUtf8 (take (at + n) bs)
 grow_part bs at w n u le v = grow bs at n u (subst IsUtf8 (take-take n w (drop at bs) le) v)
 
--- and so does ASCII
+-- if it begins with ASCII, the text gets longer
 pub grow_ascii : (bs : List ℕ) (at w n : ℕ) → IsUtf8 (take at bs) → n ≤ w → ((k : ℕ) → k < n → slice_index (take w (drop at bs)) k < 128) → IsUtf8 (take (at + n) bs)
 grow_ascii bs at w n u le low = grow_part bs at w n u le (IsUtf8-from_ascii (take n part) (λ i. ⊎_elim
     (λ (h : i < n). subst (λ x. x < 128) (sym (get_or-take n part i 0 h)) (low i h))
@@ -174,7 +174,7 @@ grow_ascii bs at w n u le low = grow_part bs at w n u le (IsUtf8-from_ascii (tak
     part : List ℕ
     part = take w (drop at bs)
 
--- a broken sequence at its front is what ends the text
+-- if it begins with a broken sequence, that is what ends the text
 pub broken_part : (bs : List ℕ) (at w k : ℕ) → IsUtf8 (take at bs) → at < length bs → StartsWithNoChar (take w (drop at bs)) → utf8_error_len (take w (drop at bs)) ≡ Some k
     → lossy bs ≡ map Keep (chars (take at bs)) ++ items_after bs at (Broken k)
 broken_part bs at w k u some none e =

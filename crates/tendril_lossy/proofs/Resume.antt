@@ -1,4 +1,4 @@
--- A stream goes on after kept bytes that were completed.
+-- Decoding continues after the kept bytes were completed.
 use Rattle.std.proofs.Common.{◌≡◌, ℕ, List, [], ◌∷◌, ◌++◌, length, drop, map, flat_map, refl, sym, ap, ◌∙◌, codes, drop_at}
 use Rattle.std.specs.Str.{chars}
 use Rattle.tendril_lossy.specs.Completions.{CompletesTo, BreaksAt, StillOpen}
@@ -6,7 +6,7 @@ use Rattle.tendril_lossy.specs.Lossy.{Item, Keep, Bad, Cut, Char, lossy, closed_
 use Rattle.tendril_lossy.proofs.Fronts.{text_first}
 use Rattle.tendril_lossy.proofs.Streams.{IsLossy-lossy, only_lossy}
 
--- a text at the front tells its characters
+-- the output of a text that bytes begin with is its characters
 
 pub closed-keeps : (cs : List ℕ) (items : List Item) → flat_map closed_of (map Keep cs ++ items) ≡ map Char cs ++ flat_map closed_of items
 closed-keeps [] items = refl

@@ -1,4 +1,4 @@
--- The items of a stream that comes in parts, and that they are those of the practice.
+-- The items of a stream that comes in pieces, and that they are those of Unicode's practice.
 use Rattle.std.proofs.Common.{◌≡◌, ℕ, zero, suc, ◌<◌, ◌≤◌, List, [], ◌∷◌, ◌++◌, length, drop, flat_map, Some, None, refl, sym, ap, ap₂, subst, ◌∙◌, arith, ⊎_elim, append_assoc, append-nil, length-append, length-drop}
 use Rattle.std.specs.Prelude.{Option}
 use Rattle.std.specs.Char.{encode_utf8, IsScalar}
@@ -11,7 +11,7 @@ use Rattle.tendril_lossy.specs.Lossy.{Item, Keep, Bad, Cut, lossy, closed_of, du
 use Rattle.tendril_lossy.proofs.Lossy.{first_item-cases, lossy-nil, lossy-char, lossy-bad, lossy-cut}
 use Rattle.tendril_lossy.proofs.Faults.{error-bounds, error-append, no_char-append, IsMaximalSubpart-error, IsOpen-faultless, IsOpen-from_none}
 
--- the front of bytes: nothing, a character, a fault, or a character cut off
+-- what bytes begin with: nothing, a character, a broken sequence, or a character that is cut off
 pub data Front (bs : List ℕ) : Type 0 where
   nothing : bs ≡ [] → Front bs
   char : (c : ℕ) (rest : List ℕ) → IsScalar c → bs ≡ encode_utf8 c ++ rest → length rest < length bs → Front bs
@@ -31,14 +31,14 @@ front_of bs = ⊎_elim
     by some none None e = cut none some e
     by some none (Some k) e = let b = error-bounds bs k e in fault k none some e b.1 (omega (arith, length-drop k bs, b.0))
 
--- the items without the last one, where that is cut off
+-- the items without the last one, if that is cut off
 abbrev pub closed_items : List Item → List Item
 closed_items [] = []
 closed_items (Keep c ∷ items) = Keep c ∷ closed_items items
 closed_items (Bad n ∷ items) = Bad n ∷ closed_items items
 closed_items (Cut xs ∷ items) = closed_items items
 
--- what the bytes b told stays, and the bytes kept go before those that follow
+-- the items of b stay, and those of the kept bytes and p follow
 abbrev Appends : List ℕ → List ℕ → Type 0
 Appends b p = lossy (b ++ p) ≡ closed_items (lossy b) ++ lossy (kept b ++ p)
 
@@ -82,7 +82,7 @@ cut-closed (Keep c ∷ items) more = cut-closed items more
 cut-closed (Bad n ∷ items) more = cut-closed items more
 cut-closed (Cut xs ∷ items) more = cut-closed items more
 
--- A decoder that stands at b stands at b ++ p after p.
+-- A decoder that has read b, and then reads p, has sent the output of b ++ p.
 pub due_open-append : (b p : List ℕ) → due_open (b ++ p) ≡ due_open b ++ due_open (kept b ++ p)
 due_open-append b p = ap (flat_map closed_of) (lossy-append b p) ∙ open-closed (lossy b) (lossy (kept b ++ p))
 
@@ -92,11 +92,11 @@ kept-append b p = ap cut_bytes (lossy-append b p) ∙ cut-closed (lossy b) (loss
 pub due-append : (b p : List ℕ) → due (b ++ p) ≡ due_open b ++ due (kept b ++ p)
 due-append b p = ap (flat_map due_of) (lossy-append b p) ∙ due-closed (lossy b) (lossy (kept b ++ p))
 
--- All that is due: what was due while the stream could go on, and what is due at its end.
+-- The output of a whole stream: what was sent while it could continue, then what is sent at its end.
 pub due-end : (b : List ℕ) → due b ≡ due_open b ++ due (kept b)
 due-end b = ap due (sym (append-nil b)) ∙ due-append b [] ∙ ap (λ l. due_open b ++ due l) (append-nil (kept b))
 
--- The items are those of the practice, and no others are.
+-- The items are those of Unicode's practice, and no others are.
 
 is_step : (fuel : ℕ) (b : List ℕ) → length b < suc fuel → ((l : List ℕ) → length l < fuel → IsLossy l (lossy l)) → Front b → IsLossy b (lossy b)
 is_step fuel b le ih (nothing e) = subst (IsLossy b) (sym (ap lossy e ∙ lossy-nil)) e
@@ -111,7 +111,7 @@ is_within (suc fuel) b le = is_step fuel b le (is_within fuel) (front_of b)
 pub IsLossy-lossy : (b : List ℕ) → IsLossy b (lossy b)
 IsLossy-lossy b = is_within (suc (length b)) b (omega arith)
 
--- no character begins a front that isn't all of one
+-- a proper prefix of a character's bytes begins with no character
 pub IsOpen-no_char : (bs : List ℕ) → IsOpen bs → StartsWithNoChar bs
 IsOpen-no_char bs o c rest s e =
     let k = encode_same c o.0 (rest ++ o.1) [] (sym (append_assoc (encode_utf8 c) rest o.1) ∙ ap (λ l. l ++ o.1) (sym e) ∙ o.4 ∙ sym (append-nil (encode_utf8 o.0))) in

@@ -1,4 +1,4 @@
--- The characters of what was told.
+-- The characters of an output.
 use Rattle.std.proofs.Common.{◌≡◌, ℕ, List, [], ◌∷◌, ◌++◌, map, refl, ap}
 use Rattle.tendril_lossy.specs.Lossy.{Told, Char, Mark, characters}
 

@@ -1,4 +1,4 @@
--- The first part of a stream, found by windows.
+-- The longest valid prefix of a stream, found by windows.
 use Rattle.std.proofs.Common.{◌≡◌, ℕ, ◌+◌, ◌-◌, ◌≤◌, List, [], ◌∷◌, ◌++◌, length, take, drop, map, Some, None, IsUtf8, sym, ap, subst, ◌∙◌, arith, length-drop, length-take-le, take-append-drop, drop-drop, take-add}
 use Rattle.std.specs.Str.{StartsWithNoChar, IsValidUpTo, chars}
 use Rattle.std.specs.Str.Lossy.{utf8_error_len}
@@ -9,19 +9,19 @@ use Rattle.tendril_lossy.specs.Lossy.{Keep, Bad, Cut, lossy}
 use Rattle.tendril_lossy.proofs.Lossy.{none_after, lossy-cut}
 use Rattle.tendril_lossy.proofs.Fronts.{text_front, bad_front}
 
--- text, and text after it
+-- text, then text, is text
 pub grow : (bs : List ℕ) (at n : ℕ) → IsUtf8 (take at bs) → IsUtf8 (take n (drop at bs)) → IsUtf8 (take (at + n) bs)
 grow bs at n u v = subst IsUtf8 (sym (take-add at n bs)) (IsUtf8-append (take at bs) (take n (drop at bs)) u v)
 
 all_of : (bs : List ℕ) (at : ℕ) → take (length bs - at) (drop at bs) ≡ drop at bs
 all_of bs at = ap (λ n. take n (drop at bs)) (sym (length-drop at bs)) ∙ take-length (drop at bs)
 
--- the last window is all that is left
+-- the last window is all of the remainder
 
 pub whole : (bs : List ℕ) (at : ℕ) → IsUtf8 (take at bs) → IsUtf8 (take (length bs - at) (drop at bs)) → IsUtf8 bs
 whole bs at u v = subst IsUtf8 (take-append-drop at bs) (IsUtf8-append (take at bs) (drop at bs) u (subst IsUtf8 (all_of bs at) v))
 
--- the valid front of a window, after text
+-- text, then the valid prefix of a window, is text
 pub grow_front : (bs : List ℕ) (at w n : ℕ) → IsUtf8 (take at bs) → IsValidUpTo (take w (drop at bs)) n → IsUtf8 (take (at + n) bs)
 grow_front bs at w n u valid =
     let short = valid.short in

@@ -1,4 +1,4 @@
--- The words of the contracts on lossy decoding.
+-- The definitions that contracts on lossy decoding cite.
 pub mod Lossy
 pub mod AfterText
 pub mod Laws

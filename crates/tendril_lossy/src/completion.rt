@@ -45,21 +45,21 @@ impl ShortText {
     }
 }
 
-/// What becomes of kept bytes that are filled to at most four from the input.
+/// What kept bytes become when they are filled up to four bytes from the input.
 ///
-/// Values, not borrows of the kept bytes as in the Rust crate: no contract could say what these are during the borrow.
+/// It doesn't borrow the kept bytes, as the Rust crate's does: no contract could say what they are during the borrow.
 #[derive(Clone, Copy, Debug)]
 pub enum Completion {
     /// The longest text that they begin with.
     Text(ShortText),
     /// The maximal subpart, if they begin with no character.
     Broken(Encoded),
-    /// They still begin a character, with all of the input.
+    /// The kept bytes and all of the input, which are still only the beginning of a character.
     Open(Encoded),
 }
 
-/// Completes kept bytes from the input, of which it reads at most four bytes. What a text or a maximal subpart has beyond
-/// the kept bytes are the first bytes of the input.
+/// Completes kept bytes from the input, of which it reads at most four bytes. A text or a maximal subpart is the kept
+/// bytes, then the first bytes of the input.
 pub fn complete(kept: &[u8], input: &[u8]) -> Completion
     requires { IsOpen kept.now }
     ensures { Completes kept.now input.now result }

@@ -14,10 +14,10 @@ pub enum Ending {
     Open,
 }
 
-// The first window where no fault is expected near.
+// The size of the first window, if no broken sequence is expected nearby.
 const WINDOW: usize = 128;
 
-// Fewer bytes than these are read one character after another, if a fault is expected among them.
+// A first window of fewer bytes than these is read one character after another.
 const NEAR: usize = 64;
 
 /// The longest valid prefix, and what follows it.
@@ -29,7 +29,8 @@ pub fn first_part(bytes: &[u8]) -> (&str, Ending)
     first_part_by(bytes, WINDOW)
 }
 
-/// The longest valid prefix, and what follows it. Begins with a window of `first` bytes: few, if a fault is likely near.
+/// The longest valid prefix, and what follows it. First searches a window of `first` bytes, which changes only the
+/// time: few, if a broken sequence is likely nearby.
 pub fn first_part_by(bytes: &[u8], first: usize) -> (&str, Ending)
     requires { 4 ≤ first }
     ensures front { result.0.now ≡ take (length result.0.now) bytes.now }
@@ -49,7 +50,8 @@ pub fn first_part_by(bytes: &[u8], first: usize) -> (&str, Ending)
     }
 }
 
-// The same, if all is text up to a place: after it one window is read after another, each twice as long as the last.
+// The longest valid prefix, and what follows it, if the first `at` bytes are valid. Validates one window after another,
+// each twice as long as the one before.
 fn by_windows(bytes: &[u8], mut at: usize, mut window: usize) -> (&str, Ending)
     requires within { at ≤ length bytes.now }
     requires text { IsUtf8 (take at bytes.now) }
@@ -89,8 +91,9 @@ fn by_windows(bytes: &[u8], mut at: usize, mut window: usize) -> (&str, Ending)
     }
 }
 
-// What ends the text, if it ends among the first `count` bytes or soon after; else a place up to which all is
-// text. One character is read after another: a call that validates a window costs more than a few of them.
+// The length of the longest valid prefix and what follows it, if it ends among the first `count` bytes or soon after;
+// else the length of a valid prefix. Reads one character after another: a call that validates a window costs more than
+// a few of them.
 #[inline]
 fn near(bytes: &[u8], count: usize) -> (usize, Option<Ending>)
     ensures within { result.0 ≤ length bytes.now }
@@ -99,7 +102,7 @@ fn near(bytes: &[u8], count: usize) -> (usize, Option<Ending>)
 {
     let mut at = 0;
     while at < count {
-        // What is read below: eight bytes, and a character of at most four after them.
+        // Below, eight bytes are read, and a character of at most four after them.
         if bytes.len() - at < 12 {
             let (end, ending) = near_end(bytes, at);
             return (end, Some(ending));
@@ -113,7 +116,8 @@ fn near(bytes: &[u8], count: usize) -> (usize, Option<Ending>)
     (at, None)
 }
 
-// What ends the text, if all is text up to a place and few bytes follow it. A call, which comes once in a text.
+// The length of the longest valid prefix and what follows it, if the first `at` bytes are valid and few follow. Not
+// inlined: a search calls it at most once.
 #[inline(never)]
 fn near_end(bytes: &[u8], at: usize) -> (usize, Ending)
     requires within { at ≤ length bytes.now }
@@ -134,7 +138,7 @@ fn near_end(bytes: &[u8], at: usize) -> (usize, Ending)
     }
 }
 
-// How many of eight bytes are before the first that isn't ASCII. Read as a word, they tell it without a branch.
+// How many of the first eight bytes are before the first that isn't ASCII. Reads them as one number, without a branch.
 #[inline(always)]
 fn ascii_front(bytes: &[u8]) -> usize
     requires { 8 ≤ length bytes.now }
@@ -145,7 +149,7 @@ fn ascii_front(bytes: &[u8]) -> usize
     ((word_of_eight(bytes) & 0x8080_8080_8080_8080).trailing_zeros() / 8) as usize
 }
 
-// The first eight bytes as a word.
+// The first eight bytes as a number, in little-endian order.
 #[inline(always)]
 fn word_of_eight(bytes: &[u8]) -> u64
     requires { 8 ≤ length bytes.now }
@@ -157,7 +161,7 @@ fn word_of_eight(bytes: &[u8]) -> u64
     }
 }
 
-// How many bytes the first character has, or else the broken sequence in its place.
+// How many bytes the first character has, or as an error how many the broken sequence in its place has.
 #[inline(always)]
 fn first_char_len(bytes: &[u8]) -> Result<usize, usize>
     requires { 4 ≤ length bytes.now }
@@ -188,8 +192,8 @@ fn first_char_len(bytes: &[u8]) -> Result<usize, usize>
     Ok(4)
 }
 
-// Whether two bytes begin a character that isn't ASCII. Most faults are found here, so the tests that they pass are counted:
-// joined by `&` each test becomes a branch, and with random bytes no branch is predicted.
+// Whether two bytes begin a character that isn't ASCII. Most broken sequences are found here. The passed tests are
+// counted, since joined by `&` each test becomes a branch, which random bytes make unpredictable.
 #[inline(always)]
 fn begin_char(first: u8, second: u8) -> bool
     ensures { result ≡ (is_in_range 0xC2 0xF4 first && is_in_range (second_byte_min first) (second_byte_max first) second) }
@@ -215,7 +219,7 @@ fn least_second(first: u8) -> u8
     }
 }
 
-// The greatest one: above it are the surrogates, or no code points any more.
+// The greatest byte that may follow the first one: above it are surrogates, or numbers that are no code points.
 #[inline(always)]
 fn greatest_second(first: u8) -> u8
     ensures { result ≡ second_byte_max first }
@@ -237,8 +241,8 @@ fn goes_on(byte: u8) -> bool
     byte & 0xC0 == 0x80
 }
 
-// The start of the last character, if it has more than one byte and all before it is text; else the place itself.
-// To find where bytes are cut off takes longer than to see that they are text.
+// The start of the last character, if it has more than one byte and all bytes before it are valid; else `at`. To find
+// where bytes are cut off takes longer than to validate them.
 fn last_start(bytes: &[u8], at: usize) -> usize
     requires within { at ≤ length bytes.now }
     requires text { IsUtf8 (take at bytes.now) }
@@ -255,7 +259,7 @@ fn last_start(bytes: &[u8], at: usize) -> usize
     }
 }
 
-// The place, or the last one before it at which a character may begin: at most three bytes back.
+// The last offset up to `at` where a character may begin, or the third before `at`, if none of the later ones is.
 fn char_start(bytes: &[u8], at: usize) -> usize
     requires { (3 < at) × (at < length bytes.now) }
     ensures { (result ≤ at) × (at ≤ result + 3) }
@@ -263,7 +267,7 @@ fn char_start(bytes: &[u8], at: usize) -> usize
     back_in_char(bytes, back_in_char(bytes, back_in_char(bytes, at)))
 }
 
-// One place back, if a character can't begin at this one.
+// The offset before `at`, if no character can begin at `at`; else `at`.
 fn back_in_char(bytes: &[u8], at: usize) -> usize
     requires { (0 < at) × (at < length bytes.now) }
     ensures { (result ≤ at) × (at ≤ result + 1) }

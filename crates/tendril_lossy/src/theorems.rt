@@ -1,8 +1,9 @@
 //! Laws of lossy decoding.
 ghost use Rattle.tendril_lossy.specs.Laws.{ItemsAreLossy, GoesOn, Resumes};
 
-/// The definition of lossy decoding gives the items that Unicode's practice of maximal subparts gives, and no others; a
-/// stream may be cut anywhere; and if the bytes that are kept at a cut are completed, decoding continues with the rest.
+/// Does nothing; its contract states laws of lossy decoding. The items of bytes are exactly those of Unicode's practice
+/// of maximal subparts. A stream may be cut anywhere. After the bytes that are kept at a cut are completed, decoding
+/// continues with the remaining input.
 pub fn laws()
     ensures items { ItemsAreLossy }
     ensures goes_on { GoesOn }

@@ -1,4 +1,4 @@
--- What is made of bytes below 256 is below 256, and so are parts of it.
+-- Joins, slices and encodings have only numbers below 256.
 use Rattle.std.proofs.Common.{
   ℕ,
   zero,
@@ -60,7 +60,7 @@ AreBytes-drop bytes n h i = omega (arith, get_or-drop n bytes i 0, h (n + i))
 pub All-from_bytes : (bytes : List ℕ) → AreBytes bytes → All (λ b. b < 256) bytes
 All-from_bytes bytes h = All-from_get_or (λ b. b < 256) bytes 0 (λ i _. h i)
 
--- Parts
+-- Slices
 
 pub AreBytes-front : (part whole : List ℕ) → AreBytes whole → IsFrontOf part whole → AreBytes part
 AreBytes-front part whole h f =

@@ -1,4 +1,4 @@
--- What the characters of a text owe, in formats of one byte a character and in UTF-8.
+-- The laws of `CharFormat`, in formats of one byte per character and in UTF-8.
 use Rattle.std.proofs.Common.{
   ◌≡◌,
   ℕ,
@@ -56,14 +56,14 @@ use Rattle.tendril_fmt.specs.Chars.{encodings, one_byte, IsFirstChar, AreTextsOf
 
 -- The four bytes of an `Encoded`
 
--- padding the bytes that are meant gives them all
+-- padding the used bytes gives all four
 pub padded-meant : (bytes : List ℕ) (len : ℕ) → ArePadded bytes len → padded (take len bytes) ≡ bytes
 padded-meant bytes len h =
     let n : length (take len bytes) ≡ len = length-take-le len bytes h.within in
     ap (λ k. take len bytes ++ replicate (4 - k) 0) n ∙ ap (λ r. take len bytes ++ r)
     (sym h.zeros) ∙ take-append-drop len bytes
 
--- their number
+-- the number of the used bytes
 pub length-meant : (bytes : List ℕ) (len : ℕ) → ArePadded bytes len → length (take len bytes) ≡ len
 length-meant bytes len h = length-take-le len bytes h.within
 
@@ -91,14 +91,14 @@ IsFirstChar-from_split valid chars encodes encoding bytes rest c n split len enc
       rest_valid = subst valid (sym after) others;
     }
 
--- One byte a character
+-- One byte per character
 
 -- the encodings of characters are those characters
 pub encodings-one_byte : (cs : List ℕ) → encodings one_byte cs ≡ cs
 encodings-one_byte [] = refl
 encodings-one_byte (c ∷ cs) = ap (λ l. c ∷ l) (encodings-one_byte cs)
 
--- where every part of a valid list is valid, so are the texts of its parts
+-- if each byte is a character, valid lists are the texts of their characters
 pub AreTextsOf-one_byte : (valid : List ℕ → Type 0) (cs ds : List ℕ) → valid cs → valid ds
     → AreTextsOf valid (λ bytes. bytes) one_byte cs ds
 AreTextsOf-one_byte valid cs ds v w = record {
@@ -108,7 +108,7 @@ AreTextsOf-one_byte valid cs ds v w = record {
   rest_chars = encodings-one_byte ds;
 }
 
--- parts of ASCII are ASCII
+-- slices of ASCII are ASCII
 IsAscii-left : (cs ds : List ℕ) → IsAscii (cs ++ ds) → IsAscii cs
 IsAscii-left cs ds h = subst IsAscii (take-append_seam cs ds) (IsAscii-take (cs ++ ds) (length cs) h)
 
@@ -126,7 +126,7 @@ pub IsAscii-one_byte : (c : ℕ) → c < 128 → IsAscii (one_byte c)
 IsAscii-one_byte c h zero = h
 IsAscii-one_byte c h (suc i) = omega arith
 
--- the same of bytes of any kind
+-- two slices that any bytes are split into are the texts of their characters
 pub AreTextsOf-latin1 : (bytes cs ds : List ℕ) → AreBytes bytes → bytes ≡ cs ++ ds
     → AreTextsOf AreBytes (λ bytes. bytes) one_byte cs ds
 AreTextsOf-latin1 bytes cs ds v e =
@@ -137,7 +137,7 @@ AreBytes-one_byte c h = AreBytes-cons c [] h AreBytes-nil
 
 -- UTF-8
 
--- the encodings of characters, in std's words
+-- the encodings of characters, as std defines them
 pub encodings-encode_utf8 : (cs : List ℕ) → encodings encode_utf8 cs ≡ encode_utf8_all cs
 encodings-encode_utf8 [] = refl
 encodings-encode_utf8 (c ∷ cs) = ap (λ l. encode_utf8 c ++ l) (encodings-encode_utf8 cs)
@@ -186,7 +186,7 @@ IsFirstChar-utf8 bytes rest c n v split len =
     IsFirstChar-from_split IsUtf8 chars IsScalar encode_utf8 bytes rest c n split len s (IsUtf8-encode c s)
     (IsUtf8-past_char bytes rest c v split) (chars_past_char bytes rest c v split)
 
--- and so does one that begins with the byte c, where that is ASCII
+-- a text that begins with the ASCII byte c begins with the character c
 pub IsFirstChar-utf8_ascii : (bytes : List ℕ) (c : ℕ) → IsUtf8 bytes → Some c ≡ slice_get bytes 0 → c < 128
     → IsFirstChar IsUtf8 chars IsScalar encode_utf8 bytes c 1
 IsFirstChar-utf8_ascii [] c v first h = cc

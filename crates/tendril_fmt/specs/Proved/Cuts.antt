@@ -1,5 +1,5 @@
--- Where the bytes of code points may be cut: before a byte that goes on with none, so before each byte of ASCII. What
--- follows such a byte is cut off too.
+-- Where the bytes of code points may be cut: before each byte that isn't a continuation byte, so before each ASCII
+-- byte, and after each ASCII byte.
 use Rattle.std.proofs.Common.{
   ◌≡◌,
   ◌⊎◌,
@@ -45,12 +45,12 @@ use Rattle.tendril_fmt.specs.Proved.Encodings.{Shape, of1, of2, of3, of4, point_
 use Rattle.tendril_fmt.specs.Proved.Units.{IsWtf8-from_points, points_of}
 use Rattle.tendril_fmt.specs.Proved.Unpaired.{AreUnpaired, AreUnpaired-points, AreUnpaired-front, AreUnpaired-end}
 
--- a byte that starts a sequence
+-- a byte that starts a sequence, and the continuation bytes that it needs
 abbrev pub IsStart : List ℕ → Type 0
 IsStart bs = (sequence_len (slice_index bs 0) ≡ length bs)
     × ((k : ℕ) → 0 < k → k < length bs → IsContinuation (slice_index bs k))
 
--- the bytes of a code point are a start and continuations
+-- the bytes of a code point are a start and continuation bytes
 pub IsStart-encode : (c : ℕ) → IsCodePoint c → IsStart (encode_utf8 c)
 IsStart-encode c top = by (point_shape c top)
   where
@@ -81,7 +81,7 @@ IsStart-encode c top = by (point_shape c top)
           (cases_lt k 2),
     )
 
--- code points that stand before the place xs ends, and after it
+-- the code points cs, split into those of the bytes xs and those of the bytes ys
 pub record Cut (cs : List ℕ) (xs ys : List ℕ) : Type 0 where
   pub front : List ℕ
   pub back : List ℕ
@@ -89,11 +89,11 @@ pub record Cut (cs : List ℕ) (xs ys : List ℕ) : Type 0 where
   pub before : encode_utf8_all front ≡ xs
   pub after : encode_utf8_all back ≡ ys
 
--- no continuation begins ys
+-- ys begins with no continuation byte
 abbrev pub Opens : List ℕ → Type 0
 Opens ys = 0 < length ys → ¬ (IsContinuation (slice_index ys 0))
 
--- the bytes of code points are cut between two of them wherever no continuation follows
+-- a cut through the bytes of code points is between two of them, if no continuation byte follows
 pub cut : (cs xs ys : List ℕ) → AllByRecursion IsCodePoint cs → encode_utf8_all cs ≡ xs ++ ys → Opens ys → Cut cs xs ys
 cut [] xs ys all e opens =
     let k = ap length e in
@@ -135,7 +135,7 @@ cut (c ∷ cs) xs ys all e opens =
           after = i.after;
         }
 
--- WTF-8 may be cut before a byte of ASCII
+-- WTF-8 may be cut before an ASCII byte
 pub IsWtf8-ascii_cut : (bytes : List ℕ) (n : ℕ) → IsWtf8 bytes → n < length bytes → slice_index bytes n < 128
     → IsWtf8 (take n bytes) × IsWtf8 (drop n bytes)
 IsWtf8-ascii_cut bytes n v within ascii =
@@ -150,7 +150,7 @@ IsWtf8-ascii_cut bytes n v within ascii =
       subst IsWtf8 k.after (IsWtf8-from_points k.back (AreUnpaired-end k.front k.back apart)),
     )
 
--- what follows a byte of ASCII that comes first
+-- if the first byte is ASCII, the others are WTF-8
 after_first : (cs : List ℕ) (x : ℕ) (ys : List ℕ) → AreUnpaired cs → encode_utf8_all cs ≡ x ∷ ys → x < 128 → IsWtf8 ys
 after_first [] x ys apart e ascii = cc
 after_first (c ∷ cs) x ys apart e ascii =
@@ -172,7 +172,7 @@ after_first (c ∷ cs) x ys apart e ascii =
     point_some d (of3 a b v l h f g t m e) = omega (arith, ap length e)
     point_some d (of4 a b v w l h f g j t m e) = omega (arith, ap length e)
 
--- WTF-8 may be cut after a byte of ASCII
+-- WTF-8 may be cut after an ASCII byte
 pub IsWtf8-after_ascii : (bytes : List ℕ) (n : ℕ) → IsWtf8 bytes → n < length bytes → slice_index bytes n < 128
     → IsWtf8 (drop (n + 1) bytes)
 IsWtf8-after_ascii bytes n v within ascii =

@@ -1,4 +1,4 @@
--- Every code point, surrogates too, has its bytes, and the bytes say the code point.
+-- The encoding of every code point, surrogates too; the bytes determine the code point.
 use Rattle.std.proofs.Common.{
   ◌≡◌,
   ◌⊎◌,
@@ -68,7 +68,7 @@ encode_utf8_4 c l =
     (by (nat_lt c 2048 ≡ false) (grind (arith, nat_tests)))
     ∙ cond-false _ _ _ (by (nat_lt c 65536 ≡ false) (grind (arith, nat_tests)))
 
--- the bytes of a code point, and what they say of it
+-- the encoding of a code point, by its length
 pub data Shape (c : ℕ) : Type 0 where
   of1 : c < 128 → encode_utf8 c ≡ c ∷ [] → Shape c
   of2 : (a b : ℕ) → 194 ≤ a → a < 224 → IsContinuation b → c + 12416 ≡ a * 64 + b → encode_utf8 c ≡ a ∷ b ∷ [] → Shape c
@@ -77,7 +77,7 @@ pub data Shape (c : ℕ) : Type 0 where
   of4 : (a b d e : ℕ) → 240 ≤ a → a < 245 → IsContinuation b → IsContinuation d → IsContinuation e
       → c + 63447168 ≡ a * 262144 + b * 4096 + d * 64 + e → 65536 ≤ c → encode_utf8 c ≡ a ∷ b ∷ d ∷ e ∷ [] → Shape c
 
--- each code point is of one of these four
+-- each code point has one of these four lengths
 pub point_shape : (c : ℕ) → IsCodePoint c → Shape c
 point_shape c top = cases (cases_lt c 128) (cases_lt c 2048) (cases_lt c 65536)
   where
@@ -119,7 +119,7 @@ reads c rest (of4 a b d x l h f g k s m e) =
     ∙ led a (suc (suc (suc zero))) (a - 240) (b ∷ d ∷ x ∷ rest) (grind arith) (grind arith)
     ∙ whole _ rest ∙ ap (λ y. y ∷ chars rest) is
 
--- `chars` reads code points at the front, whatever follows
+-- `chars` decodes the code points that bytes begin with, whatever follows
 pub chars-front : (cs rest : List ℕ) → AllByRecursion IsCodePoint cs
     → chars (encode_utf8_all cs ++ rest) ≡ cs ++ chars rest
 chars-front [] rest h = refl
@@ -127,7 +127,7 @@ chars-front (c ∷ cs) rest h =
     ap chars (append_assoc (encode_utf8 c) (encode_utf8_all cs) rest) ∙ reads c (encode_utf8_all cs ++ rest)
     (point_shape c h.0) ∙ ap (λ l. c ∷ l) (chars-front cs rest h.1)
 
--- `chars` reads back what was encoded
+-- `chars` decodes what was encoded
 pub chars-code_points : (cs : List ℕ) → AllByRecursion IsCodePoint cs → chars (encode_utf8_all cs) ≡ cs
 chars-code_points cs h =
     ap chars (sym (append-nil (encode_utf8_all cs))) ∙ chars-front cs [] h ∙ ap (λ l. cs ++ l) chars-nil ∙ append-nil cs

@@ -83,7 +83,7 @@ units-code_points (u ∷ v ∷ us) h = ⊎_elim
     ∙ ap₂ (λ x y. x ++ y) (one_unit u h.0) (units-code_points (v ∷ us) h.1))
     (cases_Bool (pairs u v))
 
--- units spell code points
+-- units spell numbers that are code points
 pub bounded-code_points : (us : List ℕ) → AllByRecursion IsUnit us → AllByRecursion IsCodePoint (code_points us)
 bounded-code_points [] h = tt
 bounded-code_points (u ∷ []) h = (omega (arith, h.0), tt)
@@ -96,16 +96,16 @@ bounded-code_points (u ∷ v ∷ us) h = ⊎_elim
     (omega (arith, h.0), bounded-code_points (v ∷ us) h.1))
     (cases_Bool (pairs u v))
 
--- the units of an encoding are those that it encodes
+-- the units of the WTF-8 of units are these units
 pub units-wtf8 : (us : List ℕ) → AllByRecursion IsUnit us → units (wtf8 us) ≡ us
 units-wtf8 us h =
     ap (flat_map encode_utf16) (chars-code_points (code_points us) (bounded-code_points us h)) ∙ units-code_points us h
 
--- valid bytes spell units
+-- the units of valid bytes are 16-bit numbers
 pub IsUnit-units : (bs : List ℕ) → IsWtf8 bs → AllByRecursion IsUnit (units bs)
 IsUnit-units bs w = subst (AllByRecursion IsUnit) (sym (units-wtf8 w.0 w.1) ∙ ap units w.2) w.1
 
--- and these encode to the bytes
+-- the WTF-8 of the units of valid bytes is these bytes
 pub wtf8-units : (bs : List ℕ) → IsWtf8 bs → wtf8 (units bs) ≡ bs
 wtf8-units bs w = ap wtf8 (sym (ap units w.2) ∙ units-wtf8 w.0 w.1) ∙ w.2
 
@@ -113,11 +113,11 @@ both_units : (us vs : List ℕ) → AllByRecursion IsUnit us → AllByRecursion 
 both_units [] vs h k = k
 both_units (u ∷ us) vs h k = (h.0, both_units us vs h.1 k)
 
--- a join is valid, and its units are those of the left and then those of the right
+-- a join is valid
 pub IsWtf8-join : (l r : List ℕ) → IsWtf8 l → IsWtf8 r → IsWtf8 (wtf8_join l r)
 IsWtf8-join l r h k = (units l ++ units r, both_units _ _ (IsUnit-units l h) (IsUnit-units r k), refl)
 
--- its units
+-- the units of a join are those of the left, then those of the right
 pub units-join : (l r : List ℕ) → IsWtf8 l → IsWtf8 r → units (wtf8_join l r) ≡ units l ++ units r
 units-join l r h k = units-wtf8 _ (both_units _ _ (IsUnit-units l h) (IsUnit-units r k))
 
@@ -128,7 +128,7 @@ join_assoc a b c h k l =
     ap (λ us. wtf8 (us ++ units c)) (units-join a b h k) ∙ ap wtf8 (append_assoc (units a) (units b) (units c)) ∙ ap
     (λ us. wtf8 (units a ++ us)) (sym (units-join b c k l))
 
--- The same by code points
+-- WTF-8 by code points
 
 points_lone : (u : ℕ) (us : List ℕ) → IsApart u us → code_points (u ∷ us) ≡ u ∷ code_points us
 points_lone u [] h = refl
@@ -203,11 +203,11 @@ IsUnit-flat (c ∷ cs) h = both_units (encode_utf16 c) _ (⊎_elim
     (λ high. subst (AllByRecursion IsUnit) (sym (two_units c high)) (omega (arith, h.0), (omega arith, tt)))
     (cases_lt c 0x1_0000)) (IsUnit-flat cs h.2)
 
--- valid WTF-8 is the encoding of code points of which no lead stands right before a trail
+-- the encoding of code points is valid WTF-8 if no lead is right before a trail
 pub IsWtf8-from_points : (cs : List ℕ) → AreUnpaired cs → IsWtf8 (encode_utf8_all cs)
 IsWtf8-from_points cs h = (flat_map encode_utf16 cs, IsUnit-flat cs h, ap encode_utf8_all (code_points-units cs h))
 
--- and each valid text is of that form
+-- each valid text is the encoding of such code points
 pub points_of : (bs : List ℕ) → IsWtf8 bs → (cs : List ℕ) × AreUnpaired cs × (encode_utf8_all cs ≡ bs)
 points_of bs w = (code_points w.0, AreUnpaired-code_points w.0 w.1, w.2)
 
@@ -219,7 +219,7 @@ IsWtf8-nil = ([], tt, refl)
 pub AreBytes-from_wtf8 : (bs : List ℕ) → IsWtf8 bs → AreBytes bs
 AreBytes-from_wtf8 bs w = subst AreBytes w.2 (AreBytes-encode_utf8_all (code_points w.0) (bounded-code_points w.0 w.1))
 
--- scalars are no surrogates, so UTF-8 is WTF-8
+-- among scalar values, no lead is right before a trail
 AreUnpaired-scalars : (cs : List ℕ) → all_scalars cs ≡ true → AreUnpaired cs
 AreUnpaired-scalars [] h = tt
 AreUnpaired-scalars (c ∷ cs) h =

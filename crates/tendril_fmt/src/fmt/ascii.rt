@@ -7,7 +7,7 @@ use crate::fmt::latin1::Latin1;
 use crate::fmt::subset::SubsetOf;
 use crate::fmt::utf8::UTF8;
 
-/// ASCII: each byte is at most 7F, so any part of a text is one.
+/// ASCII: each byte is at most 7F, so every slice of a text is a text.
 #[derive(Clone, Copy, Debug, Default)]
 pub struct ASCII;
 

@@ -1,4 +1,4 @@
-//! The formats whose texts may be cut before and after a byte of ASCII.
+//! The formats whose texts may be cut before and after an ASCII byte.
 
 use crate::fmt::ascii::ASCII;
 use crate::fmt::bytes::Bytes;
@@ -7,18 +7,18 @@ use crate::fmt::latin1::Latin1;
 use crate::fmt::utf8::UTF8;
 use crate::fmt::wtf8::WTF8;
 
-/// A format in which a byte of ASCII is always something by itself: a text may be cut before and after it.
+/// A format in which an ASCII byte is never part of a longer sequence: a text may be cut before and after it.
 ///
 /// So a text can be searched for such a byte, and split there, without decoding what comes before it. All five formats
-/// of this crate are so. A format that pairs its bytes isn't.
+/// of this crate have this property. A format that pairs its bytes doesn't.
 pub trait CutsAtAscii: Format {
     ghost use Rattle.std.specs.Prelude.{ℕ, ◌+◌, ◌<◌, List, length, take, drop, slice_index};
 
-    /// The parts before and from a byte of ASCII on are valid.
+    /// The slice before an ASCII byte and the slice from it on are valid.
     ghost ascii_cut: { (bytes : List ℕ) (place : ℕ) → Self.valid bytes → place < length bytes → slice_index bytes place < 128
         → Self.valid (take place bytes) × Self.valid (drop place bytes) };
 
-    /// What follows a byte of ASCII is valid.
+    /// The slice after an ASCII byte is valid.
     ghost after_ascii: { (bytes : List ℕ) (place : ℕ) → Self.valid bytes → place < length bytes
         → slice_index bytes place < 128 → Self.valid (drop (place + 1) bytes) };
 }

@@ -1,4 +1,4 @@
-//! The characters of a text, each with its place.
+//! The characters of a text, each with its offset.
 ghost use Rattle.std.specs.Prelude.{◌≡◌, encode_utf8, chars, IsUtf8};
 ghost use Rattle.std.specs.Iterator.{YieldsFirst, item_count};
 ghost use Rattle.tendril_fmt.specs.Chars.{one_byte, places_from};
@@ -7,9 +7,9 @@ use std::iter::{Enumerate, FusedIterator};
 use std::marker::Model;
 use std::{slice, str};
 
-/// The characters of ASCII or Latin-1, where each byte is the character of that number, each with its place.
+/// The characters of ASCII or Latin-1, where each byte is the character of that number, each with its offset.
 ///
-/// Contracts see the list of the pairs that are left. Any bytes will do.
+/// Contracts see the list of the remaining pairs. Accepts any bytes.
 #[derive(Drop)]
 pub struct SingleByteCharIndices<'a> {
     bytes: Enumerate<slice::Iter<'a, u8>>,
@@ -54,9 +54,9 @@ impl<'a> Iterator for SingleByteCharIndices<'a> {
 
 impl<'a> FusedIterator for SingleByteCharIndices<'a> {}
 
-/// The characters of UTF-8, each with the place of its first byte among the bytes.
+/// The characters of UTF-8, each with the offset of its first byte.
 ///
-/// Contracts see the list of the pairs that are left. This is std's `str::char_indices`, over bytes that are known to be
+/// Contracts see the list of the remaining pairs. This is std's `str::char_indices`, over bytes that are known to be
 /// UTF-8 and are not validated again.
 #[derive(Drop)]
 pub struct Utf8CharIndices<'a> {

@@ -5,10 +5,10 @@ use std::marker::Model;
 
 /// The encoding of one character: four bytes, and how many of them are used.
 ///
-/// Contracts see the list of those that are used.
+/// Contracts see the list of the used bytes.
 #[derive(Clone, Copy, Debug)]
 pub struct Encoded {
-    // Those that are not used are zeros.
+    // The unused bytes are zeros.
     bytes: [u8; 4],
     len: u8,
 }
@@ -25,7 +25,7 @@ impl Model for Encoded {
 
     ghost invariant = { λ e. ArePadded e.bytes e.len };
 
-    // The list gives the fields back, which `Copy` asks for. So the bytes after it are fixed.
+    // The list determines the fields, as `Copy` requires. So the unused bytes have a fixed value.
     ghost inverse = { λ list. record { bytes = padded list; len = length list } };
 
     ghost inverse_ok = { λ e h. ap₂ (λ b n. record { bytes = b; len = n })
@@ -35,7 +35,7 @@ impl Model for Encoded {
 impl Encoded {
     ghost use Rattle.std.specs.Prelude.{◌≡◌, ◌≤◌, length};
 
-    /// The encoding that has these bytes.
+    /// The encoding with these bytes.
     pub fn new(bytes: &[u8]) -> Self
         requires { length bytes.now ≤ 4 }
         ensures { result ≡ bytes.now }
@@ -77,8 +77,8 @@ pub trait CharFormat: Format {
     /// The bytes of a character that has an encoding.
     ghost encoding: { ℕ → List ℕ };
 
-    /// The first character of valid bytes, and how many bytes its encoding has. In the formats here it costs the same
-    /// however long the text is, and a character of ASCII costs a load and a test.
+    /// The first character of valid bytes, and how many bytes its encoding has; `None` if there are no bytes. In the
+    /// formats here it takes constant time, for an ASCII character a load and a test.
     fn first_char(bytes: &[u8]) -> Option<(char, usize)>
         requires { Self.valid bytes.now }
         ensures first { IfSome result (λ found.
@@ -99,7 +99,7 @@ pub trait CharFormat: Format {
     /// Each character of a text has an encoding.
     ghost chars_encode: { (bytes : List ℕ) → Self.valid bytes → All encodes (chars bytes) };
 
-    /// A text may be cut between any two of its characters, and each side keeps its own.
+    /// A text may be cut between any two of its characters: each side is a text of its own characters.
     ghost cut: { (bytes cs ds : List ℕ) → Self.valid bytes → chars bytes ≡ cs ++ ds
         → AreTextsOf Self.valid chars encoding cs ds };
 

@@ -1,8 +1,8 @@
-//! What joining two texts changes at their seam.
+//! What joining two texts changes where they meet.
 ghost use Rattle.std.specs.Prelude.{◌≡◌};
 
 /// How many bytes a join drops at the end of the left text and at the beginning of the right one, and the bytes that
-/// it puts between them, the first `insert_len` of `insert_bytes`.
+/// it inserts between them: the first `insert_len` of `insert_bytes`.
 ///
 /// The default drops and inserts nothing.
 #[derive(Clone, Copy, Debug, Default, PartialEq, Eq)]

@@ -2,10 +2,10 @@
 
 use crate::fmt::fixup::Fixup;
 
-/// A set of lists of bytes, and how two of them join.
+/// A format: which lists of bytes are valid, and how two of them join.
 ///
-/// The three tests of a prefix, a suffix and a slice accept any bytes, and need not read all of them: what they promise has
-/// the condition that the bytes are a prefix, a suffix or a slice of valid ones.
+/// The three tests of a prefix, a suffix and a slice accept any bytes, and need not read all of them: their result is
+/// specified only if the bytes are a prefix, a suffix or a slice of valid ones.
 pub trait Format {
     ghost use Rattle.std.specs.Prelude.{◌≡◌, ◌≤◌, ℕ, List, [], length, IsTrue, ◌↔◌};
     ghost use Rattle.tendril_fmt.specs.Bytes.{AreBytes};
@@ -18,7 +18,7 @@ pub trait Format {
     /// Two valid lists as one.
     ghost join: { List ℕ → List ℕ → List ℕ };
 
-    /// Whether the bytes are valid. Reads each byte once.
+    /// Whether the bytes are valid. In the formats here it takes at most linear time.
     fn validate(bytes: &[u8]) -> bool
         ensures { IsTrue result ↔ valid bytes.now };
 
@@ -45,8 +45,8 @@ pub trait Format {
         Self::validate(slice)
     }
 
-    // No default body: a default is proved once, for a `join` that isn't known there.
-    /// What the join of two valid texts changes at their seam. A format whose texts join as they are returns
+    // No default body: it would be proved once for all formats, whatever their `join` is.
+    /// What the join of two valid texts changes where they meet. A format whose join only concatenates returns
     /// `Fixup::default()`.
     fn fixup(left: &[u8], right: &[u8]) -> Fixup
         requires left_valid { valid left.now }

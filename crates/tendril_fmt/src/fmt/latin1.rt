@@ -1,13 +1,13 @@
-//! One byte a character.
+//! Latin-1: one byte per character.
 
 use crate::fmt::chars::{CharFormat, Encoded};
 use crate::fmt::fixup::Fixup;
 use crate::fmt::format::Format;
 
-/// The first 256 characters of Unicode, one byte each. Any bytes are valid, and bytes are below 256.
+/// The first 256 characters of Unicode, one byte each. Any bytes are valid.
 ///
 /// This is IANA's ISO-8859-1, with the control characters of ISO 6429. What the web's Encoding Standard calls by that
-/// name is Windows-1252, and another encoding.
+/// name is another encoding, Windows-1252.
 #[derive(Clone, Copy, Debug, Default)]
 pub struct Latin1;
 

@@ -6,7 +6,7 @@ ghost use Rattle.tendril_fmt.specs.Wtf8.{IsWtf8};
 
 use crate::futf::{Meaning, classify};
 
-// The first four bytes, or all where there are fewer.
+// The first four bytes, or all if there are fewer.
 pub(super) fn first_four(bytes: &[u8]) -> &[u8]
     ensures four { result.now ≡ first_four_of bytes.now }
     ensures short { length result.now ≤ 4 }
@@ -14,7 +14,7 @@ pub(super) fn first_four(bytes: &[u8]) -> &[u8]
     &bytes[..bytes.len().min(4)]
 }
 
-// The last four bytes, or all where there are fewer.
+// The last four bytes, or all if there are fewer.
 pub(super) fn last_four(bytes: &[u8]) -> &[u8]
     ensures four { result.now ≡ last_four_of bytes.now }
     ensures short { length result.now ≤ 4 }
@@ -57,28 +57,28 @@ fn stands_whole_or_surrogate(bytes: &[u8], index: usize) -> bool
     }
 }
 
-// No bytes, or a character at the first.
+// Whether the bytes are empty or begin with a whole character.
 fn begins_with_character(bytes: &[u8]) -> bool
     ensures { IsTrue result ↔ PassesAsEnd IsWhole bytes.now }
 {
     bytes.is_empty() || stands_whole(bytes, 0)
 }
 
-// No bytes, or a character at the last.
+// Whether the bytes are empty or end with a whole character.
 fn ends_with_character(bytes: &[u8]) -> bool
     ensures { IsTrue result ↔ PassesAsFront IsWhole bytes.now }
 {
     bytes.is_empty() || stands_whole(bytes, bytes.len() - 1)
 }
 
-// No bytes, or a character or a surrogate at the first.
+// Whether the bytes are empty or begin with a whole character or a surrogate.
 fn begins_with_code_point(bytes: &[u8]) -> bool
     ensures { IsTrue result ↔ PassesAsEnd IsWholeOrSurrogate bytes.now }
 {
     bytes.is_empty() || stands_whole_or_surrogate(bytes, 0)
 }
 
-// No bytes, or a character or a surrogate at the last.
+// Whether the bytes are empty or end with a whole character or a surrogate.
 fn ends_with_code_point(bytes: &[u8]) -> bool
     ensures { IsTrue result ↔ PassesAsFront IsWholeOrSurrogate bytes.now }
 {
@@ -88,7 +88,8 @@ fn ends_with_code_point(bytes: &[u8]) -> bool
 /// Whether a slice of UTF-8 with these first and last four bytes is UTF-8: whether a character begins at the first
 /// byte, and one ends at the last. An empty side isn't tested.
 ///
-/// A slice of fewer than four bytes is both sides whole. Calls `classify` twice at most and reads no other byte.
+/// If the slice has fewer than four bytes, each argument is the whole slice. Calls `classify` at most twice, and reads
+/// no other byte.
 pub fn utf8_ends(first: &[u8], last: &[u8]) -> bool
     requires first_short { length first.now ≤ 4 }
     requires last_short { length last.now ≤ 4 }

@@ -1,4 +1,4 @@
-//! Laws of the formats, beside the contracts of their functions.
+//! Laws of the formats, in addition to the contracts of their functions.
 ghost use Rattle.std.specs.Prelude.{IsUtf8};
 ghost use Rattle.tendril_fmt.specs.Classify.{OneStands};
 ghost use Rattle.tendril_fmt.specs.Laws.{JoinLaws, UnitsRoundTrip, TextRoundTrip, JoinAppendsUnits, SpellText, PlaceIsLengthBefore};
@@ -13,7 +13,7 @@ use crate::fmt::latin1::Latin1;
 use crate::fmt::utf8::UTF8;
 use crate::fmt::wtf8::WTF8;
 
-/// Does nothing. Its contract has laws of the formats: a proof that needs one gets it by a call.
+/// Does nothing; its contract states laws of the formats. A proof that needs one gets it by a call.
 pub fn laws()
     ensures bytes_join { JoinLaws ⟦<Bytes as Format>⟧.valid ⟦<Bytes as Format>⟧.join }
     ensures ascii_join { JoinLaws ⟦<ASCII as Format>⟧.valid ⟦<ASCII as Format>⟧.join }
@@ -35,7 +35,7 @@ pub fn laws()
         ⟦<UTF8 as CharFormat>⟧.encodes ⟦<UTF8 as CharFormat>⟧.encoding }
     ensures place_is_length_before { PlaceIsLengthBefore }
 
-    // a byte is part of one sequence
+    // a byte is part of at most one sequence
     ensures one_stands { OneStands }
 
     // the local tests of slices

@@ -12,14 +12,14 @@ use crate::futf::split_text;
 use std::iter::FusedIterator;
 use std::marker::Model;
 
-/// The 16-bit units of WTF-8, as UTF-16 has them: two of a character past U+FFFF, and one of any other or of a lone
+/// The 16-bit units of WTF-8, as in UTF-16: two for a character past U+FFFF, one for any other character or a lone
 /// surrogate.
 ///
-/// Contracts see the list of the units that are left. The bytes are known to be valid, and aren't validated again.
+/// Contracts see the list of the remaining units. The bytes are known to be valid, and aren't validated again.
 #[derive(Drop)]
 pub struct Wtf8Units<'a> {
     rest: &'a [u8],
-    // The trail of the pair whose lead was given last.
+    // The trail of a pair, if its lead was returned last.
     trail: Option<u16>,
 }
 
@@ -72,13 +72,13 @@ impl<'a> Iterator for Wtf8Units<'a> {
 
 impl<'a> FusedIterator for Wtf8Units<'a> {}
 
-/// Appends the units of valid WTF-8 to a vector, which has spare capacity for one for each byte.
+/// Appends the units of valid WTF-8 to a vector that has spare capacity for one unit per byte, and returns the vector.
 pub fn decode_wtf8(bytes: &[u8], units: Vec<u16>) -> Vec<u16>
     requires valid { IsWtf8 bytes.now }
     requires room { vec_len units + length bytes.now ≤ vec_capacity units }
     ensures { result.items ≡ units.items ++ units_of bytes.now }
 {
-    // By value: the compiler then knows that a write to the vector's bytes isn't one to its length.
+    // The vector is passed by value, so that the compiler knows that a write to its elements doesn't change its length.
     let mut all = units;
     let mut rest = bytes;
     while let Some((code, after)) = split_text(rest) {
@@ -106,7 +106,7 @@ fn push_units(units: &mut Vec<u16>, code: u32)
     units.push_reserved((0xDC00 + above % 0x400) as u16);
 }
 
-// How many units are counted in 16 bits, where eight fit into a word of the processor.
+// How many units `count_piece` counts, in a number of 16 bits: eight of these fit into a register of the processor.
 const COUNTED: usize = 4096;
 
 /// How many bytes the WTF-8 of units has.
@@ -125,7 +125,7 @@ pub fn wtf8_len(units: &[u16]) -> usize
     len
 }
 
-// How many bytes the first units have after the one before them; the last of them, and the units after it.
+// How many bytes the first units add after the unit `before`; the last of these units; and the units after it.
 #[inline]
 fn count_piece(before: u16, units: &[u16]) -> (u16, u16, &[u16])
     requires some { 0 < length units.now }
@@ -142,8 +142,8 @@ fn count_piece(before: u16, units: &[u16]) -> (u16, u16, &[u16])
     (len, last, after)
 }
 
-// How many bytes a unit has after another: a trail makes four of the three bytes of a lead. Without a branch, so that
-// several are counted at once.
+// How many bytes a unit adds after the unit `last`: a trail after a lead adds one to the lead's three. Without a
+// branch, so that several are counted at once.
 #[inline]
 fn len_behind(last: u16, unit: u16) -> u16
     ensures bytes { result ≡ (if is_high_surrogate last && is_low_surrogate unit then 1 else length (encode_utf8 unit)) }
@@ -171,7 +171,7 @@ fn encoded_len(unit: u16) -> u16
     }
 }
 
-/// Writes the WTF-8 of units over bytes, which are as many.
+/// Overwrites bytes with the WTF-8 of units, which has the same length.
 pub fn encode_wtf8(units: &[u16], bytes: &mut [u8])
     requires { length bytes.old ≡ length (wtf8 units.now) }
     ensures { bytes.new ≡ wtf8 units.now }
@@ -191,7 +191,7 @@ pub fn encode_wtf8(units: &[u16], bytes: &mut [u8])
     }
 }
 
-// How many units of ASCII are written at once.
+// How many ASCII units are written at once.
 const RUN: usize = 16;
 
 // The first `RUN` units, if all are ASCII, and those after them. If the first isn't one, the others aren't read.
@@ -211,7 +211,7 @@ fn split_ascii(units: &[u16]) -> Option<(&[u16], &[u16])>
     Some((front, after))
 }
 
-// Without a branch, so that they are tested at once.
+// Whether all units are ASCII. Without a branch, so that several are tested at once.
 #[inline]
 fn are_ascii(units: &[u16]) -> bool
     ensures { result ≡ true → AllByRecursion (λ u. u < 0x80) units.now }
@@ -223,7 +223,7 @@ fn are_ascii(units: &[u16]) -> bool
     all
 }
 
-// Writes units of ASCII at a place, and returns the place after them.
+// Writes ASCII units at an offset, and returns the offset after them.
 #[inline]
 fn put_ascii(bytes: &mut [u8], at: usize, units: &[u16]) -> usize
     requires ascii { AllByRecursion (λ u. u < 0x80) units.now }
@@ -238,8 +238,8 @@ fn put_ascii(bytes: &mut [u8], at: usize, units: &[u16]) -> usize
     end
 }
 
-// The code point at the front of units, and the units after it: a lead and the trail right after it are one code point,
-// any other unit is one by itself.
+// Splits off the first code point: a lead and the trail right after it are one code point, any other unit is one by
+// itself.
 #[inline]
 fn split_units(units: &[u16]) -> Option<(u32, &[u16])>
     ensures { MatchOption result (units.now ≡ []) (λ p. SplitsUnits units.now p.0 p.1.now) }
@@ -268,7 +268,7 @@ fn is_trail(unit: u16) -> bool
     0xDC00 <= unit && unit < 0xE000
 }
 
-// Writes the bytes of a code point at a place, and returns the place after them.
+// Writes the bytes of a code point at an offset, and returns the offset after them.
 #[inline]
 fn put_code_point(bytes: &mut [u8], at: usize, code: u32) -> usize
     requires point { IsCodePoint code }
@@ -296,7 +296,7 @@ fn put_code_point(bytes: &mut [u8], at: usize, code: u32) -> usize
     put(bytes, at, last)
 }
 
-// Writes a byte at a place, and returns the place after it.
+// Writes a byte at an offset, and returns the offset after it.
 #[inline]
 fn put(bytes: &mut [u8], at: usize, byte: u8) -> usize
     requires { at < length bytes.old }

@@ -8,7 +8,7 @@ use crate::fmt::subset::SubsetOf;
 use crate::fmt::wtf8::WTF8;
 use std::str;
 
-/// UTF-8: the encodings of Unicode's scalars, one after another (Unicode's table 3-7).
+/// UTF-8: the encodings of Unicode's scalar values, one after another (Unicode's table 3-7).
 #[derive(Clone, Copy, Debug, Default)]
 pub struct UTF8;
 

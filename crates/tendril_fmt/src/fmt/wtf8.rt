@@ -8,15 +8,15 @@ use crate::fmt::format::Format;
 use crate::fmt::local::{first_four, last_four, wtf8_ends};
 use crate::futf::{Meaning, decode, split_code_point};
 
-/// WTF-8: UTF-8 that also holds lone surrogates, in three bytes each, and so any list of 16-bit units
+/// WTF-8: UTF-8 that may also have lone surrogates, of three bytes each, so that it can encode any list of 16-bit units
 /// (<https://simonsapin.github.io/wtf-8/>).
 ///
-/// The three bytes of a lead surrogate right before those of a trail aren't valid: the two units have the four bytes
-/// of their character. So if one ends a text and the other begins the next, a join replaces them by these four.
+/// The three bytes of a lead surrogate right before those of a trail aren't valid: the pair must be the four bytes of
+/// its character. So if a lead ends a text and a trail begins the next, a join replaces both by these four bytes.
 #[derive(Clone, Copy, Debug, Default)]
 pub struct WTF8;
 
-// The lead surrogate that ends the bytes, by its index.
+// The lead surrogate that ends the bytes, less 0xD800.
 fn lead_at_end(bytes: &[u8]) -> Option<u16>
     ensures { MatchOption result ((i : ℕ) → i < 0x400 → ¬ (EndsWithCodePoint bytes.now (0xD800 + i)))
         (λ i. (i < 0x400) × EndsWithCodePoint bytes.now (0xD800 + i)) }
@@ -28,7 +28,7 @@ fn lead_at_end(bytes: &[u8]) -> Option<u16>
     }
 }
 
-// The trail surrogate that begins the bytes, by its index.
+// The trail surrogate that begins the bytes, less 0xDC00.
 fn trail_at_front(bytes: &[u8]) -> Option<u16>
     ensures { MatchOption result ((i : ℕ) → i < 0x400 → ¬ (BeginsWithCodePoint bytes.now (0xDC00 + i)))
         (λ i. (i < 0x400) × BeginsWithCodePoint bytes.now (0xDC00 + i)) }
@@ -39,7 +39,7 @@ fn trail_at_front(bytes: &[u8]) -> Option<u16>
     }
 }
 
-// The four bytes of the character of a surrogate pair, in place of its two times three.
+// Replaces the six bytes of a surrogate pair by the four of its character.
 fn pair_fixup(lead: u16, trail: u16) -> Fixup
     requires lead { lead < 0x400 }
     requires trail { trail < 0x400 }
@@ -104,7 +104,7 @@ impl Format for WTF8 {
         wtf8_ends(first_four(bytes), last_four(bytes))
     }
 
-    /// Reads three bytes of each side at most.
+    /// Reads at most three bytes of each side.
     fn fixup(left: &[u8], right: &[u8]) -> Fixup {
         match (lead_at_end(left), trail_at_front(right)) {
             (Some(lead), Some(trail)) => pair_fixup(lead, trail),

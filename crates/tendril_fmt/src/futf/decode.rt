@@ -12,7 +12,7 @@ pub(super) fn is_continuation(byte: u8) -> bool
     0x80 <= byte && byte < 0xC0
 }
 
-// How many bytes a sequence has that `byte` starts, and 0 where it starts none.
+// How many bytes a sequence has that begins with `byte`, or 0 if none does.
 pub(super) fn sequence_len_of(byte: u8) -> usize
     ensures { result ≡ sequence_len byte }
 {
@@ -92,7 +92,7 @@ fn meaning_of(code: u32) -> Meaning
     }
 }
 
-/// What the bytes mean, if they are those of one code point and no more.
+/// What the bytes mean, if they encode exactly one code point.
 #[inline(always)]
 pub(crate) fn decode(bytes: &[u8]) -> Option<Meaning>
     ensures { MatchOption result (EncodeNone bytes.now) (Encode bytes.now) }
@@ -100,7 +100,7 @@ pub(crate) fn decode(bytes: &[u8]) -> Option<Meaning>
     Some(meaning_of(code_point_of(bytes)?))
 }
 
-/// What the code point at the front means, and the bytes after it.
+/// Splits off the first code point: what it means, and the bytes after it.
 pub(crate) fn split_code_point(bytes: &[u8]) -> Option<(Meaning, &[u8])>
     ensures { MatchOption result (SplitsIntoNone bytes.now) (λ p. SplitsInto bytes.now p.0 p.1.now) }
 {
@@ -112,7 +112,7 @@ pub(crate) fn split_code_point(bytes: &[u8]) -> Option<(Meaning, &[u8])>
     Some((decode(front)?, rest))
 }
 
-/// The code point at the front of valid WTF-8, and the bytes after it. What is valid isn't validated again.
+/// Splits off the first code point of valid WTF-8: the code point, and the bytes after it. Doesn't validate them again.
 #[inline]
 pub(crate) fn split_text(bytes: &[u8]) -> Option<(u32, &[u8])>
     requires { IsWtf8 bytes.now }

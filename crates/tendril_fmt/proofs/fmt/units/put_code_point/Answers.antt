@@ -38,7 +38,7 @@ put-requires-2 c = omega (arith, ap length (encode_utf8_4 c.args.code c.if-code-
 pub returns-clause-place : goal.returns-clause-place
 returns-clause-place c = omega (arith, ap length (encode_utf8_4 c.args.code c.if-code-lt65536.false), c.requires.fits, c.put-at-2.ensures.place, c.put-at-2.auto.bytes, c.put-at-3.ensures.place, c.put-at-3.auto.bytes, c.put-at-4.ensures.place, c.put-at-4.auto.bytes, c.put-2.ensures.place)
 
--- bytes behind those that a byte was put behind
+-- bytes after those to which a byte was appended
 joined : (after before : List ℕ) (byte : ℕ) (rest : List ℕ) → after ≡ before ++ byte ∷ [] → after ++ rest ≡ before ++ byte ∷ rest
 joined after before byte rest e = ap (λ l. l ++ rest) e ∙ append_assoc before (byte ∷ []) rest
 
