@@ -3,7 +3,7 @@ use Rattle.std.proofs.lemmas.List.{length-drop, length-take-le}
 use Rattle.std.proofs.Math.Seq.{take-append_seam, drop-append_seam}
 use borrow.Rule.Slice.PartMut.{post_of}
 
--- the list b, where w stands in the place of the part of so many bytes from s on
+-- the list b, with w in place of its l bytes from s on
 abbrev pub over : ℕ → ℕ → List ℕ → List ℕ → List ℕ
 over s l b w = take s b ++ (w ++ post_of s (s + l - s) b)
 
@@ -12,7 +12,7 @@ over_length s l b w h e =
     let rest : List ℕ = drop (s + l - s) (drop s b) in
     omega (arith, h, e, length-append (take s b) (w ++ rest), length-append w rest, length-take-le s b (omega (arith, h)), length-drop (s + l - s) (drop s b), length-drop s b)
 
--- the part has become w
+-- the slice is w
 pub over_part : (s l : ℕ) (b w : List ℕ) → s + l ≤ length b → length w ≡ l → take l (drop s (over s l b w)) ≡ w
 over_part s l b w h e =
     let rest : List ℕ = w ++ drop (s + l - s) (drop s b) in
@@ -20,12 +20,12 @@ over_part s l b w h e =
     ap (take l) (ap (λ n. drop n (take s b ++ rest)) (sym short) ∙ drop-append_seam (take s b) rest)
     ∙ ap (λ n. take n rest) (sym e) ∙ take-append_seam w (drop (s + l - s) (drop s b))
 
--- a list that takes the place of one as long
+-- a list that replaces one of the same length
 pub refilled : (b w : List ℕ) → length w ≡ length b → take (length b) (w ++ drop (length w) b) ≡ w
 refilled b w e = ap (λ n. take n (w ++ drop (length w) b)) (sym e) ∙ take-append_seam w (drop (length w) b)
 
--- A part of a block's bytes was lent and left as w: it is w then, and the block has as many bytes as before. The bytes
--- are b as they were lent, `body` in the lent body, `old` before and `new` afterwards.
+-- A slice of a block's bytes was borrowed and left as w: it is w then, and the block has as many bytes as before. The
+-- bytes are b in the borrow, `body` in the borrowed body, `old` before and `new` afterwards.
 pub lent_part : (s l : ℕ) (b body old w new : List ℕ) → b ≡ body → body ≡ old → s + l ≤ length old → length w ≡ length (take (s + l - s) (drop s b))
     → new ≡ take (length body) (over s l b w ++ drop (length (over s l b w)) body)
     → (take l (drop s new) ≡ w) × (length new ≡ length old) × (take (s + l - s) (drop s b) ≡ take l (drop s old))

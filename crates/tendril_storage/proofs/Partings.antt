@@ -3,7 +3,7 @@ use Rattle.std.proofs.lemmas.List.{length-take-le, length-drop}
 use Rattle.tendril_storage.specs.Texts.{Text, Parts}
 use Rattle.tendril_storage.specs.Partings.{IsFewTaken}
 
--- few bytes and the many that are left are parts of the text
+-- at most 8 bytes and the more than 8 that are left are the sides of a split
 pub few_parts : (count skip : ℕ) (old front rest : Text) → IsFewTaken count skip old front rest → Parts old front rest
 few_parts count skip old front rest cut =
     let few = cut.few in

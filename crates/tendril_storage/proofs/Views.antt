@@ -2,15 +2,15 @@ use Rattle.std.proofs.Common.{◌≡◌, ℕ, ◌+◌, ◌-◌, ◌≤◌, List,
 use Rattle.std.proofs.lemmas.List.{drop-take, drop-drop, take-take, drop-append-le, length-drop, length-take-le}
 use Rattle.std.proofs.Math.Seq.{take-length}
 
--- inline bytes are as many as it says
+-- inline bytes of length l are l bytes
 pub inline_length : (l : ℕ) (buffer : List ℕ) → l ≤ 8 → length buffer ≡ 8 → length (take l buffer) ≡ l
 inline_length l buffer h e = length-take-le l buffer (omega arith)
 
--- a view has as many bytes as it says
+-- a view of length l has l bytes
 pub view_length : (o l : ℕ) (xs : List ℕ) → o + l ≤ length xs → length (take l (drop o xs)) ≡ l
 view_length o l xs h = length-take-le l (drop o xs) (omega (arith, length-drop o xs))
 
--- a part of a view is a view
+-- a slice of a view is a view
 pub view_part : (o l s c : ℕ) (xs : List ℕ) → s + c ≤ l → take c (drop s (take l (drop o xs))) ≡ take c (drop (o + s) xs)
 view_part o l s c xs h =
     let e : l ≡ s + (l - s) = omega arith in

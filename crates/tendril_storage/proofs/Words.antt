@@ -2,11 +2,11 @@ use Rattle.std.proofs.Common.{◌≡◌, ℕ, ◌+◌, ◌-◌, ◌≤◌, Bool,
 use Rattle.std.proofs.lemmas.List.{take-take}
 use Rattle.std.proofs.Math.Seq.{take-length}
 
--- two lists have the same eight elements from a place on
+-- two lists have the same eight elements from s on
 abbrev pub SameWord : List ℕ → List ℕ → ℕ → Type 0
 SameWord xs ys s = take 8 (drop s xs) ≡ take 8 (drop s ys)
 
--- a word that begins within equal fronts makes them longer
+-- an equal word that begins within equal prefixes makes them longer
 word_joins : (m s : ℕ) (xs ys : List ℕ) → s ≤ m → take m xs ≡ take m ys → SameWord xs ys s → take (s + 8) xs ≡ take (s + 8) ys
 word_joins m s xs ys h e w =
     let cut : (zs : List ℕ) → take s zs ≡ take s (take m zs) = λ zs. sym (take-take s m zs h) in

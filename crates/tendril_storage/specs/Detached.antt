@@ -4,12 +4,12 @@ use Rattle.tendril_block.specs.declared.atomicity.TheConstants.{INLINE_LEN, MAX_
 use Rattle.tendril_storage.specs.declared.detached.Kept.{Kept}
 use Rattle.tendril_storage.specs.declared.detached.Kept.TheVariants.{Inline, Alone}
 
--- the bytes that are kept
+-- the bytes
 abbrev pub kept_bytes : Kept → List ℕ
 kept_bytes (Inline len buffer) = take len buffer
 kept_bytes (Alone sole) = sole
 
--- inline bytes lie in their buffer, others are more than stand inline
+-- inline bytes fit in the buffer; others are more than fit inline, and at most MAX_LEN
 abbrev pub IsKept : Kept → Type 0
 IsKept (Inline len buffer) = len ≤ INLINE_LEN
 IsKept (Alone sole) = (INLINE_LEN < length sole) × (length sole ≤ MAX_LEN)

@@ -1,4 +1,4 @@
--- The words of the contracts on stored bytes.
+-- Definitions for the contracts of stored bytes.
 pub mod Detached
 pub mod Texts
 pub mod Partings

@@ -6,11 +6,11 @@ use Rattle.tendril_block.specs.declared.refusal.Refusal.TheVariants.{Count}
 use Rattle.tendril_block.specs.Outcomes.{NoneMust, Outcome}
 use Rattle.tendril_storage.specs.Texts.{Text, Parts}
 
--- no state rules out that the count is full where both parts of a text of `total` bytes have more than 8
+-- Count is permitted: both sides of a text of `total` bytes that is split after `count` have more than 8
 abbrev pub BothLong : ℕ → ℕ → Refusal → Type 0
 BothLong count total r = (r ≡ Count) × (INLINE_LEN < count) × (INLINE_LEN + count < total)
 
--- the first `count` bytes of a text are given as a text, and the others are left
+-- the first `count` bytes of a text are returned as a text, and the remainder is left
 pub record IsParted (count : ℕ) (old front rest : Text) : Type 0 where
   pub front_bytes : front.bytes ≡ take count old.bytes
   pub rest_bytes : rest.bytes ≡ drop count old.bytes
@@ -20,7 +20,8 @@ abbrev pub TakesFront : ℕ → Text → Result Text Refusal → Text → Type 0
 TakesFront count old result new =
     Outcome NoneMust (BothLong count (length old.bytes)) (IsParted count old) old result new
 
--- the first few bytes of a text are given as a text, the next `skip` bytes are dropped, and many are left
+-- the first `count` bytes, at most 8, are returned as a text, the next `skip` bytes are dropped, and more than 8 are
+-- left
 pub record IsFewTaken (count skip : ℕ) (old front rest : Text) : Type 0 where
   pub few : count ≤ INLINE_LEN
   pub many : INLINE_LEN + (count + skip) < length old.bytes
@@ -29,6 +30,6 @@ pub record IsFewTaken (count skip : ℕ) (old front rest : Text) : Type 0 where
   pub front_copied : front.copied ≡ count
   pub rest_copied : rest.copied ≡ old.copied
 
--- where `None` is returned, the text is as it was
+-- if `None` is returned, the text hasn't changed
 abbrev pub TakesFew : ℕ → ℕ → Text → Option Text → Text → Type 0
 TakesFew count skip old result new = MatchOption result (new ≡ old) (λ front. IsFewTaken count skip old front new)

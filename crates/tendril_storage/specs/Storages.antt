@@ -1,4 +1,4 @@
--- Bytes that are held inline or in a view of a block.
+-- Bytes that are stored inline or in a view of a block.
 use Rattle.std.specs.Prelude.{◌≡◌, ℕ, List, ◌+◌, ◌≤◌, ◌<◌, ◌^◌, length, take, drop}
 use Rattle.tendril_block.specs.declared.atomicity.TheConstants.{INLINE_LEN}
 use Rattle.tendril_storage.specs.declared.storage.BlockView.{BlockView}
@@ -6,7 +6,7 @@ use Rattle.tendril_storage.specs.declared.storage.Held.{Held}
 use Rattle.tendril_storage.specs.declared.storage.Held.TheVariants.{Inline, View}
 
 module _ {B : Type 0} where
-  -- the bytes that are held
+  -- the stored bytes
   abbrev pub held_bytes : (B → List ℕ) → Held B → List ℕ
   held_bytes bytes_of (Inline len buffer) = take len buffer
   held_bytes bytes_of (View shared block offset len) = take len (drop offset (bytes_of block))
@@ -16,12 +16,12 @@ module _ {B : Type 0} where
   held_copied copied (Inline len buffer) = len
   held_copied copied (View shared block offset len) = copied block
 
-  -- inline bytes lie in their buffer, those of a view in its block
+  -- inline bytes fit in the buffer; a view is within its block, and ends before 2 ^ 32
   abbrev pub IsHeld : (B → List ℕ) → Held B → Type 0
   IsHeld bytes_of (Inline len buffer) = len ≤ INLINE_LEN
   IsHeld bytes_of (View shared block offset len) = (offset + len ≤ length (bytes_of block)) × (offset + len < 2 ^ 32)
 
-  -- the bytes that are held are this view
+  -- the bytes are stored in this view
   abbrev pub IsView : Held B → BlockView B → Type 0
   IsView (Inline len buffer) v = ⊥
   IsView (View shared block offset len) v = (v.block ≡ block) × (v.offset ≡ offset) × (v.len ≡ len)

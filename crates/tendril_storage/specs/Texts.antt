@@ -1,4 +1,4 @@
--- Texts as contracts see them, and how many bytes the parts of a text may have copied.
+-- Texts as contracts see them, and the bytes that clones, slices, pops and splits may copy.
 use Rattle.std.specs.Prelude.{ℕ, ◌≡◌, ◌<◌, ◌≤◌, ◌+◌, ◌⊎◌, List, length}
 use Rattle.tendril_block.specs.declared.atomicity.TheConstants.{INLINE_LEN}
 
@@ -7,23 +7,22 @@ pub record Text : Type 0 where
   pub bytes : List ℕ
   pub copied : ℕ
 
--- a text that shares what it has: nothing was copied for it, or at most the 8 bytes of a short one
+-- a clone or a slice: with more than 8 bytes nothing was copied for it, else at most 8 bytes
 abbrev pub Shares : Text → Type 0
 Shares t = (INLINE_LEN < length t.bytes → t.copied ≡ 0) × (length t.bytes ≤ INLINE_LEN → t.copied ≤ INLINE_LEN)
 
--- a text that a pop has shortened keeps what was copied, or has at most the 8 bytes of a short one
+-- a text after a pop: with more than 8 bytes its `copied` is unchanged, else it is at most 8
 abbrev pub Keeps : Text → Text → Type 0
 Keeps old new =
     (INLINE_LEN < length new.bytes → new.copied ≡ old.copied)
     × (length new.bytes ≤ INLINE_LEN → new.copied ≤ INLINE_LEN)
 
--- one of the texts into which a text was split: a long one shares or keeps what was copied, a short one copied at most
--- 8
+-- one side of a split text: with more than 8 bytes its `copied` is 0 or unchanged, else it is at most 8
 abbrev pub IsPart : Text → Text → Type 0
 IsPart old part =
     (INLINE_LEN < length part.bytes → (part.copied ≡ 0) ⊎ (part.copied ≡ old.copied))
     × (length part.bytes ≤ INLINE_LEN → part.copied ≤ INLINE_LEN)
 
--- the two texts into which a text was split
+-- both sides of a split text: together they copied at most 16 bytes more
 abbrev pub Parts : Text → Text → Text → Type 0
 Parts old front rest = IsPart old front × IsPart old rest × (front.copied + rest.copied ≤ old.copied + 16)

@@ -1,4 +1,4 @@
-//! Bytes that share nothing, so that they may go to another thread: inline, or out of their block.
+//! Bytes that share nothing, so that they may be sent to another thread: inline, or moved out of their block.
 ghost use Rattle.std.specs.Prelude.{◌≡◌, ◌<◌, ◌≤◌, ◌+◌, ◌^◌, IfOk, IfErr, length, take, drop};
 ghost use Rattle.tendril_block.specs.Outcomes.{MemoryMay};
 
@@ -32,7 +32,7 @@ impl Model for Detached {
 }
 
 impl Detached {
-    /// The bytes.
+    /// Borrows the bytes.
     pub fn as_slice(&self) -> &[u8]
         ensures value { result.now ≡ self.now }
         ensures short { length self.now ≤ MAX_LEN }
@@ -43,7 +43,7 @@ impl Detached {
         }
     }
 
-    /// A copy.
+    /// Returns a copy. Returns `Memory` if an allocation fails, which is possible only for more than 8 bytes.
     pub fn copy(&self) -> Result<Self, Refusal>
         ensures bytes { IfOk result (λ a. a ≡ self.now) }
         ensures refusal { IfErr result (MemoryMay (length self.now)) }
@@ -87,8 +87,8 @@ impl Detached {
 }
 
 impl<A: Atomicity> Storage<A> {
-    /// Detaches the bytes from their block. They are moved out of it where this is the only reference and they are all of
-    /// its bytes; else they are copied.
+    /// Detaches the bytes from their block. They are moved out of it if this is its only reference and they are all of
+    /// its bytes; else they are copied. Returns `Memory` and the storage if the allocation of the copy fails.
     pub fn into_detached(self) -> Result<Detached, (Refusal, Self)>
         ensures bytes { IfOk result (λ a. a ≡ self.bytes) }
         ensures refusal { IfErr result (λ e. MemoryMay (length self.bytes) e.0) }
@@ -107,7 +107,8 @@ impl<A: Atomicity> Storage<A> {
         }
     }
 
-    // Moves the bytes out of their block, where they are all of it and this is the only reference.
+    // Moves the bytes out of their block if they are all of its bytes and this is its only reference; else returns the
+    // storage.
     fn into_whole(self) -> Result<Detached, Self>
         requires { INLINE_LEN < length self.bytes }
         ensures bytes { IfOk result (λ a. a ≡ self.bytes) }

@@ -24,7 +24,7 @@ pub(crate) enum Held<B> {
         buffer: [u8; 8],
     },
     View {
-        // Whether a clone or a slice of these bytes was made. No contract mentions it.
+        // Set by clones, slices and pops, cleared by writes. Contracts don't mention it.
         shared: Cell<bool>,
         block: B,
         offset: u32,
@@ -32,7 +32,7 @@ pub(crate) enum Held<B> {
     },
 }
 
-/// A view of a block, as `Held::View` has it.
+/// The fields of `Held::View`.
 #[derive(Drop)]
 pub(crate) struct BlockView<B> {
     pub(crate) shared: Cell<bool>,
@@ -41,7 +41,7 @@ pub(crate) struct BlockView<B> {
     pub(crate) len: u32,
 }
 
-// By hand, so that each place that drops a text has one call, and not a branch for each variant.
+// Implemented by hand, so that each place that drops a text has one call, not a branch for each variant.
 impl<B: Drop> Drop for Held<B> {
     #[inline]
     fn drop(self) {
@@ -61,7 +61,7 @@ impl<B: Drop> Held<B> {
     ghost use Rattle.std.specs.Prelude.{MatchResult};
     ghost use Rattle.tendril_storage.specs.Storages.{IsView};
 
-    // The view, or inline bytes as they were.
+    // Returns the view, or inline bytes unchanged as the error.
     pub(crate) fn into_view(self) -> Result<BlockView<B>, Self>
         ensures { MatchResult result (IsView self) (λ h. h ≡ self) }
     {
@@ -106,7 +106,7 @@ impl<A: Atomicity> Model for Storage<A> {
 }
 
 impl<A: Atomicity> Storage<A> {
-    /// No bytes.
+    /// Returns a storage without bytes. Allocates nothing.
     pub fn new(alloc: Global) -> Self
         ensures bytes { result.bytes ≡ [] }
         ensures copied { result.copied ≡ 0 }
@@ -120,7 +120,7 @@ impl<A: Atomicity> Storage<A> {
         }
     }
 
-    /// The bytes.
+    /// Borrows the bytes.
     pub fn as_slice(&self) -> &[u8]
         ensures value { result.now ≡ self.now.bytes }
         ensures short { length self.now.bytes ≤ MAX_LEN }
@@ -140,14 +140,15 @@ impl<A: Atomicity> Storage<A> {
         }
     }
 
-    /// The number of bytes.
+    /// Returns the number of bytes.
     pub fn len32(&self) -> u32
         ensures { result ≡ length self.now.bytes }
     {
         self.as_slice().len() as u32
     }
 
-    /// Whether a clone or a long slice of these bytes was made.
+    /// Whether the block may be shared: clones, slices and pops that leave more than 8 bytes in the block set this,
+    /// writes clear it.
     pub fn is_shared(&self) -> bool {
         match &self.held {
             Held::Inline { .. } => false,
@@ -155,7 +156,7 @@ impl<A: Atomicity> Storage<A> {
         }
     }
 
-    /// Where the bytes are stored, in a word: `inline`, or in a block that is `shared` or `owned`.
+    /// Returns where the bytes are stored: `inline`, or in a block that is `shared` or `owned`.
     pub fn storage_kind(&self) -> &'static str {
         match &self.held {
             Held::Inline { .. } => "inline",
@@ -164,14 +165,14 @@ impl<A: Atomicity> Storage<A> {
         }
     }
 
-    /// The allocator of new blocks.
+    /// Returns the allocator of new blocks.
     pub fn allocator(&self) -> Global {
         self.alloc
     }
 }
 
-// Few bytes as the lowest ones of a word. Each number of bytes has loads of its own, so that nothing reads as one word what
-// was just written in pieces: the processor would stall.
+// Returns at most 8 bytes as the lowest ones of a word. Each length has its own loads: to read as one word what was
+// just written in pieces would stall the processor.
 #[inline(always)]
 pub(crate) fn word_of(bytes: &[u8]) -> u64
     requires { length bytes.now ≤ INLINE_LEN }
@@ -190,7 +191,7 @@ pub(crate) fn word_of(bytes: &[u8]) -> u64
     }
 }
 
-// The same as a call: inlined, it would keep the constructors of long texts from being inlined.
+// `word_of` as a call: inlined, it would keep the constructors of long texts from being inlined.
 #[inline(never)]
 fn call_word_of(bytes: &[u8]) -> u64
     requires { length bytes.now ≤ INLINE_LEN }
@@ -199,7 +200,7 @@ fn call_word_of(bytes: &[u8]) -> u64
     word_of(bytes)
 }
 
-// Copies bytes to a place in a buffer.
+// Copies bytes into a buffer, from `at` on.
 fn put(buffer: &mut [u8; 8], at: usize, bytes: &[u8])
     requires { at + length bytes.now ≤ INLINE_LEN }
     ensures { take (at + length bytes.now) buffer.new ≡ take at buffer.old ++ bytes.now }
@@ -207,7 +208,7 @@ fn put(buffer: &mut [u8; 8], at: usize, bytes: &[u8])
     buffer[at..at + bytes.len()].copy_from_slice(bytes);
 }
 
-// Copies a tail to a place in a buffer.
+// Copies a tail into a buffer, from `at` on.
 fn put_tail(buffer: &mut [u8; 8], at: usize, tail: Tail)
     requires { at + length (tail_bytes tail) ≤ INLINE_LEN }
     ensures { take (at + length (tail_bytes tail.entry)) buffer.new ≡ take at buffer.old ++ tail_bytes tail.entry }

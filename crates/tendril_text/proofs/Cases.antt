@@ -1,4 +1,4 @@
--- Capital letters of ASCII that become small: of valid UTF-8 valid UTF-8.
+-- Converting ASCII letters to lowercase keeps UTF-8 valid.
 use Rattle.std.proofs.Common.{◌≡◌, ℕ, ◌≤◌, ◌&&◌, List, [], ◌∷◌, ◌++◌, map, encode_utf8, encode_utf8_all, IsUtf8, refl, sym, ap, ap₂, ◌∙◌, arith, ⊎_elim}
 use Rattle.std.proofs.lemmas.Bool.{cases_lt}
 use Rattle.std.proofs.lemmas.Bool.Decides.{nat_tests}
@@ -8,7 +8,7 @@ use Rattle.std.specs.Char.{to_ascii_lowercase}
 use Rattle.tendril_fmt.specs.Proved.Encodings.{encode_utf8_1, encode_utf8_2, encode_utf8_3, encode_utf8_4}
 use lib.Utf8.{scalar, scalars, low_scalar}
 
--- no letter
+-- a byte past ASCII doesn't change
 pub lower_high : (b : ℕ) → 128 ≤ b → to_ascii_lowercase b ≡ b
 lower_high b h = grind (arith, nat_tests)
 
@@ -24,7 +24,7 @@ high-encode c h = ⊎_elim
     (cases_lt c 65536))
     (cases_lt c 2048)
 
--- a character's bytes
+-- the bytes of a character
 lower-encode : (c : ℕ) → map to_ascii_lowercase (encode_utf8 c) ≡ encode_utf8 (to_ascii_lowercase c)
 lower-encode c = ⊎_elim
     (λ low. ap (map to_ascii_lowercase) (encode_utf8_1 c low) ∙ sym (encode_utf8_1 (to_ascii_lowercase c) (lowercase_ascii c low)))
@@ -45,7 +45,7 @@ lower_scalars : (cs : List ℕ) → scalars cs ≡ scalars (map to_ascii_lowerca
 lower_scalars [] = refl
 lower_scalars (c ∷ cs) = ap₂ (λ x y. x && y) (lower_scalar c) (lower_scalars cs)
 
--- a text
+-- the bytes of a text
 pub IsUtf8-lower : (bytes : List ℕ) → IsUtf8 bytes → IsUtf8 (map to_ascii_lowercase bytes)
 IsUtf8-lower bytes h = (
   map to_ascii_lowercase h.0,

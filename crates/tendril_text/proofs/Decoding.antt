@@ -1,4 +1,4 @@
--- Pieces that are decoded part by part.
+-- Lossy decoding of a piece, text by text.
 use Rattle.std.proofs.Common.{◌≡◌, ◌⊎◌, ℕ, ◌+◌, ◌-◌, ◌<◌, ◌≤◌, List, [], ◌∷◌, ◌++◌, length, take, drop, map, flat_map, Option, Some, None, Result, Ok, Err, IsUtf8, refl, sym, ap, ap₂, subst, ◌∙◌, arith, ⊎_elim, inl, inr, append_assoc, append-nil, length-append, length-drop, length-take-le, length-take}
 use Rattle.std.proofs.lemmas.Grind.{flat_map-append}
 use Rattle.std.proofs.lemmas.List.{drop-drop}
@@ -23,7 +23,7 @@ use Rattle.tendril_text.specs.Decoding.{BothShare, LongPieceMay, LongTextMay, De
 use Rattle.tendril_storage.specs.Partings.{IsFewTaken, IsParted}
 use Rattle.tendril_storage.specs.Texts.{Text, IsPart, Keeps}
 
--- what is left of what is left
+-- what is left after two pops
 
 pub part-through : (a b c : Text) → IsRest a b → (8 < length c.bytes → length c.bytes ≤ length b.bytes) → IsPart b c → IsPart a c
 part-through a b c (inl same) within p = subst (λ x. IsPart x c) same p
@@ -46,13 +46,13 @@ handed-through a b q less t h =
     let w = h.within in
     record { some = h.some; text = h.text; within = λ long. omega (arith, w long); part = part-through a b t q w h.part }
 
--- a pop that keeps what was copied
+-- what is left after a pop that keeps `copied`
 pub rest-kept : (old mid new : Text) → IsRest old mid → length new.bytes ≤ length mid.bytes → Keeps mid new → IsRest old new
 rest-kept old mid new q less k = inr (part-through old mid new q (λ _. less) (λ long. inr (k.0 long), k.1))
 
--- what is taken out of the front, and what breaks it
+-- the text that is removed from the start, and the broken sequence after it
 
--- the first bytes are taken out as a text, where there are any
+-- the first `count` bytes are removed as a text, if there are any
 pub record TakesText (count : ℕ) (old : Text) (text : Option Text) (new : Text) : Type 0 where
   pub front : bytes_of text ≡ take count old.bytes
   pub handed : IfSome text (IsHandedOn old)
@@ -112,7 +112,7 @@ popped old mid new front ending text p within taken end part =
         let is = rest ∙ none in
         (ap (λ l. Cut l ∷ []) (sym is), subst (λ l. 0 < length l) (sym is) h.0, subst IsOpen (sym is) h.2)
 
--- few bytes of text and the broken ones after them are taken off a long text at once
+-- at most 8 bytes of text and the broken sequence after them are removed at once, and more than 8 bytes are left
 pub few_popped : (old new t : Text) (front : List ℕ) (k : ℕ) (text : Option Text) → IsFirstPart old.bytes front (Broken k) → EndsWithin old.bytes (length front) (Broken k) → IsFewTaken (length front) k old t new
     → ((length front ≡ 0) × (text ≡ None)) ⊎ ((0 < length front) × (text ≡ Some t)) → PopsText old text (Broken k) new
 few_popped old new t front k text p within few is =
@@ -139,7 +139,7 @@ few_popped old new t front k text p within few is =
     let end : new.bytes ≡ drop k mid.bytes = few.rest_bytes ∙ sym (drop-drop k count old.bytes) in
     popped old mid new front (Broken k) text p within taken end (inr (λ long. inr few.rest_copied, λ short. absurd (omega (arith, ap length few.rest_bytes, length-drop (count + k) old.bytes, many, short))))
 
--- where the first text and the rest are both long, a broken sequence stands between them
+-- if the first text and the bytes after it have more than 8 bytes each, a broken sequence is between them
 pub both_share : (b front : List ℕ) (ending : Ending) → IsFirstPart b front ending → 8 < length front → 8 + length front < length b → BothShare b
 both_share b front ending p text rest = by ending p
   where
@@ -155,7 +155,7 @@ both_share b front ending p text rest = by ending p
         let h = subst (IsLossy (drop n b)) (rest_items b front Open q) (IsLossy-lossy (drop n b)) in
         absurd (omega (arith, open_len (drop n b) h.2, length-drop n b, rest))
 
--- what is so of an end of bytes
+-- a property of a suffix
 pub long-behind : (a b : List ℕ) (n : ℕ) (r : Refusal) → b ≡ drop n a → LongPieceMay b r → LongPieceMay a r
 long-behind a b n r is k =
     let at = k.1.0 in
@@ -171,7 +171,7 @@ long-some b r k =
     let rest = k.1.1.rest in
     omega (arith, text, rest, length-drop at b)
 
--- what is handed on, text by text
+-- the calls of the closure, text by text
 
 FoldsTo-append : {P A : Type 0} (R : P → A → P → Type 0) (p : P) (xs ys : List A) (q r : P) → FoldsTo R p xs q → FoldsTo R q ys r → FoldsTo R p (xs ++ ys) r
 FoldsTo-append R p [] ys q r h k = subst (λ s. FoldsTo R s ys r) (sym h) k
@@ -195,7 +195,7 @@ pub listed-handed : (b : Text) (text : Option Text) → IfSome text (IsHandedOn 
 listed-handed b None h = none-handed b
 listed-handed b (Some t) h = one-handed b t h
 
--- a text and then what an item tells
+-- a text, and then the characters of an item
 says : (text : Option Text) (more : List Text) (tail : List Item) → chars_of more ≡ characters (flat_map closed_of tail) → chars_of (listed text ++ more) ≡ characters (flat_map closed_of (map Keep (chars (bytes_of text)) ++ tail))
 says text more tail h =
     let cs = chars (bytes_of text) in
@@ -238,7 +238,7 @@ module _ {P : Type 0} (step : P → Text → Unit {0} → P → Type 0) where
     handed = record { texts = []; hands = refl; each = none-handed piece; says = refl };
   }
 
-  -- one more text is handed on, and what comes of the item that breaks it
+  -- one more text is passed to the closure, and U+FFFD for the broken sequence that ended it
   pub more : (push q r : P) (piece b c : Text) (text : Option Text) (ending : Ending) (texts : List Text) (tail : List Item) → HandsOnUpTo step push piece b q → (h : PopsText b text ending c)
       → Hands step q (listed text ++ texts) r → All (IsHandedOn b) texts → chars_of texts ≡ characters (flat_map closed_of tail) → h.after ≡ tail ++ lossy c.bytes → cut_bytes (tail ++ lossy c.bytes) ≡ kept c.bytes
       → HandsOnUpTo step push piece c r
@@ -264,13 +264,13 @@ module _ {P : Type 0} (step : P → Text → Unit {0} → P → Type 0) where
         };
       }
 
-  -- nothing is due of what is left
+  -- no output is expected for the remainder
   pub finished : (push r : P) (piece c : Text) → HandsOnUpTo step push piece c r → due_open c.bytes ≡ [] → HandsOn step push piece (due_open piece.bytes) r
   finished push r piece c so none =
       let all : due_open piece.bytes ≡ flat_map closed_of so.before = ap (flat_map closed_of) so.items ∙ flat_map-append closed_of so.before (lossy c.bytes) ∙ ap (λ l. flat_map closed_of so.before ++ l) none ∙ append-nil (flat_map closed_of so.before) in
       record { texts = so.handed.texts; hands = so.handed.hands; each = so.handed.each; says = so.handed.says ∙ ap characters (sym all) }
 
-  -- how a turn ends
+  -- how an iteration of the loop ends
 
   pub at_whole : (push q r : P) (piece b c : Text) (text : Option Text) → HandsOnUpTo step push piece b q → PopsText b text Whole c → Hands step q (listed text) r → DecodesPiece step push piece None r
   at_whole push q r piece b c text so h hands =
@@ -292,7 +292,7 @@ module _ {P : Type 0} (step : P → Text → Unit {0} → P → Type 0) where
       more push q s piece b c text (Broken k) (t ∷ []) (Bad k ∷ []) so h (FoldsTo-push (λ p x u. step p x tt u) q (listed text) r t s hands one)
       (one-handed b t (replacement-handed b t is)) (append-nil (chars t.bytes) ∙ replacement-chars t is) h.leaves.0 refl
 
--- a completed sequence, and the rest of the input
+-- a completed sequence, and the remaining input
 
 pub rest_is : (k input front rest : List ℕ) → k ++ input ≡ front ++ rest → length k ≤ length front → rest ≡ drop (length front - length k) input → (length rest ≤ length input) × (drop (length input - length rest) input ≡ rest)
 rest_is k input front rest all covers left =
@@ -307,7 +307,7 @@ pub rest_of : (k input rest : List ℕ) (found : Result (List ℕ) (List ℕ)) �
 rest_of k input rest (Ok t) h = rest_is k input t rest h.all h.covers h.left
 rest_of k input rest (Err b) h = rest_is k input b rest h.all h.covers h.left
 
--- what is handed on for it
+-- what is passed to the closure for it
 abbrev pub Says : List ℕ → List ℕ → List ℕ → List ℕ → Type 0
 Says k input rest text = (length text ≤ 4) × (CompletesTo k input text rest ⊎ ((text ≡ encode_utf8 0xFFFD) × (b : List ℕ) × BreaksAt k input b rest))
 

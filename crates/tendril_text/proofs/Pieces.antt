@@ -1,4 +1,4 @@
--- Pieces at the front of a text: parts up to a byte of a set, and lines.
+-- Prefixes of a text: parts up to a byte of a set, and lines.
 use Rattle.std.proofs.Common.{
   ◌≡◌,
   ◌↔◌,
@@ -81,7 +81,7 @@ takes_split set text part rest n ending ends ended last front end = ⊎_elim
     lacks : LacksSet set part
     lacks = subst (LacksSet set) (sym front) (lacks_front set text n ends.within ends.others)
 
--- the same, where the end was found in a slice of the text's bytes
+-- `takes_split`, if the end was found in a slice of the text's bytes
 pub split_of : (set : ℕ → Bool) (slice text part rest : List ℕ) (n ending : ℕ) → slice ≡ text → EndsBefore set slice n
     → (n < length slice → ending ≡ 1) → (n ≡ length slice → ending ≡ 0) → part ≡ take n text → rest ≡ drop (n + ending) text
     → TakesSplit set text part rest (ending == 0)

@@ -6,13 +6,13 @@ use Rattle.tendril_block.specs.declared.refusal.Refusal.{Refusal}
 use Rattle.tendril_text.specs.Items.{LengthRefused}
 use Rattle.tendril_text.specs.Writes.{IsPrinted, TakesPiece}
 
--- the first piece is refused
+-- the push of the first piece fails
 first_refused : (b x ys c : List ℕ) (q : Option Refusal) (r : Refusal) → LengthRefused (length (b ++ x)) r → q ≡ Some r → IsPrinted (b ++ (x ++ ys)) c q
 first_refused b x ys c q r h e =
     let within : length (b ++ x) ≤ length (b ++ (x ++ ys)) = simp length-append (omega arith) in
     subst (λ o. IsPrinted (b ++ (x ++ ys)) c o) (sym e) (length (b ++ x), within, h)
 
--- the first piece is taken, or refused, and the others follow
+-- the first piece is pushed, or its push fails, and the others follow
 then_others : (b x ys b' c : List ℕ) (o q : Option Refusal) → TakesPiece b None x b' o → ((r : Refusal) → o ≡ Some r → q ≡ Some r) → (o ≡ None → IsPrinted (b' ++ ys) c q) → IsPrinted (b ++ (x ++ ys)) c q
 then_others b x ys b' c None q t keeps rest = subst (λ all. IsPrinted all c q) (ap (λ l. l ++ ys) t ∙ append_assoc b x ys) (rest refl)
 then_others b x ys b' c (Some r) q t keeps rest = first_refused b x ys c q r t.1 (keeps r refl)
@@ -37,7 +37,7 @@ module _ {W : Type 0} (bytes : W → List ℕ) (refused : W → Option Refusal) 
   pub printed : (w : W) (text : List ℕ) (v : W) → refused w ≡ None → bytes w ≡ [] → WritesInCalls Took w text v → IsPrinted text (bytes v) (refused v)
   printed w text v e empty p = subst (λ all. IsPrinted all (bytes v) (refused v)) (ap (λ b. b ++ concat p.parts) empty ∙ p.whole) (after_calls w p.parts v e p.calls)
 
--- what is known of a printed text, at any text that is known
+-- a fact about a printed text implies another, if the text is known
 pub at_text : {P Q : List ℕ → Type 0} (o : Option (List ℕ)) → ((bs : List ℕ) → P bs → Q bs) → IfSome o P → IfSome o Q
 at_text None f h = tt
 at_text (Some bs) f h = f bs h

@@ -7,7 +7,7 @@ use Rattle.tendril_fmt.proofs.Splits.{IsSplitAfter-step, IsSplitAfter-texts}
 use Rattle.tendril_fmt.specs.Chars.{IsFirstChar, AreTextsOf, IsSplitAfter}
 
 module _ {F R : Type 0} (step : F → ℕ → R → F → Type 0) (eq : R → R → Bool) (valid : List ℕ → Type 0) (chars : List ℕ → List ℕ) (encodes : ℕ → Type 0) (encoding : ℕ → List ℕ) where
-  -- the first bytes of a text are characters of one class, for which f was asked
+  -- the first bytes of a text are characters of one class, with which the classifier was called and became f
   pub record SoFar (classify : F) (class : R) (bytes : List ℕ) (end : ℕ) (f : F) : Type 0 where
     pub first : ℕ
     pub others : List ℕ
@@ -45,7 +45,7 @@ module _ {F R : Type 0} (step : F → ℕ → R → F → Type 0) (eq : R → R 
         };
       }
 
-  -- a text that was parted where a run ends
+  -- a text that was split at the end of a run
   pub is_run : (classify : F) (class : R) (text : List ℕ) (n : ℕ) (run rest : List ℕ) (after : F) → EndsRun step eq valid chars classify class text n after → run ≡ take n text → rest ≡ drop n text → AsksRun step eq valid chars classify class text run rest after
   is_run classify class text n run rest after h front end =
       let parts : IsRun step eq valid chars classify class text (take n text) (drop n text) = record {

@@ -1,4 +1,4 @@
--- Tables of bytes, and the places that are passed in a search for them.
+-- Tables of bytes, and the indexes that a search for them skips.
 use Rattle.std.proofs.Common.{◌≡◌, ◌≢◌, ◌⊎◌, ◌↔◌, ℕ, zero, suc, ◌<◌, ◌≤◌, ◌+◌, ◌-◌, ◌==◌, ◌||◌, Bool, true, false, List, ◌++◌, length, take, drop, set, get_or, replicate, IsUtf8, IsFalse, Contains, refl, sym, subst, ap, ◌∙◌, arith, true≢false, inl, inr, ⊎_elim, eq-or-lt_of_le, length-append, length-take, length-drop, get_or-take, get_or-drop, take_at}
 use Rattle.std.proofs.lemmas.Bool.{cases_eq, cases_lt, eq-eqb, or_left, or_right}
 use Rattle.std.proofs.lemmas.Grind.{get_or_default_zero, get_or-set_at}
@@ -39,7 +39,7 @@ one_more bytes n table within room h = record {
 pub members_of : (bytes : List ℕ) (table : List Bool) (n : ℕ) → length bytes ≤ n → IsTableOf bytes n table → (b : ℕ) → (has_byte table b ≡ true) ↔ Contains bytes b
 members_of bytes table n all h b = (h.from b, λ c. subst (λ x. has_byte table x ≡ true) (sym (get_or_default_zero bytes c.0 b c.1) ∙ c.2) (h.to c.0 (let l = c.1 in omega (arith, l, all))))
 
--- few bytes
+-- sets of one to four bytes
 
 pub not_yes : (b : Bool) → IsFalse b → b ≡ true → ⊥
 not_yes b is_not is = true≢false (sym is ∙ is_not)
@@ -50,7 +50,7 @@ is_one a b c d x (inr (inl e)) = or_left (x == a || x == b || x == c) (x == d) (
 is_one a b c d x (inr (inr (inl e))) = or_left (x == a || x == b || x == c) (x == d) (or_right (x == a || x == b) (x == c) (eq-eqb x c e))
 is_one a b c d x (inr (inr (inr e))) = or_right (x == a || x == b || x == c) (x == d) (eq-eqb x d e)
 
--- each place of these bytes is one of the four
+-- each index into these bytes is one of the four
 abbrev pub Covers : List ℕ → ℕ → ℕ → ℕ → ℕ → Type 0
 Covers bytes i j k l = (m : ℕ) → m < length bytes → (m ≡ i) ⊎ ((m ≡ j) ⊎ ((m ≡ k) ⊎ (m ≡ l)))
 
@@ -73,7 +73,7 @@ covers bytes j k l p q r all (suc (suc zero)) w = inr (inr (inl (sym (q w))))
 covers bytes j k l p q r all (suc (suc (suc zero))) w = inr (inr (inr (sym (r w))))
 covers bytes j k l p q r all (suc (suc (suc (suc m)))) w = absurd (omega (arith, w, all))
 
--- no byte of the table is among some that are none of the four
+-- bytes that are none of the four have no byte of the table
 pub passes_more : (table : List Bool) (bytes : List ℕ) (a b c d at n : ℕ) → ((x : ℕ) → has_byte table x ≡ true → is_byte4 a b c d x ≡ true) → Nowhere (Passes (has_byte table) bytes) 0 at → ((k : ℕ) → k < n → is_byte4 a b c d (get_or bytes (at + k) 0) ≡ false) → Nowhere (Passes (has_byte table) bytes) 0 (at + n)
 passes_more table bytes a b c d at n few before none k low high is = ⊎_elim
     (λ l. before k low l is)
@@ -91,7 +91,7 @@ read_block bytes at n k l =
 pub passes_block : (table : List Bool) (bytes : List ℕ) (a b c d at n : ℕ) → ((x : ℕ) → has_byte table x ≡ true → is_byte4 a b c d x ≡ true) → Nowhere (Passes (has_byte table) bytes) 0 at → at + n ≤ length bytes → ((k : ℕ) → k < length (take (at + n - at) (drop at bytes)) → is_byte4 a b c d (get_or (take (at + n - at) (drop at bytes)) k 0) ≡ false) → Nowhere (Passes (has_byte table) bytes) 0 (at + n)
 passes_block table bytes a b c d at n few before within none = passes_more table bytes a b c d at n few before (λ k l. subst (λ x. is_byte4 a b c d x ≡ false) (read_block bytes at n k l) (none k (omega (arith, l, within, length-take (at + n - at) (drop at bytes), length-drop at bytes))))
 
--- what follows a front
+-- what follows a valid prefix is valid
 pub IsUtf8-rest : (bs front : List ℕ) → IsUtf8 bs → IsUtf8 front → bs ≡ front ++ drop (length front) bs → IsUtf8 (drop (length front) bs)
 IsUtf8-rest bs front v f e =
     let first : take (length front) bs ≡ front = ap (take (length front)) e ∙ take_at front (drop (length front) bs) (length front) refl in

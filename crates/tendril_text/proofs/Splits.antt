@@ -1,4 +1,4 @@
--- What a loop over `into_split` or `into_lines` has taken off a text.
+-- What a loop over `into_split` or `into_lines` has removed from a text.
 use Rattle.std.proofs.Common.{
   ◌≡◌,
   ℕ,
@@ -53,7 +53,7 @@ abbrev piece_of : List ℕ × List ℕ → List ℕ
 piece_of p = p.0
 
 module _ (Ends : List ℕ → List ℕ → Type 0) where
-  -- nothing is taken at first
+  -- nothing is removed at first
   pub AreTaken-nil : (text : List ℕ) → AreTaken Ends [] text text
   AreTaken-nil text = record { ended = []; pieces_are = refl; each = λ k d l. absurd (omega (arith, l)); joined = refl }
 
@@ -74,7 +74,7 @@ module _ (Ends : List ℕ → List ℕ → Type 0) where
         joined = so.joined ∙ ap (λ l. before ++ l) takes.2 ∙ sym more;
       }
 
--- no part is taken at first
+-- no part is removed at first
 pub splits_none : (set : ℕ → Bool) (text : List ℕ) → SplitsSoFar set [] text text false
 splits_none set text = AreTaken-nil (EndsPart set) text
 
@@ -113,7 +113,7 @@ join_ended c (p ∷ ps) last all =
     join_step c p.0 others (omega (arith, length-append (map piece_of ps) (last ∷ [])))
     ∙ ap (λ l. p.0 ++ (c ∷ l)) (join_ended c ps last (λ k d l. all (suc k) d (omega (arith, l)))) ∙ sym joined
 
--- where the set has one byte, the parts with it between each two are the text
+-- if the set has one byte, the parts with it between each two are the text
 pub parts_joined : (set : ℕ → Bool) (c : ℕ) (parts : List (List ℕ)) (text : List ℕ) → ((b : ℕ) → set b ≡ true → b ≡ c)
     → AreParts set parts text → join_with_byte c parts ≡ text
 parts_joined set c parts text one are =
@@ -122,7 +122,7 @@ parts_joined set c parts text one are =
     (λ k d l. let ends = are.taken.each k d l in ends.1.2 ∙ ap (λ b. b ∷ []) (one ends.1.0 ends.1.1))
     ∙ sym are.taken.joined
 
--- no line is taken at first
+-- no line is removed at first
 pub lines_none : (text : List ℕ) → LinesSoFar [] text text
 lines_none text = inl (AreTaken-nil EndsLine text)
 
@@ -156,7 +156,7 @@ lines_push lines line text rest rest' so takes = ⊎_elim
     (λ all. absurd (omega (arith, takes_some rest line rest' takes, ap length all.1)))
     so
 
--- where nothing is left, they are all lines
+-- if nothing is left, they are all lines
 pub lines_all : (lines : List (List ℕ)) (text rest : List ℕ) → LinesSoFar lines text rest → rest ≡ [] → AreLines lines text
 lines_all lines text rest so none = ⊎_elim
     (λ taken. record {

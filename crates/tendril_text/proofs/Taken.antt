@@ -21,7 +21,7 @@ pub record SoFar {A : Type 0} (bytes_of : A → List ℕ) (join : List ℕ → L
   pub fits : (n : ℕ) → n < length xs → length (joined bytes_of join old.bytes (take (n + 1) xs)) ≤ MAX_LEN
   pub grows : max new.copied (length new.bytes) ≤ max old.copied (length old.bytes) + cost bytes_of xs
 
--- the calls of an iterator gave the items xs, with which a text is `new`
+-- the iterator returned `items`, and a text with them is `new`
 pub record Walked {S A : Type 0} (steps : S → Option A → S → Type 0) (bytes_of : A → List ℕ) (join : List ℕ → List ℕ → List ℕ) (first : S) (old : Text) (now : S) (new : Text) : Type 0 where
   pub items : List A
   pub yielded : Yields steps first items now
@@ -56,7 +56,7 @@ module _ {A : Type 0} (bytes_of : A → List ℕ) (join : List ℕ → List ℕ 
         grows = omega arith;
       }
 
--- the same bytes after the items, said in another way
+-- `after` and `after'` are the same function, stated differently
 module _ {S A : Type 0} {steps : S → Option A → S → Type 0} {bytes_of : A → List ℕ} (after after' : List ℕ → List A → List ℕ) (same : (b : List ℕ) (xs : List A) → after b xs ≡ after' b xs) where
   Takes-same : {R : Type 0} {iterator last : S} {b : List ℕ} {taken : List A} (result : Result R Refusal) → Takes steps bytes_of after iterator b taken result last → Takes steps bytes_of after' iterator b taken result last
   Takes-same {R} {iterator} {last} {b} {taken} result h = record {

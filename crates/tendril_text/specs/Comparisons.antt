@@ -14,6 +14,6 @@ have_equal_bytes x y = pointwise nat_eq x.bytes y.bytes
 abbrev pub bytes_order : Text → Text → Ordering
 bytes_order x y = slice_cmp nat_cmp x.bytes y.bytes
 
--- what a hasher is fed for bytes: their number, and then all of them in one write
+-- the writes to a hasher for bytes: their number, and then all of them in one write
 abbrev pub hashed_bytes : List ℕ → List (List ℕ)
 hashed_bytes bytes = fed.usize (length bytes) ++ (bytes ∷ [])

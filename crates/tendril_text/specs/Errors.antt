@@ -1,10 +1,10 @@
--- The refusals that slices and pops are refused with.
+-- The errors of slices, pops and splits.
 use Rattle.tendril_block.specs.declared.refusal.Refusal.{Refusal}
 use Rattle.tendril_block.specs.declared.refusal.Refusal.TheVariants as refusal
 use Rattle.tendril_text.specs.declared.error.SubtendrilError.{SubtendrilError}
 use Rattle.tendril_text.specs.declared.error.SubtendrilError.TheVariants.{OutOfBounds, ValidationFailed, Count}
 
--- the refusal of the same name
+-- the `Refusal` of the same name
 abbrev pub refusal_of : SubtendrilError → Refusal
 refusal_of OutOfBounds = refusal.OutOfBounds
 refusal_of ValidationFailed = refusal.ValidationFailed

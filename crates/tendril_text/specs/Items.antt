@@ -1,4 +1,4 @@
--- Texts made of the items of an iterator, or grown by them.
+-- Texts created from the items of an iterator, or extended by them.
 use Rattle.std.specs.Prelude.{
   ℕ,
   ◌≡◌,
@@ -28,7 +28,7 @@ use Rattle.tendril_block.specs.declared.refusal.Refusal.{Refusal}
 use Rattle.tendril_block.specs.Outcomes.{LengthMust, MemoryMay, Refused}
 use Rattle.tendril_storage.specs.Texts.{Text}
 
--- why a text is refused that would have so many bytes
+-- the error of a text that would have `count` bytes
 abbrev pub LengthRefused : ℕ → Refusal → Type 0
 LengthRefused count r = Refused (LengthMust count) (MemoryMay count) r
 
@@ -37,20 +37,20 @@ module _ {A : Type 0} (bytes_of : A → List ℕ) where
   abbrev pub appended : List ℕ → List A → List ℕ
   appended b xs = b ++ flat_map bytes_of xs
 
-  -- the bytes b joined with those of each item in turn
+  -- the bytes b joined with those of each item, one after another
   abbrev pub joined : (List ℕ → List ℕ → List ℕ) → List ℕ → List A → List ℕ
   joined join b xs = fold (λ a x. join a (bytes_of x)) b xs
 
-  -- how many bytes are copied for the items at most: their own, and 4 more for each
+  -- the most bytes that are copied for the items: their own, and 4 more for each
   abbrev pub cost : List A → ℕ
   cost xs = sum_by (λ x. length (bytes_of x) + 4) xs
 
--- The calls of an iterator give what `steps` says. An item has the bytes `bytes_of x`, and a text of the bytes b has
--- the bytes `after b xs` once the items xs are in it.
+-- `steps s o t` says that a call of `next` of the iterator s may return o, and s becomes t. An item x has the bytes
+-- `bytes_of x`. A text of the bytes b has the bytes `after b xs` after the items xs were appended.
 module _ {S A : Type 0} (steps : S → Option A → S → Type 0) (bytes_of : A → List ℕ)
     (after : List ℕ → List A → List ℕ) where
-  -- The items that go into a text of the bytes b. After each of them it is short enough, and then the iterator gave no
-  -- other, or one more, with which the text is refused. It was asked for nothing after that, and is left as `last`.
+  -- The items that are appended to a text of the bytes b. Each of them fits. After them the iterator returned None, or
+  -- one more item, whose push fails. It wasn't called again, and became `last`.
   pub record Takes {R : Type 0} (iterator : S) (b : List ℕ) (taken : List A) (result : Result R Refusal)
       (last : S) : Type 0 where
     pub fits : (n : ℕ) → n < length taken → length (after b (take (n + 1) taken)) ≤ MAX_LEN
@@ -59,7 +59,7 @@ module _ {S A : Type 0} (steps : S → Option A → S → Type 0) (bytes_of : A 
         (λ r. (x : A) × YieldsThen steps iterator taken (Some x) last
         × LengthRefused (length (after b (taken ++ x ∷ []))) r)
 
-  -- a text has what it had, and then all items or exactly those before the one that is refused
+  -- a text has its old bytes, and then all items or exactly those before the one whose push fails
   pub record TakesItems (iterator : S) (old : Text) (result : Result (Unit {0}) Refusal) (new : Text)
       (last : S) : Type 0 where
     pub taken : List A
@@ -67,7 +67,7 @@ module _ {S A : Type 0} (steps : S → Option A → S → Type 0) (bytes_of : A 
     pub bytes : new.bytes ≡ after old.bytes taken
     pub copied : new.copied ≤ max old.copied (length old.bytes) + cost bytes_of taken
 
--- the same, where the iterator of some items is one that `becomes` ties to them
+-- `becomes items s` says that the iterator of the items may be s
 module _ {I S A : Type 0} (becomes : I → S → Type 0) (steps : S → Option A → S → Type 0) (bytes_of : A → List ℕ)
     (after : List ℕ → List A → List ℕ) where
   pub record Extends (items : I) (old new : Text) (result : Result (Unit {0}) Refusal) : Type 0 where
@@ -76,7 +76,7 @@ module _ {I S A : Type 0} (becomes : I → S → Type 0) (steps : S → Option A
     pub last : S
     pub extends : TakesItems steps bytes_of after iterator old result new last
 
-  -- a text has all items, or one of them is refused
+  -- a text has all items, or the push of one of them fails
   pub record Makes (items : I) (result : Result Text Refusal) : Type 0 where
     pub iterator : S
     pub made : becomes items iterator

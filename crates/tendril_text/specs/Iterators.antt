@@ -1,4 +1,4 @@
--- Iterators that take a text apart, up to the first part that is refused.
+-- Iterators that split a text, up to the first error.
 use Rattle.std.specs.Prelude.{
   ℕ,
   ◌≡◌,
@@ -26,28 +26,28 @@ use Rattle.tendril_text.specs.declared.search.SetResult.{SetResult}
 use Rattle.tendril_text.specs.Characters.{AsksLongRun, AsksRun}
 use Rattle.tendril_text.specs.Search.{HasLongPartBefore, TakesPart, part_bytes}
 
--- what is left of a text once a character is asked of it: the text, where none came, or a pop of it
+-- what is left of a text after `next` for a character: the text if it returned None, else the text after a pop
 abbrev pub IsLeftBy : Option ℕ → Text → Text → Type 0
 IsLeftBy found text rest = MatchOption found (rest ≡ text) (λ _. Keeps text rest)
 
--- how many parts may come: none once one was refused, else one for each byte, and a refusal
+-- the most items that may follow: none after an error, else one for each byte, and one more
 abbrev pub parts_left : Bool → List ℕ → ℕ
 parts_left true b = 0
 parts_left false b = length b + 1
 
--- no part comes, since one was refused or nothing is left
+-- `next` returns None, after an error or because nothing is left
 abbrev pub IsOver : Text → Bool → Text → Bool → Type 0
 IsOver text refused rest then = ((refused ≡ true) ⊎ (text.bytes ≡ [])) × (rest ≡ text) × (then ≡ refused)
 
--- a part comes, and none was refused
+-- `next` returns a part, and there was no error
 abbrev pub PartComes : Bool → Bool → Type 0
 PartComes refused then = (refused ≡ false) × (then ≡ false)
 
--- a part is refused, and the text stays
+-- `next` returns an error, and the text doesn't change
 abbrev pub IsRefusedNow : Text → Bool → Text → Bool → Type 0
 IsRefusedNow text refused rest then = (refused ≡ false) × (then ≡ true) × (rest ≡ text)
 
--- the next run of characters of one class is taken off the text
+-- the next run of characters of one class is removed from the text
 module _ {F R : Type 0} (step : F → ℕ → R → F → Type 0) (eq : R → R → Bool) (valid : List ℕ → Type 0)
     (chars : List ℕ → List ℕ) where
   abbrev pub NextRun : Text → F → Bool → Option (Result (Text × R) Refusal) → Text → F → Bool → Type 0
@@ -59,7 +59,7 @@ module _ {F R : Type 0} (step : F → ℕ → R → F → Type 0) (eq : R → R 
       IsRefusedNow text refused rest then × (r ≡ Count)
       × AsksLongRun step eq valid chars classify text.bytes last
 
--- the next part between characters of a set is taken off the text, or the next of these characters
+-- the next text between characters of a set is removed from the text, or the next of these characters
 module _ {F A B : _} (chars : List ℕ → List ℕ) (encoding : ℕ → List ℕ) (set : ℕ → Bool) where
   abbrev pub NextPart : Text → Bool → Option (Result (SetResult F A B) Refusal) → Text → Bool → Type 0
   NextPart text refused None rest then = IsOver text refused rest then

@@ -1,4 +1,4 @@
--- The words of the contracts on texts.
+-- Definitions for the contracts of texts.
 pub use Rattle.tendril_storage.specs.Texts
 pub use Rattle.tendril_storage.specs.Edits
 pub mod Errors

@@ -1,11 +1,11 @@
--- A piece that is taken off the front of a text, and the bytes that end it.
+-- A prefix that is removed from a text, and the bytes that end it.
 use Rattle.std.specs.Prelude.{ℕ, ◌≡◌, ◌+◌, length, take, drop, Result}
 use Rattle.tendril_block.specs.declared.refusal.Refusal.{Refusal}
 use Rattle.tendril_block.specs.Outcomes.{NoneMust, Outcome}
 use Rattle.tendril_storage.specs.Partings.{BothLong}
 use Rattle.tendril_storage.specs.Texts.{Text, Parts}
 
--- the first bytes of a text are given, those of its ending are dropped, and the others are left
+-- the first `count` bytes of a text are returned, the `ending` bytes after them are dropped, and the remainder is left
 pub record IsPieceTaken (count ending : ℕ) (old piece rest : Text) : Type 0 where
   pub piece_bytes : piece.bytes ≡ take count old.bytes
   pub rest_bytes : rest.bytes ≡ drop (count + ending) old.bytes

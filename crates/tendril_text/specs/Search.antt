@@ -1,4 +1,4 @@
--- Sets of bytes, and where a text has the first of them.
+-- Sets of bytes, and the first byte of a text that is in a set.
 use Rattle.std.specs.Prelude.{
   ℕ,
   ◌≡◌,
@@ -30,18 +30,18 @@ has_byte table b = slice_index_or table b false
 abbrev pub is_byte4 : ℕ → ℕ → ℕ → ℕ → ℕ → Bool
 is_byte4 a b c d x = x == a || x == b || x == c || x == d
 
--- a table of the bytes of ASCII, none of which is past 7F
+-- a table of 256 Booleans, true only for ASCII bytes
 pub record IsTable (table : List Bool) : Type 0 where
   pub len : length table ≡ 256
   pub ascii : (b : ℕ) → has_byte table b ≡ true → b < 128
 
--- the first n bytes of a text are none of the set, and the next one is, where there is one
+-- none of the first n bytes of a text is in the set, and the next one is, if there is one
 pub record EndsBefore (set : ℕ → Bool) (text : List ℕ) (n : ℕ) : Type 0 where
   pub within : n ≤ length text
   pub others : Nowhere (Passes set text) 0 n
   pub next : n < length text → Passes set text n
 
--- a text was parted before its first byte of the set, which it doesn't begin with
+-- a text was split before its first byte of the set, or at its end; the prefix isn't empty
 pub record PartsBefore (set : ℕ → Bool) (old front rest : Text) : Type 0 where
   pub count : ℕ
   pub ends : EndsBefore set old.bytes count
@@ -52,14 +52,14 @@ pub record PartsBefore (set : ℕ → Bool) (old front rest : Text) : Type 0 whe
 abbrev pub BeginsWithOne : (ℕ → Bool) → List ℕ → Type 0
 BeginsWithOne set text = EndsBefore set text 0
 
--- the first byte of the set, or the end, is past 8 bytes, and more than 8 bytes follow
+-- more than 8 bytes precede the first byte of the set, and with it more than 8 bytes follow
 pub record HasLongPartBefore (set : ℕ → Bool) (text : List ℕ) (r : Refusal) : Type 0 where
   pub count : ℕ
   pub ends : EndsBefore set text count
   pub long : BothLong count (length text) r
 
--- What comes next of a text that is parted at the characters of a set: one of these, or what stands before the first of
--- them.
+-- What is removed next from a text that is split at the characters of a set: one of these, or the text before the first
+-- of them.
 module _ {F A B : _} (chars : List ℕ → List ℕ) (encoding : ℕ → List ℕ) (set : ℕ → Bool) where
   abbrev pub TakesPart : Text → SetResult F A B → Text → Type 0
   TakesPart old (FromSet c) new =
@@ -67,7 +67,7 @@ module _ {F A B : _} (chars : List ℕ → List ℕ) (encoding : ℕ → List �
       × Keeps old new
   TakesPart old (NotFromSet front) new = PartsBefore set old front new
 
--- the bytes of what was taken off a text
+-- the bytes of what was removed from a text
 module _ {F A B : _} (encoding : ℕ → List ℕ) where
   abbrev pub part_bytes : SetResult F A B → List ℕ
   part_bytes (FromSet c) = encoding c

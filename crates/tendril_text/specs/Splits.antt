@@ -35,7 +35,7 @@ use Rattle.tendril_text.specs.Search.{HasLongPartBefore}
 abbrev pub LacksSet : (ℕ → Bool) → List ℕ → Type 0
 LacksSet set part = Nowhere (Passes set part) 0 (length part)
 
--- a part between bytes of a set, and the byte of it that ends the part
+-- a part between bytes of a set, and the byte of the set that ends the part
 abbrev pub EndsPart : (ℕ → Bool) → List ℕ → List ℕ → Type 0
 EndsPart set part ending = LacksSet set part × ((b : ℕ) × (set b ≡ true) × (ending ≡ b ∷ []))
 
@@ -44,7 +44,7 @@ abbrev pub EndsLine : List ℕ → List ℕ → Type 0
 EndsLine line ending =
     LacksByte 10 line × ((ending ≡ 13 ∷ 10 ∷ []) ⊎ ((ending ≡ 10 ∷ []) × (IsEndOf (13 ∷ []) line → ⊥)))
 
--- pieces and their endings are the front of a text, and the rest comes after them
+-- pieces and their endings are a prefix of a text, and `rest` is the remainder
 pub record AreTaken (Ends : List ℕ → List ℕ → Type 0) (pieces : List (List ℕ)) (text rest : List ℕ) : Type 0 where
   pub ended : List (List ℕ × List ℕ)
   pub pieces_are : map (λ p. p.0) ended ≡ pieces
@@ -60,7 +60,7 @@ pub record AreParts (set : ℕ → Bool) (parts : List (List ℕ)) (text : List 
   pub taken : AreTaken (EndsPart set) others text last
   pub lacks : LacksSet set last
 
--- what follows the last line ending is a line too where it isn't empty
+-- what follows the last line ending is a line too, if it isn't empty
 abbrev pub line_after : List ℕ → List (List ℕ)
 line_after [] = []
 line_after (b ∷ bs) = (b ∷ bs) ∷ []
@@ -73,16 +73,16 @@ pub record AreLines (lines : List (List ℕ)) (text : List ℕ) : Type 0 where
   pub taken : AreTaken EndsLine ended text last
   pub lacks : LacksByte 10 last
 
--- the next piece is taken off a text with its ending
+-- the next piece is removed from a text with its ending
 abbrev pub TakesEnded : (List ℕ → List ℕ → Type 0) → List ℕ → List ℕ → List ℕ → Type 0
 TakesEnded Ends text piece rest = (ending : List ℕ) × Ends piece ending × (text ≡ piece ++ (ending ++ rest))
 
--- the next part is taken off a text, up to a byte of the set, or as the last one
+-- the next part is removed from a text: up to a byte of the set, or the last one
 abbrev pub TakesSplit : (ℕ → Bool) → List ℕ → List ℕ → List ℕ → Bool → Type 0
 TakesSplit set text part rest false = TakesEnded (EndsPart set) text part rest
 TakesSplit set text part rest true = LacksSet set part × (text ≡ part) × (rest ≡ [])
 
--- the next line is taken off a text, with its line ending, or as what follows the last one
+-- the next line is removed from a text: with its line ending, or what follows the last one
 abbrev pub TakesLine : List ℕ → List ℕ → List ℕ → Type 0
 TakesLine text line rest =
     TakesEnded EndsLine text line rest ⊎ (LacksByte 10 line × (0 < length line) × (text ≡ line) × (rest ≡ []))
@@ -94,25 +94,25 @@ pub record HasLongLine (text : List ℕ) (r : Refusal) : Type 0 where
   pub takes : TakesLine text line rest
   pub long : BothLong (length line) (length text) r
 
--- the next part between bytes of a set comes
+-- what `next` returns for the parts between bytes of a set
 abbrev pub NextSplit : (ℕ → Bool) → Text → Bool → Option (Result Text Refusal) → Text → Bool → Type 0
 NextSplit set text over None rest then = (over ≡ true) × (rest ≡ text) × (then ≡ over)
 NextSplit set text over (Some (Ok part)) rest then =
     (over ≡ false) × TakesSplit set text.bytes part.bytes rest.bytes then × Parts text part rest
 NextSplit set text over (Some (Err r)) rest then = IsRefusedNow text over rest then × HasLongPartBefore set text.bytes r
 
--- the next line comes
+-- what `next` returns for lines
 abbrev pub NextLine : Text → Bool → Option (Result Text Refusal) → Text → Bool → Type 0
 NextLine text refused None rest then = IsOver text refused rest then
 NextLine text refused (Some (Ok line)) rest then =
     PartComes refused then × TakesLine text.bytes line.bytes rest.bytes × Parts text line rest
 NextLine text refused (Some (Err r)) rest then = IsRefusedNow text refused rest then × HasLongLine text.bytes r
 
--- parts were taken off a text and the rest is left, or they are all its parts
+-- parts were removed from a text and `rest` is left, or they are all its parts
 abbrev pub SplitsSoFar : (ℕ → Bool) → List (List ℕ) → List ℕ → List ℕ → Bool → Type 0
 SplitsSoFar set parts text rest false = AreTaken (EndsPart set) parts text rest
 SplitsSoFar set parts text rest true = AreParts set parts text × (rest ≡ [])
 
--- lines were taken off a text and the rest is left, or they are all its lines
+-- lines were removed from a text and `rest` is left, or they are all its lines
 abbrev pub LinesSoFar : List (List ℕ) → List ℕ → List ℕ → Type 0
 LinesSoFar lines text rest = AreTaken EndsLine lines text rest ⊎ (AreLines lines text × (rest ≡ []))

@@ -1,4 +1,4 @@
--- Texts that are written and printed into.
+-- Writing and printing into texts.
 use Rattle.std.specs.Prelude.{
   ℕ,
   ◌≡◌,
@@ -21,29 +21,29 @@ use Rattle.tendril_storage.specs.Texts.{Text}
 use Rattle.tendril_block.specs.declared.refusal.Refusal.{Refusal}
 use Rattle.tendril_block.specs.declared.refusal.Refusal.TheVariants.{TooLong, Memory}
 
--- a refusal that a push brings
+-- an error of a push
 abbrev pub IsGrowthRefusal : Refusal → Type 0
 IsGrowthRefusal r = (r ≡ TooLong) ⊎ (r ≡ Memory)
 
--- a text is refused that has no more than a front of these bytes
+-- the error of pushing a prefix of these bytes
 abbrev pub IsFrontRefused : List ℕ → Refusal → Type 0
 IsFrontRefused bytes r = (n : ℕ) × (n ≤ length bytes) × LengthRefused n r
 
--- what a printer has after these bytes: them, or why a push of them was refused
+-- what a printer has after these bytes: them, or the error of pushing a prefix of them
 abbrev pub IsPrinted : List ℕ → List ℕ → Option Refusal → Type 0
 IsPrinted bytes c q = MatchOption q (c ≡ bytes) (IsFrontRefused bytes)
 
--- a value that prints these bytes gives them as a text, or why a push of them is refused
+-- the result for a value that prints these bytes: a text of them, or the error of pushing a prefix of them
 abbrev pub Prints : List ℕ → Result Text Refusal → Type 0
 Prints bytes result = MatchResult result (λ t. t.bytes ≡ bytes) (IsFrontRefused bytes)
 
--- What a printer does with a piece: the text b, and why a push was refused, become c and q. It pushes the piece, or
--- keeps why that is refused. Once a push was refused, nothing changes.
+-- What a printer does with a piece: its text b and the error of a push, if there was one, become c and q. It pushes the
+-- piece, or stores the error of that push. After an error, nothing changes.
 abbrev pub TakesPiece : List ℕ → Option Refusal → List ℕ → List ℕ → Option Refusal → Type 0
 TakesPiece b None piece c q = MatchOption q (c ≡ b ++ piece) (λ r. (c ≡ b) × LengthRefused (length (b ++ piece)) r)
 TakesPiece b (Some r) piece c q = (c ≡ b) × (q ≡ Some r)
 
--- of which kind the error is, where a write to a text that would have so many bytes then is refused
+-- the kind of the error of a write, after which a text would have `count` bytes
 abbrev pub WriteRefused : ℕ → ErrorKind → Type 0
 WriteRefused count FileTooLarge = LengthRefused count TooLong
 WriteRefused count OutOfMemory = LengthRefused count Memory

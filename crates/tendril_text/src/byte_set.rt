@@ -7,11 +7,11 @@ use std::marker::Model;
 
 /// A set of ASCII bytes, to search for.
 ///
-/// Contracts see it as a table of 256 that says of each byte whether it is in the set.
+/// Contracts see it as a list of 256 Booleans: whether each byte is in the set.
 #[derive(Drop)]
 pub struct ByteSet {
     members: [bool; 256],
-    // The bytes, where they are four or fewer.
+    // The bytes that `new` got, if they are one to four.
     few: Option<(u8, u8, u8, u8)>,
 }
 
@@ -46,7 +46,7 @@ impl ByteSet {
         ByteSet { members, few }
     }
 
-    /// Whether the byte is in the set. One look into a table.
+    /// Whether the byte is in the set. Takes one table lookup.
     ///
     /// ```
     /// assert_eq!(rt; ByteSet::new(b"<&").contains(b'>'), false);
@@ -83,7 +83,7 @@ fn table_of(bytes: &[u8]) -> [bool; 256]
     members
 }
 
-// The bytes, where they are four or fewer. One may be repeated.
+// The bytes, if they are one to four. The last one is repeated if they are fewer than four.
 fn few_of(bytes: &[u8], members: &[bool; 256]) -> Option<(u8, u8, u8, u8)>
     requires { (b : ℕ) → (has_byte members.now b ≡ true) ↔ Contains bytes.now b }
     ensures { IfSome result (λ t. (b : ℕ) → has_byte members.now b ≡ true → is_byte4 t.0 t.1 t.2 t.3 b ≡ true) }
@@ -97,7 +97,8 @@ fn few_of(bytes: &[u8], members: &[bool; 256]) -> Option<(u8, u8, u8, u8)>
     }
 }
 
-// An index before which no byte is in the table: it skips as many of the others as it can, sixteen at a time, by vectors.
+// Returns an index before which no byte is in the table. Skips sixteen bytes at a time, by vector instructions, while
+// none of them is one of the four.
 fn skip_others(a: u8, b: u8, c: u8, d: u8, members: &[bool; 256], bytes: &[u8]) -> usize
     requires { (x : ℕ) → has_byte members.now x ≡ true → is_byte4 a b c d x ≡ true }
     ensures within { result ≤ length bytes.now }
@@ -110,7 +111,7 @@ fn skip_others(a: u8, b: u8, c: u8, d: u8, members: &[bool; 256], bytes: &[u8]) 
         }
         at += 16;
     }
-    // Eight more, if none of them is in the table.
+    // Eight more, if none of them is one of the four.
     if 8 <= bytes.len() - at && !has_any(a, b, c, d, &bytes[at..at + 8]) {
         at += 8;
     }

@@ -48,9 +48,9 @@ impl<F: CharFormat, A: Atomicity> Tendril<F, A> {
     /// Removes the longest prefix whose characters are of one class and returns it with that class, or returns `None` if the text
     /// is empty.
     ///
-    /// `classify` is called once for each character of the run, in order, and once for the character after it. Returns `Count` if
-    /// the run and the remainder both have more than 8 bytes and the block as many references as it can have; then nothing has
-    /// changed. Allocates nothing: parts of more than 8 bytes keep sharing the block.
+    /// `classify` is called once for each character of the run, in order, and once for the character after it. Returns
+    /// `Count` if the run and the remainder both have more than 8 bytes and the block as many references as it can
+    /// have; then nothing has changed. Allocates nothing: sides of more than 8 bytes keep sharing the block.
     ///
     /// ```
     /// let mut text = StrTendril::from_slice(alloc, "42 apples")?;
@@ -76,7 +76,8 @@ impl<F: CharFormat, A: Atomicity> Tendril<F, A> {
         self.pop_front_char_run_with(&mut classify)
     }
 
-    /// Removes a run of characters as `pop_front_char_run` does, by a borrowed classifier: contracts see what became of it.
+    /// Removes a run of characters as `pop_front_char_run` does, with a borrowed classifier, whose final state
+    /// contracts see.
     ///
     /// Returns `Count` if the run and the remainder both have more than 8 bytes and the block as many references as it can have;
     /// then the text hasn't changed.
@@ -166,8 +167,9 @@ impl<A: Atomicity> Tendril<UTF8, A> {
     }
 }
 
-// Where the first run of characters of one class ends, and the class. It borrows the classifier, so that the contract says
-// what it is afterwards: it was called once for each character of the run and the one after it, and for no other.
+// Returns the end of the first run of characters of one class, and the class. It borrows the classifier, so that the
+// contract can state its final state: it was called once for each character of the run and the one after it, and for no
+// other.
 fn run_end<F: CharFormat, C: FnMut(char) -> R, R: PartialEq + Drop>(
     bytes: &[u8],
     classify: &mut C,

@@ -18,8 +18,9 @@ use tendril_fmt::fmt::{Bytes, Format, UTF8};
 impl<F: Format, A: Atomicity> Tendril<F, A> {
     /// Appends texts by the format's join, up to the first that returns an error. The texts before it stay appended.
     ///
-    /// Returns `TooLong` if the text would have more than 4294967295 bytes with a text, or `Memory` if an allocation fails. Costs
-    /// what `push_tendril` of each text costs; like all `extend_` and `from_` calls it doesn't ask how many come.
+    /// Returns `TooLong` if the text would have more than 4294967295 bytes with a text, or `Memory` if an allocation
+    /// fails. Costs what a `push_tendril` of each text costs. Like all `extend_` and `from_` calls, it ignores the
+    /// iterator's size hint.
     ///
     /// ```
     /// let parts = [StrTendril::from_slice(alloc, "a")?, StrTendril::from_slice(alloc, "b")?];
@@ -73,8 +74,8 @@ impl<F: Format, A: Atomicity> Tendril<F, A> {
         self.take_items(&mut items.into_iter())
     }
 
-    // The loop of all `extend_` functions. It borrows the iterator, so that its clause can say what that is when the loop ends:
-    // it was asked for no item after the one whose push failed.
+    // The loop of all `extend_` functions. It borrows the iterator, so that its contract can state the iterator's final
+    // state: `next` isn't called after the item whose push failed.
     fn take_items<I: Iterator>(&mut self, source: &mut I) -> Result<(), Refusal>
     where
         I::Item: Pushable<F, A>,

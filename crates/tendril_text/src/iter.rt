@@ -1,8 +1,8 @@
 //! Iterators that own a text and split it.
 //!
-//! A `while let` over the pops needs a measure in a proof file; a `for` over these needs none, since their items are bounded
-//! by the text's bytes. After an item that is an error nothing follows, as the bound would fail else; the text that is left
-//! stays in `rest`.
+//! A `while let` loop over pops needs a measure in a proof file; a `for` loop over these iterators needs none, since
+//! the text's length bounds the number of items. No item follows an error, else there would be no bound; the remaining
+//! text is in `rest`.
 
 mod chars;
 mod lines;

@@ -1,4 +1,4 @@
-//! Searches for bytes in a text, the prefix before the byte that is found, and given prefixes.
+//! Searching for bytes in a text, and removing what is before them; testing for a prefix, and removing it.
 ghost use Rattle.std.specs.Prelude.{◌≡◌, ◌<◌, ◌≤◌, ◌↔◌, ◌++◌, [], List, length, take, drop, IsUtf8, IfSome, IfNone, IfOk, OnErr, OnSome, IsTrue, IsFalse, IfErr};
 ghost use Rattle.memchr.specs.Find.{IsFirstByte, is_byte};
 ghost use Rattle.tendril_fmt.specs.Parts.{IsFrontOf};
@@ -15,7 +15,7 @@ use tendril_fmt::fmt::{CharFormat, CutsAtAscii, Format, UTF8};
 impl<F: Format, A: Atomicity> Tendril<F, A> {
     /// Returns the offset of the first byte that is in the set, or `None` if there is none.
     ///
-    /// One pass to that byte, by 16 bytes at a time for a set of up to four. Allocates nothing.
+    /// Takes one pass up to that byte, 16 bytes at a time for a set of up to four. Allocates nothing.
     ///
     /// ```
     /// let text = StrTendril::from_slice(alloc, "a < b & c")?;
@@ -28,7 +28,8 @@ impl<F: Format, A: Atomicity> Tendril<F, A> {
         Some(place as u32)
     }
 
-    /// Returns the offset of the first byte that equals `byte`, or `None` if there is none. One pass to it, by `memchr`.
+    /// Returns the offset of the first byte that equals `byte`, or `None` if there is none. Takes one pass up to it, by
+    /// `memchr`.
     ///
     /// ```
     /// let text = StrTendril::from_slice(alloc, "key=value")?;
@@ -67,8 +68,9 @@ impl<F: CutsAtAscii, A: Atomicity> Tendril<F, A> {
     /// Removes the bytes before the first one that is in the set, or all bytes if none is, and returns them; returns `None` if
     /// the text is empty or begins with a byte of the set.
     ///
-    /// Returns `Count` if both parts have more than 8 bytes and the block as many references as it can have; then nothing has
-    /// changed. One pass as of `find_any`. Allocates nothing: parts of more than 8 bytes keep sharing the block.
+    /// Returns `Count` if both sides have more than 8 bytes and the block as many references as it can have; then
+    /// nothing has changed. Takes one pass, as `find_any` does. Allocates nothing: sides of more than 8 bytes keep
+    /// sharing the block.
     ///
     /// ```
     /// let mut text = StrTendril::from_slice(alloc, "one, two")?;
@@ -96,11 +98,11 @@ impl<F: CutsAtAscii, A: Atomicity> Tendril<F, A> {
 }
 
 impl<F: CharFormat + CutsAtAscii, A: Atomicity> Tendril<F, A> {
-    /// Removes what is before the first character of the set, or that character if the text begins with it, and returns it;
-    /// returns `None` if the text is empty.
+    /// Removes the text before the first character of the set, or that character if the text begins with it, and
+    /// returns it; returns `None` if the text is empty.
     ///
-    /// Returns `Count` where `pop_front_until` does; then nothing has changed. Costs what `pop_front_until` and `pop_front_char`
-    /// cost.
+    /// Returns `Count` if `pop_front_until` does; then nothing has changed. Costs what `pop_front_until` and
+    /// `pop_front_char` cost.
     ///
     /// ```
     /// let mut text = StrTendril::from_slice(alloc, "<p>")?;
@@ -180,7 +182,7 @@ fn front_end<F: CutsAtAscii>(bytes: &[u8], set: &ByteSet) -> usize
     }
 }
 
-// Whether a text begins with another. If it does, what follows is a text too.
+// Whether a text begins with the prefix. If it does, the remainder is valid too.
 fn begins_with(bytes: &[u8], prefix: &str) -> bool
     requires { IsUtf8 bytes.now }
     ensures begins { IsTrue result ↔ IsFrontOf prefix.now bytes.now }

@@ -1,7 +1,7 @@
 //! Texts.
 //!
-//! A `Tendril<F, A>` is seen by contracts as its bytes and the number of bytes that were copied for it. What its clones
-//! and slices share is never seen: a call on one text changes the bytes of no other.
+//! Contracts see a `Tendril<F, A>` as its bytes and the number of bytes that were copied for it. They don't see
+//! sharing: a call on one text never changes the bytes of another.
 
 mod compare;
 mod convert;

@@ -23,9 +23,9 @@ const MANY_BEFORE: u32 = 1024;
 
 const REPLACEMENT: &str = "\u{FFFD}";
 
-/// A text, as the type that a closure takes: the text's own type, and no other type implements this.
+/// Converts a text to the type that a closure takes, which is the text's own type: no other type implements this.
 ///
-/// It is used in bounds instead of `FnMut(Tendril<UTF8, A>)`, about which nothing can be stated while `A` isn't known.
+/// Bounds use it instead of `FnMut(Tendril<UTF8, A>)`, about which nothing can be stated while `A` isn't known.
 pub trait ClosureText<T: Drop>: Drop {
     ghost use Rattle.std.specs.Prelude.{◌≡◌};
 
@@ -47,7 +47,7 @@ impl<F: Format, A: Atomicity> ClosureText<Tendril<F, A>> for Tendril<F, A> {
     }
 }
 
-/// The length of the text that `pop_text_after` returned last, which tells how far off the next broken sequence is expected.
+/// The length of the text that `pop_text_after` returned last: an estimate of how far off the next broken sequence is.
 #[derive(Clone, Copy, Debug)]
 pub struct LastText {
     len: u32,
@@ -68,7 +68,7 @@ impl LastText {
         LastText { len: MANY_BEFORE }
     }
 
-    // How many bytes are searched first for a broken sequence.
+    // The number of bytes that are searched first for a broken sequence.
     #[inline(always)]
     fn first_window(self) -> usize
         ensures { 4 ≤ result }
@@ -161,12 +161,12 @@ impl IncompleteUtf8 {
         self.bytes.as_slice()
     }
 
-    /// Completes the bytes from the input, and returns what they became with the rest of the input, or `None` if they are still
-    /// incomplete.
+    /// Completes the bytes from the input, and returns what they became and the remaining input, or `None` if they are
+    /// still incomplete.
     ///
-    /// They become the longest text in the first four bytes of both, or, where no character begins with them, the broken bytes:
-    /// their maximal subpart (Unicode, chapter 3). After that nothing is kept. On `None` the input is kept too. Reads only as
-    /// much input as makes four bytes with the kept ones, and allocates nothing.
+    /// They become the longest prefix that is UTF-8 of the first four bytes, the kept ones and then the input's; or, if
+    /// no character begins there, the broken bytes: their maximal subpart (Unicode, chapter 3). After that nothing is
+    /// kept. On `None` the input is kept too. Reads at most these four bytes, and allocates nothing.
     ///
     /// ```
     /// let mut kept = IncompleteUtf8::new_without_validating(b"\xE2\x82");
@@ -208,8 +208,8 @@ impl IncompleteUtf8 {
     /// Completes the bytes from the start of a piece, removes what it takes from the piece and returns what the bytes became; or
     /// returns `None` if they are still incomplete.
     ///
-    /// They become what `try_to_complete_codepoint` makes of them. On `None` the piece's bytes are kept too, and the piece hasn't
-    /// changed. Allocates nothing.
+    /// They become what `try_to_complete_codepoint` returns. On `None` the piece's bytes are kept too, and the piece
+    /// hasn't changed. Allocates nothing.
     ///
     /// ```
     /// let mut kept = IncompleteUtf8::new_without_validating(b"\xC3");
@@ -238,11 +238,11 @@ impl IncompleteUtf8 {
         Some(completed)
     }
 
-    /// Completes the bytes from a piece, passes the text or U+FFFD to the closure, and returns the rest of the piece.
+    /// Completes the bytes from a piece, passes the text or U+FFFD to the closure, and returns the remaining piece.
     ///
-    /// Returns `Err(())` if the bytes are still incomplete: then the piece's bytes are kept too. Call it only where bytes are
-    /// kept: with none, and an empty piece, it passes an empty text. Allocates nothing. No clause can say what becomes of a
-    /// closure that is passed by value: to prove something about it, call `try_complete_with`.
+    /// Returns `Err(())` if the bytes are still incomplete: then the piece's bytes are kept too. Call it only if bytes
+    /// are kept: with none, and an empty piece, it passes an empty text. Allocates nothing. Contracts can't state the
+    /// final state of a closure that is passed by value: to prove something about it, call `try_complete_with`.
     ///
     /// ```
     /// let mut kept = IncompleteUtf8::new_without_validating(b"\xC3");
@@ -314,10 +314,10 @@ impl<A: Atomicity> Tendril<Bytes, A> {
     /// Decodes the bytes as a piece of a stream of UTF-8: passes the texts to the closure, U+FFFD for each broken sequence, and
     /// returns the incomplete bytes at the end, if there are any.
     ///
-    /// Allocates nothing: texts of more than 8 bytes share the piece's block. Returns `Count` and the part that isn't decoded yet
-    /// if the block has as many references as it can have; what was passed to the closure isn't undone. No clause can say what
-    /// becomes of a closure that is passed by value: to prove something about it, call `decode_utf8_lossy_with`, or `pop_text` in
-    /// a loop.
+    /// Allocates nothing: texts of more than 8 bytes share the piece's block. Returns `Count` and the bytes not decoded
+    /// yet if the block has as many references as it can have; what was passed to the closure isn't undone. Contracts
+    /// can't state the final state of a closure that is passed by value: to prove something about it, call
+    /// `decode_utf8_lossy_with`, or `pop_text` in a loop.
     ///
     /// ```
     /// let piece = ByteTendril::from_slice(alloc, b"a\xFFb\xC3")?;
@@ -349,8 +349,8 @@ impl<A: Atomicity> Tendril<Bytes, A> {
 
     /// Decodes the bytes as `decode_utf8_lossy` does, and passes the texts to a borrowed closure.
     ///
-    /// Returns `Count` if the block has as many references as it can have; then the part that isn't decoded yet is left. After an
-    /// Ok nothing is left, or the incomplete bytes that are returned. Allocates nothing.
+    /// Returns `Count` if the block has as many references as it can have; then the bytes not decoded yet are left.
+    /// After an Ok only the incomplete bytes that are returned are left. Allocates nothing.
     ///
     /// ```
     /// let mut piece = ByteTendril::from_slice(alloc, b"a\xFFb")?;
@@ -393,8 +393,8 @@ impl<A: Atomicity> Tendril<Bytes, A> {
     /// Removes the longest prefix that is UTF-8 and the broken sequence after it, and returns the text, if it isn't empty, and
     /// what ended it. Incomplete bytes at the end stay.
     ///
-    /// Returns `Count` if the text and what is left both have more than 8 bytes and the block as many references as it can have;
-    /// then nothing has changed. Allocates nothing: parts of more than 8 bytes keep sharing the block.
+    /// Returns `Count` if the text and the bytes after it both have more than 8 bytes and the block as many references
+    /// as it can have; then nothing has changed. Allocates nothing: sides of more than 8 bytes keep sharing the block.
     ///
     /// ```
     /// let mut piece = ByteTendril::from_slice(alloc, b"ab\xFFc")?;
@@ -409,9 +409,11 @@ impl<A: Atomicity> Tendril<Bytes, A> {
         self.pop_text_after(&mut LastText { len: FEW_BEFORE })
     }
 
-    /// Does and returns what `pop_text` does, and is faster in a loop: it keeps the length of the last text.
+    /// Removes and returns the next text as `pop_text` does, but faster in a loop: `last` stores the length of the last
+    /// text.
     ///
-    /// After little text it searches few bytes first for the next broken sequence, after much text many. Only the time differs.
+    /// After a short text it first searches few bytes for the next broken sequence, after a long one many. Only the
+    /// time differs.
     ///
     /// ```
     /// let mut piece = ByteTendril::from_slice(alloc, b"ab\xFFc")?;
@@ -432,7 +434,7 @@ impl<A: Atomicity> Tendril<Bytes, A> {
         let count = front.len() as u32;
         *last = LastText { len: count };
         if let Ending::Broken(len) = ending {
-            // The usual case: little text before the broken bytes, and many bytes after them.
+            // The usual case: at most 8 bytes of text before the broken sequence, and more than 8 after it.
             if let Some(text) = self.take_few_text(count, len as u32) {
                 let text = if count == 0 { None } else { Some(text) };
                 return Ok((text, ending));

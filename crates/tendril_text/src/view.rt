@@ -10,8 +10,8 @@ use tendril_block::{Atomicity, MAX_LEN, Refusal};
 use tendril_fmt::fmt::{Bytes, Format, UTF8};
 use tendril_storage::Storage;
 
-// Not `Copy`: a struct with a lifetime parameter whose contracts see another value can't be.
-/// A borrowed text, seen in the format `F`, in which it is valid: what a reference to a text in `F` would be.
+// Not `Copy`: a struct with a lifetime parameter and its own `Model` can't be.
+/// A borrowed text, seen in the format `F`, in which it is valid. It takes the place of a `&Tendril<F, A>`.
 #[derive(Drop)]
 pub struct View<'a, F: Format, A: Atomicity> {
     storage: &'a Storage<A>,
@@ -67,9 +67,9 @@ impl<'a, F: Format, A: Atomicity> View<'a, F, A> {
 
     /// Returns a text of the `count` bytes from `offset` on, if they are there and valid in the view's format.
     ///
-    /// Returns `OutOfBounds` if the text ends before, else `ValidationFailed` if the slice isn't valid, else `Count` if it has
-    /// more than 8 bytes and the block as many references as it can have. Takes constant time and allocates nothing: more than
-    /// 8 bytes are shared.
+    /// Returns `OutOfBounds` if the text is too short, else `ValidationFailed` if the slice isn't valid, else `Count`
+    /// if it has more than 8 bytes and the block as many references as it can have. Takes constant time and allocates
+    /// nothing: more than 8 bytes are shared.
     ///
     /// ```
     /// let text = StrTendril::from_slice(alloc, "é")?;

@@ -1,4 +1,4 @@
-//! Texts that become empty.
+//! Dropping all bytes.
 ghost use Rattle.std.specs.Prelude.{◌≡◌, ◌≤◌, [], true};
 
 use crate::storage::replace::try_replace_in_block;

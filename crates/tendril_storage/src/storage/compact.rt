@@ -1,4 +1,4 @@
-//! Bytes that are moved to the front of their block.
+//! Moving bytes to the start of their block, over those that were popped.
 ghost use Rattle.std.specs.Prelude.{◌≡◌, ◌<◌, ◌≤◌, ◌+◌, ◌++◌, length, take, drop, true, false, IfSome, OnSome, IfNone};
 ghost use Rattle.tendril_block.specs.Tail.{tail_bytes};
 
@@ -6,10 +6,10 @@ use crate::storage::{Held, Storage};
 use tendril_block::{Atomicity, MAX_LEN, Tail};
 
 impl<A: Atomicity> Storage<A> {
-    // Whether far more bytes were popped off the front of the block than there are. To append to such bytes, callers first
-    // try to move them, to the front of their block or into a new one, so that the place of the popped ones is used again;
-    // each of these was popped, so a move is paid for. Two popped bytes cost at most one copied byte, and a push of y onto b
-    // bytes needs capacity for three times b, 64 and y at most.
+    // Whether far more bytes were popped off the start of the block than are left. To append to such bytes, callers
+    // first try to move them, to the start of their block or into a new one, which reuses the space of the popped ones.
+    // A move copies at most half as many bytes as were popped since the last one, so its cost is amortized. A push of y
+    // bytes onto b bytes needs capacity for at most 3 b + 64 + y bytes.
     pub(super) fn is_mostly_dropped(&self) -> bool {
         match &self.held {
             Held::Inline { .. } => false,
@@ -17,8 +17,8 @@ impl<A: Atomicity> Storage<A> {
         }
     }
 
-    // Moves the bytes up to `keep` to the front of their block, and puts a tail after them, if this is the block's only
-    // reference and its capacity is enough; returns whether it did.
+    // Moves the first `keep` bytes to the start of their block, and appends a tail, if this is the block's only
+    // reference, the old and the new place don't overlap, and its capacity is enough; returns whether it did.
     pub(super) fn try_compact(&mut self, keep: usize, tail: Tail) -> bool
         requires within { keep ≤ length self.old.bytes }
         requires fits { keep + length (tail_bytes tail) ≤ MAX_LEN }
@@ -45,8 +45,8 @@ impl<A: Atomicity> Storage<A> {
     }
 }
 
-// Moves the `keep` bytes of a block from `start` on to its front, and puts a tail after them, if this is the only reference
-// and the capacity is enough; returns how many bytes the block has then.
+// Moves the `keep` bytes of a block from `start` on to its start, and appends a tail, under the conditions of
+// `try_compact`; returns the number of bytes that the block has then.
 fn try_compact_block<A: Atomicity>(
     block: &mut A::Block,
     start: usize,

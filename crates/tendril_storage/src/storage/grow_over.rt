@@ -1,12 +1,12 @@
-//! Views that grow over bytes that already follow in their block.
+//! Extending a view over the bytes that follow it in its block.
 ghost use Rattle.std.specs.Prelude.{◌≡◌, ◌≤◌, ◌+◌, ◌++◌, length, take, drop, true, false};
 
 use crate::storage::{Held, Storage, word_of};
 use tendril_block::{Atomicity, MAX_LEN, NODE_CAPACITY};
 
 impl<A: Atomicity> Storage<A> {
-    /// Extends the view over the next bytes of the block, if they equal `more`; returns whether it did. They are compared,
-    /// wherever they are stored. Nothing is copied.
+    /// Extends the view over the next bytes of the block, if they equal `more`; returns whether it did. It compares
+    /// them, wherever `more` is stored, and copies nothing.
     #[tactic(auto, using(crate::proofs::Views::grows))]
     #[inline(always)]
     pub fn try_grow_over(&mut self, more: &[u8]) -> bool
@@ -34,7 +34,7 @@ impl<A: Atomicity> Storage<A> {
     }
 }
 
-// Whether a block has these bytes from a place on.
+// Whether a block has the bytes `more` from `at` on.
 #[inline(always)]
 fn stands_at<A: Atomicity>(block: &A::Block, at: usize, more: &[u8]) -> bool
     requires { at ≤ length (A.bytes_of block.now) }
@@ -45,8 +45,8 @@ fn stands_at<A: Atomicity>(block: &A::Block, at: usize, more: &[u8]) -> bool
     more.len() <= all.len() - at && same_bytes(&all[at..at + more.len()], more)
 }
 
-// Whether two lists of bytes of one length are the same. Short ones are compared inline: std's comparison is a
-// call, which costs as much as all the rest of a push.
+// Whether two slices of the same length are equal. 8 to `NODE_CAPACITY` bytes are compared inline: std's comparison is
+// a call, which costs as much as everything else in a push.
 #[inline(always)]
 fn same_bytes(left: &[u8], right: &[u8]) -> bool
     requires { length left.now ≡ length right.now }
@@ -59,7 +59,8 @@ fn same_bytes(left: &[u8], right: &[u8]) -> bool
     same_words(left, right)
 }
 
-// Five words, which may overlap, cover all bytes. No branch depends on their number.
+// Whether two slices of 8 to 40 bytes are equal. Five words of 8 bytes, which may overlap, cover them; no branch
+// depends on the length.
 #[inline(always)]
 fn same_words(left: &[u8], right: &[u8]) -> bool
     requires long { 8 ≤ length left.now }

@@ -1,4 +1,4 @@
-//! Bytes that get a place of their own: inline, or in a new block.
+//! Constructors: bytes are stored inline, or in a new block.
 ghost use Rattle.std.specs.Prelude.{◌≡◌, ◌<◌, ◌≤◌, ◌+◌, ◌++◌, [], length, IfOk, IfErr};
 ghost use Rattle.tendril_block.specs.Outcomes.{MemoryMay};
 ghost use Rattle.tendril_block.specs.Tail.{tail_bytes};
@@ -10,7 +10,8 @@ use std::cell::Cell;
 use tendril_block::{Atomicity, INLINE_LEN, MAX_LEN, NODE_CAPACITY, Refusal, Tail};
 
 impl<A: Atomicity> Storage<A> {
-    /// No bytes, and a capacity of `capacity` bytes.
+    /// Returns a storage without bytes, with capacity for `capacity` bytes. Allocates only for more than 8, and returns
+    /// `Memory` if that fails.
     pub fn with_capacity(alloc: Global, capacity: u32) -> Result<Self, Refusal>
         ensures bytes { IfOk result (λ s. s.bytes ≡ []) }
         ensures copied { IfOk result (λ s. s.copied ≡ 0) }
@@ -22,7 +23,8 @@ impl<A: Atomicity> Storage<A> {
         Self::copied(alloc, &[], capacity as usize)
     }
 
-    /// The bytes of a vector. Many stay where they are, with their spare capacity; few are copied inline.
+    /// Stores the bytes of a vector. Up to 8 are copied inline; more stay in the vector, with its spare capacity, and
+    /// only the block's node is allocated. Returns `Memory` if that fails.
     pub fn from_vec(alloc: Global, bytes: Vec<u8>) -> Result<Self, Refusal>
         requires fits { length bytes.items ≤ MAX_LEN }
         ensures bytes { IfOk result (λ s. s.bytes ≡ bytes.items) }
@@ -35,7 +37,7 @@ impl<A: Atomicity> Storage<A> {
         Self::in_block(alloc, bytes)
     }
 
-    /// A copy of bytes.
+    /// Stores a copy of the bytes. Allocates only for more than 8, and returns `Memory` if that fails.
     pub fn from_slice(alloc: Global, bytes: &[u8]) -> Result<Self, Refusal>
         requires fits { length bytes.now ≤ MAX_LEN }
         ensures bytes { IfOk result (λ s. s.bytes ≡ bytes.now) }
@@ -48,7 +50,7 @@ impl<A: Atomicity> Storage<A> {
         Self::copied(alloc, bytes, bytes.len())
     }
 
-    /// A copy of few bytes, inline. Allocates nothing.
+    /// Stores a copy of at most 8 bytes inline. Allocates nothing.
     pub fn inline(alloc: Global, bytes: &[u8]) -> Self
         requires fits { length bytes.now ≤ INLINE_LEN }
         ensures bytes { result.bytes ≡ bytes.now }
@@ -63,7 +65,8 @@ impl<A: Atomicity> Storage<A> {
         }
     }
 
-    /// A copy of bytes, with a tail after them.
+    /// Stores a copy of the bytes, with a tail after them. Allocates only for more than 8, and returns `Memory` if that
+    /// fails.
     pub fn with_tail(alloc: Global, left: &[u8], tail: Tail) -> Result<Self, Refusal>
         requires fits { length left.now + length (tail_bytes tail) ≤ MAX_LEN }
         ensures bytes { IfOk result (λ s. s.bytes ≡ left.now ++ tail_bytes tail.entry) }
@@ -87,7 +90,7 @@ impl<A: Atomicity> Storage<A> {
         })
     }
 
-    // The bytes of a vector, in a new block.
+    // Stores the bytes of a vector in a new block.
     fn in_block(alloc: Global, bytes: Vec<u8>) -> Result<Self, Refusal>
         requires fits { length bytes.items ≤ MAX_LEN }
         ensures bytes { IfOk result (λ s. s.bytes ≡ bytes.items) }
@@ -100,7 +103,7 @@ impl<A: Atomicity> Storage<A> {
         }
     }
 
-    /// A copy of bytes in a new block of this capacity.
+    /// Stores a copy of the bytes in a new block of this capacity.
     pub(super) fn copied(alloc: Global, bytes: &[u8], capacity: usize) -> Result<Self, Refusal>
         requires fits { length bytes.now ≤ MAX_LEN }
         ensures bytes { IfOk result (λ s. s.bytes ≡ bytes.now) }
@@ -111,7 +114,7 @@ impl<A: Atomicity> Storage<A> {
         Ok(Self::viewed(alloc, block))
     }
 
-    /// All bytes of a block, of which this is the only reference.
+    /// Returns a view of all bytes of a block, of which this is the only reference.
     pub(crate) fn viewed(alloc: Global, block: A::Block) -> Self
         requires { length (A.bytes_of block) ≤ MAX_LEN }
         ensures bytes { result.bytes ≡ A.bytes_of block }
@@ -130,7 +133,7 @@ impl<A: Atomicity> Storage<A> {
     }
 }
 
-// Bytes and a tail in a new block.
+// Returns a new block with the bytes and a tail.
 fn joined<A: Atomicity>(alloc: Global, left: &[u8], tail: Tail) -> Result<A::Block, Refusal>
     requires fits { length left.now + length (tail_bytes tail) ≤ MAX_LEN }
     ensures bytes { IfOk result (λ b. A.bytes_of b ≡ left.now ++ tail_bytes tail.entry) }
@@ -144,8 +147,8 @@ fn joined<A: Atomicity>(alloc: Global, left: &[u8], tail: Tail) -> Result<A::Blo
     Ok(block)
 }
 
-// The capacity of a new block of `len` bytes. Many bytes that were pushed get as much again, since more may follow; zeros don't:
-// they are a buffer of the size that its user wants.
+// Returns the capacity of a new block of `len` bytes. More than `NODE_CAPACITY` bytes that end with a push get twice
+// their length, since more pushes may follow. Zeros don't: they are a buffer of the size that the caller wants.
 fn new_capacity(len: usize, tail: &Tail) -> usize
     requires { len ≤ MAX_LEN }
 {

@@ -1,4 +1,4 @@
-//! Stored bytes that are written over.
+//! Writing over stored bytes.
 ghost use Rattle.std.specs.Prelude.{◌≡◌, ◌<◌, ◌≤◌, ◌+◌, ℕ, slice_index, length, take, drop, max, IfOk, IfErr, OnOk, OnErr, IfSome, OnSome, IfNone};
 ghost use Rattle.std.specs.Fn.{CalledAtMut};
 ghost use Rattle.tendril_block.specs.Outcomes.{MemoryMay};
@@ -8,8 +8,8 @@ use crate::storage::{Held, Storage, put};
 use tendril_block::{Atomicity, INLINE_LEN, Refusal};
 
 impl<A: Atomicity> Storage<A> {
-    /// Passes the bytes to `edit`: in place, if this is the block's only reference, else in a copy. On an error, `edit` isn't
-    /// called.
+    /// Passes the bytes to `edit`, in place if this is the block's only reference, else in a copy, and returns what
+    /// `edit` returns. Returns `Memory` if the allocation of the copy fails; then `edit` isn't called.
     pub fn write_over<R, E: FnMut(&mut [u8]) -> R>(&mut self, edit: &mut E) -> Result<R, Refusal>
         requires { TakesAtMut E.FnMut edit.old self.old.bytes }
         ensures bytes { IfOk result (λ r. CalledAtMut E.FnMut edit.old self.old.bytes r edit.new self.new.bytes) }
@@ -28,7 +28,8 @@ impl<A: Atomicity> Storage<A> {
         self.try_write_in_copy(edit).ok_or(Refusal::Memory)
     }
 
-    // The same in a new block, if there is memory for one; else doesn't call `edit`.
+    // Passes a copy of the bytes in a new block to `edit`; returns `None` and doesn't call `edit` if the allocation
+    // fails.
     fn try_write_in_copy<R, E: FnMut(&mut [u8]) -> R>(&mut self, edit: &mut E) -> Option<R>
         requires { TakesAtMut E.FnMut edit.old self.old.bytes }
         ensures bytes { IfSome result (λ r. CalledAtMut E.FnMut edit.old self.old.bytes r edit.new self.new.bytes) }
@@ -45,7 +46,8 @@ impl<A: Atomicity> Storage<A> {
         Some(answer)
     }
 
-    // The same in place, if this is the only reference of a block; else doesn't call `edit`.
+    // Passes the bytes to `edit` in their block, if this is its only reference; else returns `None` and doesn't call
+    // `edit`.
     fn try_write_in_place<R, E: FnMut(&mut [u8]) -> R>(&mut self, edit: &mut E) -> Option<R>
         requires { TakesAtMut E.FnMut edit.old self.old.bytes }
         ensures bytes { IfSome result (λ r. CalledAtMut E.FnMut edit.old self.old.bytes r edit.new self.new.bytes) }
@@ -70,7 +72,8 @@ impl<A: Atomicity> Storage<A> {
         }
     }
 
-    // Writes at most 8 bytes in a copy, so that short texts whose block is shared need no case of their own. They are inline then.
+    // Passes a copy of at most 8 bytes to `edit`, and stores it inline. So short texts whose block is shared need no
+    // case of their own.
     fn write_inline<R, E: FnMut(&mut [u8]) -> R>(&mut self, edit: &mut E) -> R
         requires callable { TakesAtMut E.FnMut edit.old self.old.bytes }
         requires short { length self.old.bytes ≤ INLINE_LEN }
@@ -116,7 +119,7 @@ fn try_write_in_block<A: Atomicity, R, E: FnMut(&mut [u8]) -> R>(
     }
 }
 
-// Passes bytes to `edit`. What it leaves there are bytes, by their type.
+// Passes bytes to `edit`. Afterwards each is less than 256, by its type.
 fn lend<R, E: FnMut(&mut [u8]) -> R>(bytes: &mut [u8], edit: &mut E) -> R
     requires { TakesAtMut E.FnMut edit.old bytes.old }
     ensures bytes { CalledAtMut E.FnMut edit.old bytes.old result edit.new bytes.new }

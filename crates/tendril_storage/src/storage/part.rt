@@ -1,4 +1,4 @@
-//! Slices of stored bytes: few are copied inline, many are a view of the same block.
+//! Slices of stored bytes: up to 8 are copied inline, more are a view of the same block.
 ghost use Rattle.std.specs.Prelude.{◌≡◌, ◌<◌, ◌≤◌, ◌+◌, length, take, drop, IfOk, IfErr, IfSome, OnSome};
 ghost use Rattle.tendril_block.specs.Outcomes.{CountMay};
 ghost use Rattle.tendril_storage.specs.Partings.{TakesFew, TakesFront};
@@ -12,7 +12,8 @@ use tendril_block::{Atomicity, INLINE_LEN, MAX_LEN, Refusal};
 impl<A: Atomicity> Storage<A> {
     ghost use Rattle.tendril_storage.specs.Texts.{Parts, Shares};
 
-    /// A clone: inline bytes are copied, others are one more view of the same block.
+    /// Returns a clone: up to 8 bytes are copied inline, more are another view of the same block. Returns `Count` if
+    /// that has as many references as it can have.
     #[inline(always)]
     pub fn whole(&self) -> Result<Self, Refusal>
         ensures bytes { IfOk result (λ s. s.bytes ≡ self.now.bytes) }
@@ -31,7 +32,8 @@ impl<A: Atomicity> Storage<A> {
         }
     }
 
-    /// The `count` bytes from the offset on: copied inline if they are few, else a view of the same block.
+    /// Returns the `count` bytes from the offset on: up to 8 are copied inline, more are another view of the same
+    /// block. Returns `Count` if that has as many references as it can have.
     #[inline(always)]
     pub fn part(&self, offset: u32, count: u32) -> Result<Self, Refusal>
         requires { offset + count ≤ length self.now.bytes }
@@ -57,7 +59,8 @@ impl<A: Atomicity> Storage<A> {
         Self::few(self.alloc, &self.as_slice()[start..end])
     }
 
-    /// As `inline`, but inlined into the caller: constant bytes are one word there, with no call.
+    /// Stores a copy of at most 8 bytes inline, as `inline` does. It is inlined into the caller: constant bytes are one
+    /// word there, with no call.
     #[inline(always)]
     pub fn few(alloc: Global, bytes: &[u8]) -> Self
         requires { length bytes.now ≤ INLINE_LEN }
@@ -105,7 +108,8 @@ impl<A: Atomicity> Storage<A> {
         }
     }
 
-    /// Keeps the `count` bytes from the offset on and drops the others: few are copied inline, many stay in the view.
+    /// Keeps the `count` bytes from the offset on and drops the others: up to 8 are copied inline, more stay in the
+    /// view.
     #[inline(always)]
     pub fn keep_part(&mut self, offset: u32, count: u32)
         requires { offset + count ≤ length self.old.bytes }
@@ -146,12 +150,13 @@ impl<A: Atomicity> Storage<A> {
         }
     }
 
-    /// Takes the first `count` bytes out, and keeps the others. They share a block only if both are many bytes.
+    /// Removes the first `count` bytes and returns them. Both sides share the block only if both have more than 8
+    /// bytes; then it returns `Count` if the block has as many references as it can have.
     pub fn take_front(&mut self, count: u32) -> Result<Self, Refusal>
         requires { count ≤ length self.old.bytes }
         ensures { TakesFront count self.old result self.new }
     {
-        // Most pops of characters and runs end here.
+        // Most pops of characters and runs return here.
         if let Some(front) = self.take_few(count, 0) {
             return Ok(front);
         }
@@ -167,9 +172,9 @@ impl<A: Atomicity> Storage<A> {
         Ok(front)
     }
 
-    /// Takes the first `count` bytes of a view out and drops the next `skip`, if `count` is few and many are left then. Else
-    /// returns `None` and changes nothing. Most pops of characters, of runs and of broken bytes take few bytes off many, so
-    /// this is inlined into the caller.
+    /// Removes the first `count` bytes of a view and returns them, and drops the next `skip`, if `count` is at most 8
+    /// and more than 8 bytes are left then. Else returns `None` and changes nothing. Inlined into the caller, since
+    /// this is the usual case of pops of characters, runs and broken bytes.
     #[inline(always)]
     pub fn take_few(&mut self, count: u32, skip: u32) -> Option<Self>
         requires { count + skip ≤ length self.old.bytes }
@@ -180,7 +185,7 @@ impl<A: Atomicity> Storage<A> {
         Some(front)
     }
 
-    // The first few bytes of a view that has many after them and the skipped ones.
+    // Returns the first `count` bytes of a view, if `count` is at most 8 and more than 8 bytes follow the skipped ones.
     #[tactic(auto, using(crate::proofs::Views::slices))]
     #[inline(always)]
     fn few_before_many(&self, count: u32, skip: u32) -> Option<Self>
@@ -202,8 +207,8 @@ impl<A: Atomicity> Storage<A> {
                 if count as usize > INLINE_LEN || (*len - count - skip) as usize <= INLINE_LEN {
                     return None;
                 }
-                // The view has more than eight bytes, so one load reads the few, whatever their number: a jump by it is
-                // often mispredicted. What the buffer has after them belongs to no text.
+                // The view has more than eight bytes, so one load of eight reads these, whatever their number: a branch
+                // on it would often be mispredicted. The bytes after them in the buffer belong to no text.
                 let start = *offset as usize;
                 let word = word_of(&A::bytes(block)[start..start + INLINE_LEN]);
                 Some(Storage {
@@ -217,7 +222,7 @@ impl<A: Atomicity> Storage<A> {
         }
     }
 
-    // Drops the first bytes of a view, if many are left.
+    // Drops the first `count` bytes of a view, which leaves more than 8.
     #[tactic(auto, using(crate::proofs::Views::slices))]
     #[inline(always)]
     fn skip_in_view(&mut self, count: u32)

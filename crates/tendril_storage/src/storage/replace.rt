@@ -1,4 +1,4 @@
-//! Bytes whose end is replaced: in their block, if this is its only reference, else in a new place.
+//! Replacing the end of stored bytes: in their block, if this is its only reference, else in a copy.
 ghost use Rattle.std.specs.Prelude.{◌≡◌, ◌<◌, ◌≤◌, ◌+◌, ◌++◌, length, take, replicate, max, true, false, IfErr, OnOk, OnErr};
 ghost use Rattle.tendril_block.specs.Outcomes.{MemoryMay};
 ghost use Rattle.tendril_block.specs.Tail.{tail_bytes};
@@ -7,9 +7,9 @@ use crate::storage::{Held, Storage, put_tail};
 use tendril_block::{Atomicity, INLINE_LEN, MAX_LEN, Refusal, Tail};
 
 impl<A: Atomicity> Storage<A> {
-    /// Replaces all bytes from `keep` on by two slices: in place, if this is the block's only reference, else in a copy of
-    /// the bytes that stay. If far more bytes were popped off the front of the block than stay, and it has the capacity, they
-    /// are moved to its front.
+    /// Replaces all bytes from `keep` on by two slices: in place, if this is the block's only reference, else in a copy
+    /// of the bytes that stay. If far more bytes were popped off the start of the block than are left, and it has the
+    /// capacity, the bytes are moved to its start. Returns `Memory` if an allocation fails; then nothing has changed.
     #[inline(always)]
     pub fn replace_end(&mut self, keep: usize, middle: &[u8], more: &[u8]) -> Result<(), Refusal>
         requires within { keep ≤ length self.old.bytes }
@@ -25,8 +25,8 @@ impl<A: Atomicity> Storage<A> {
         self.replace_end_anywhere(keep, middle, more)
     }
 
-    // What `replace_end` does where bytes can't be appended in place. No part of it, so that a push that finds spare capacity
-    // builds no `Tail`.
+    // The slow path of `replace_end`. It is a function of its own, so that a push that finds spare capacity builds no
+    // `Tail`.
     #[inline(never)]
     fn replace_end_anywhere(
         &mut self,
@@ -56,7 +56,7 @@ impl<A: Atomicity> Storage<A> {
         self.replace_end_by(len, Tail::Zeros(count))
     }
 
-    // Replaces all bytes from `keep` on by a tail. Inlined, so that which kind of tail it is is known.
+    // Replaces all bytes from `keep` on by a tail. Inlined, so that the kind of tail is known there.
     #[inline(always)]
     fn replace_end_by(&mut self, keep: usize, tail: Tail) -> Result<(), Refusal>
         requires within { keep ≤ length self.old.bytes }
@@ -74,8 +74,8 @@ impl<A: Atomicity> Storage<A> {
         if replaced {
             return Ok(());
         }
-        // A vector that grows allocates twice its size, popped bytes included; a copy only the text's own length, and nothing for
-        // at most 8 bytes.
+        // A copy comes first: a vector that grows allocates twice its size, popped bytes included; a copy allocates for
+        // the text alone, and nothing for at most 8 bytes.
         match Self::with_tail(self.alloc, &self.as_slice()[..keep], tail) {
             Ok(copy) => {
                 *self = copy;
@@ -86,8 +86,9 @@ impl<A: Atomicity> Storage<A> {
         }
     }
 
-    // Appends bytes to the first `keep`, if these are all bytes of a block of more than `NODE_CAPACITY`, this is its only
-    // reference, and it has the spare capacity; returns whether it did. It is what most pushes onto a long text find.
+    // Appends bytes to the first `keep`, if these are all bytes of a block of more than `NODE_CAPACITY`, this is its
+    // only reference, and it has the spare capacity; returns whether it did. This is the usual case of a push onto a
+    // long text.
     #[tactic(auto, using(crate::proofs::Views::replaces))]
     #[inline(always)]
     fn try_append_in_place(&mut self, keep: usize, more: &[u8]) -> bool
@@ -176,8 +177,8 @@ fn try_append_in_block<A: Atomicity>(block: &mut A::Block, at: usize, more: &[u8
     }
 }
 
-/// Replaces all bytes of a block from `keep` on by a tail, if this is its only reference and there is memory; returns whether
-/// it did.
+/// Replaces all bytes of a block from `keep` on by a tail, if this is its only reference and no allocation fails;
+/// returns whether it did.
 #[inline(always)]
 pub(super) fn try_replace_in_block<A: Atomicity>(
     block: &mut A::Block,

@@ -6,7 +6,8 @@ use crate::storage::{Held, Storage};
 use tendril_block::{Atomicity, INLINE_LEN, MAX_LEN, Refusal, Tail};
 
 impl<A: Atomicity> Storage<A> {
-    /// Makes spare capacity for `more` bytes. Bytes that are marked shared are left as they are.
+    /// Reserves capacity for `more` further bytes. Does nothing if `is_shared`. Returns `Memory` if an allocation
+    /// fails; then nothing has changed.
     pub fn reserve(&mut self, more: usize) -> Result<(), Refusal>
         requires { length self.old.bytes + more ≤ MAX_LEN }
         ensures bytes { self.new.bytes ≡ self.old.bytes }

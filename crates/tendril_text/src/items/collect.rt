@@ -8,7 +8,7 @@ use tendril_fmt::fmt::Format;
 
 /// `extend` appends the items up to the first whose push returns an error. The items before it stay appended.
 ///
-/// Every error is `AllocError`; `extend_chars` and the other `extend_` calls say which it was.
+/// Every error is `AllocError`; `extend_chars` and the other `extend_` calls return the exact one.
 ///
 /// ```
 /// let mut text = StrTendril::from_slice(alloc, "a")?;
@@ -28,7 +28,7 @@ impl<F: Format, A: Atomicity, P: Pushable<F, A>> Extend<P> for Tendril<F, A> {
 
 /// `collect` returns a text of the items, joined in order.
 ///
-/// Every error is `AllocError`; `from_chars` and the other `from_` calls say which it was.
+/// Every error is `AllocError`; `from_chars` and the other `from_` calls return the exact one.
 impl<F: Format, A: Atomicity, P: Pushable<F, A>> FromIterator<P> for Tendril<F, A> {
     ghost use Rattle.std.specs.Prelude.{◌≡◌, []};
     ghost use Rattle.tendril_text.specs.Items.{joined};

@@ -13,7 +13,7 @@ use tendril_fmt::fmt::{CutsAtAscii, Format};
 /// The lines of a text without their line endings, up to the first error.
 #[derive(Drop)]
 pub struct IntoLines<F: Format, A: Atomicity> {
-    /// What is left of the text. A line that is returned as an error is still in it.
+    /// What is left of the text. After an error, the line is still in it.
     pub rest: Tendril<F, A>,
     is_refused: bool,
 }
@@ -43,9 +43,10 @@ impl<F: CutsAtAscii, A: Atomicity> Iterator for IntoLines<F, A> {
 impl<F: CutsAtAscii, A: Atomicity> Tendril<F, A> {
     /// Returns an iterator of the text's lines without their line endings, as `str::lines` does. It owns the text.
     ///
-    /// A line ends with an LF, with a CR before it or not, and the last one may end with the text. Allocates nothing: lines of
-    /// more than 8 bytes share the block. An item is `Count` only where the line and what follows it both have more than 8 bytes
-    /// and the block as many references as it can have; no item follows it, and the text that is left is in `rest`.
+    /// A line ends with an LF or with a CR and an LF; the last one may end with the text. Allocates nothing: lines of
+    /// more than 8 bytes share the block. An item is `Count` only if the line and the text after it both have more than
+    /// 8 bytes and the block as many references as it can have; no item follows it, and the remaining text is in
+    /// `rest`.
     ///
     /// ```
     /// let mut lines = StrTendril::from_slice(alloc, "one\r\ntwo\n")?.into_lines();
@@ -64,7 +65,7 @@ impl<F: CutsAtAscii, A: Atomicity> Tendril<F, A> {
     }
 }
 
-// The first line of some bytes, and the length of its line ending, which is 0 at the end.
+// Returns the length of the first line, and of its line ending: 0 if the line ends with the text.
 fn first_line<F: CutsAtAscii>(bytes: &[u8]) -> Piece
     requires valid { F.valid bytes.now }
     requires short { length bytes.now ≤ MAX_LEN }

@@ -1,4 +1,4 @@
-//! The characters of a set in a text and what is between them, one by one.
+//! The characters of a set in a text and the texts between them, one by one.
 ghost use Rattle.std.specs.Prelude.{◌≡◌, false};
 ghost use Rattle.std.specs.Iterator.{at_most};
 ghost use Rattle.tendril_text.specs.Iterators.{NextPart, parts_left};
@@ -10,10 +10,10 @@ use crate::tendril::Tendril;
 use tendril_block::{Atomicity, Refusal};
 use tendril_fmt::fmt::{CharFormat, CutsAtAscii};
 
-/// The characters of a set and what is between them, in order, up to the first error.
+/// The characters of a set and the texts between them, in order, up to the first error.
 #[derive(Drop)]
 pub struct SplitAtAny<'s, F: CharFormat, A: Atomicity> {
-    /// What is left of the text. A part that is returned as an error is still in it.
+    /// What is left of the text. After an error, the part is still in it.
     pub rest: Tendril<F, A>,
     set: &'s ByteSet,
     is_refused: bool,
@@ -46,9 +46,9 @@ impl<F: CharFormat, A: Atomicity> Tendril<F, A> {
     /// Returns an iterator of the characters of the set and of the texts between them, each as `pop_except_from` returns it. It
     /// owns the text.
     ///
-    /// Allocates nothing: texts of more than 8 bytes share the block. An item is `Count` only where the text and what follows it
-    /// both have more than 8 bytes and the block as many references as it can have; no item follows it, and the text that is
-    /// left is in `rest`.
+    /// Allocates nothing: parts of more than 8 bytes share the block. An item is `Count` only if the part and the text
+    /// after it both have more than 8 bytes and the block as many references as it can have; no item follows it, and
+    /// the remaining text is in `rest`.
     ///
     /// ```
     /// let set = ByteSet::new(b",");

@@ -10,7 +10,7 @@ use tendril_fmt::fmt::CharFormat;
 /// The runs of characters of one class, each with its class, up to the first error.
 #[derive(Drop)]
 pub struct IntoCharRuns<F: CharFormat, A: Atomicity, C: Drop> {
-    /// What is left of the text. A run that is returned as an error is still in it.
+    /// What is left of the text. After an error, the run is still in it.
     pub rest: Tendril<F, A>,
     classify: C,
     is_refused: bool,
@@ -46,9 +46,9 @@ impl<F: CharFormat, A: Atomicity> Tendril<F, A> {
     /// Returns an iterator of the runs of characters of one class, each with its class as `pop_front_char_run` returns it. It
     /// owns the text.
     ///
-    /// Allocates nothing: runs of more than 8 bytes share the block. An item is `Count` only where the run and what follows it
-    /// both have more than 8 bytes and the block as many references as it can have; no item follows it, and the text that is
-    /// left is in `rest`.
+    /// Allocates nothing: runs of more than 8 bytes share the block. An item is `Count` only if the run and the text
+    /// after it both have more than 8 bytes and the block as many references as it can have; no item follows it, and
+    /// the remaining text is in `rest`.
     ///
     /// ```
     /// let mut words = 0;

@@ -14,7 +14,7 @@ use tendril_fmt::fmt::{CutsAtAscii, Format};
 /// The texts between the bytes of a set, in order, up to the first error.
 #[derive(Drop)]
 pub struct IntoSplit<'s, F: Format, A: Atomicity> {
-    /// What is left of the text. A part that is returned as an error is still in it.
+    /// What is left of the text. After an error, the part is still in it.
     pub rest: Tendril<F, A>,
     set: &'s ByteSet,
     is_over: bool,
@@ -49,9 +49,9 @@ impl<'s, F: CutsAtAscii, A: Atomicity> Iterator for IntoSplit<'s, F, A> {
 impl<F: CutsAtAscii, A: Atomicity> Tendril<F, A> {
     /// Returns an iterator of the texts between the bytes of the set, empty ones too, as `str::split` does. It owns the text.
     ///
-    /// Allocates nothing: texts of more than 8 bytes share the block. An item is `Count` only where the text and what follows it
-    /// both have more than 8 bytes and the block as many references as it can have; no item follows it, and the text that is
-    /// left is in `rest`.
+    /// Allocates nothing: parts of more than 8 bytes share the block. An item is `Count` only if the part and the text
+    /// after it both have more than 8 bytes and the block as many references as it can have; no item follows it, and
+    /// the remaining text is in `rest`.
     ///
     /// ```
     /// let set = ByteSet::new(b",");
@@ -73,7 +73,7 @@ impl<F: CutsAtAscii, A: Atomicity> Tendril<F, A> {
     }
 }
 
-// The bytes before the first one that is in the set, which ends them, or all bytes.
+// Returns the length of the prefix before the first byte of the set, and 1 for that byte; or of all bytes, and 0.
 fn first_part<F: CutsAtAscii>(bytes: &[u8], set: &ByteSet) -> Piece
     requires valid { F.valid bytes.now }
     requires short { length bytes.now ≤ MAX_LEN }

@@ -1,4 +1,4 @@
-//! Comparison and hashing of texts, by their bytes alone: `copied` and what is shared don't count.
+//! Comparison and hashing of texts, by their bytes alone: `copied` and sharing don't matter.
 ghost use Rattle.std.specs.Prelude.{◌≡◌, ◌↔◌, IsTrue, Some, refl};
 ghost use Rattle.std.specs.Cmp.{partial_equiv_from_equiv, on_per, on_equiv, on_po, on_total};
 ghost use Rattle.std.specs.Cmp.Lexicographic.{bytes_decides, nat_list_eq_equiv, nat_list_cmp_total, texts_po, texts_ties};
@@ -40,7 +40,7 @@ impl<F: Format, A: Atomicity> Hash for Tendril<F, A> {
     fn hash<H: Hasher>(&self, state: &mut H) {
         let bytes = self.as_byte_slice();
         state.write_usize(bytes.len());
-        // In one write: with a write for each byte the hasher would multiply once for each.
+        // One write for all bytes: a write for each would cost the hasher a multiplication each.
         state.write(bytes);
     }
 }

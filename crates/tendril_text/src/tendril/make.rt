@@ -109,7 +109,8 @@ impl<F: Format, A: Atomicity> Tendril<F, A> {
     }
 }
 
-/// `Tendril::clone` for derives and generic code, which call std's `Clone`. `Count` is std's error, as for an `Rc`.
+/// `clone` is `Tendril::clone` for derives and generic code, which call std's `Clone`. Its error is std's `AllocError`,
+/// as for an `Rc`.
 impl<F: Format, A: Atomicity> Clone for Tendril<F, A> {
     ghost use Rattle.tendril_text.specs.Parts.{IsShareOf};
 

@@ -17,9 +17,9 @@ impl<F: Format, A: Atomicity> Tendril<F, A> {
 
     /// Returns a text of the `count` bytes from `offset` on, if they are there and valid in the format.
     ///
-    /// Returns `OutOfBounds` if the text ends before, else `ValidationFailed` if the slice isn't valid, else `Count` if it has
-    /// more than 8 bytes and the block as many references as it can have. Takes constant time and allocates nothing: more than
-    /// 8 bytes are shared.
+    /// Returns `OutOfBounds` if the text is too short, else `ValidationFailed` if the slice isn't valid, else `Count`
+    /// if it has more than 8 bytes and the block as many references as it can have. Takes constant time and allocates
+    /// nothing: more than 8 bytes are shared.
     ///
     /// ```
     /// let text = StrTendril::from_slice(alloc, "a slice shares the block")?;
@@ -50,7 +50,8 @@ impl<F: Format, A: Atomicity> Tendril<F, A> {
         valid_part(&self.storage, offset, count)
     }
 
-    /// Returns what `subtendril` does: its conditions are proved at each call, so no call is unsafe.
+    /// Returns a text of the `count` bytes from `offset` on, as `subtendril` does. The caller proves its conditions, so
+    /// no call is unsafe.
     pub fn unsafe_subtendril(&self, offset: u32, count: u32) -> Result<Self, SubtendrilError>
         requires within { offset + count ≤ length self.now.bytes }
         requires valid { F.valid (take count (drop offset self.now.bytes)) }
@@ -145,7 +146,7 @@ impl<F: Format, A: Atomicity> Tendril<F, A> {
         self.unsafe_pop_back(count);
     }
 
-    /// Drops the first `count` bytes, as `pop_front` does: its conditions are proved at each call, so no call is unsafe.
+    /// Drops the first `count` bytes, as `pop_front` does. The caller proves its conditions, so no call is unsafe.
     pub fn unsafe_pop_front(&mut self, count: u32)
         requires within { count ≤ length self.old.bytes }
         requires valid { F.valid (drop count self.old.bytes) }
@@ -156,7 +157,7 @@ impl<F: Format, A: Atomicity> Tendril<F, A> {
         self.storage.keep_part(count, rest);
     }
 
-    /// Drops the last `count` bytes, as `pop_back` does: its conditions are proved at each call, so no call is unsafe.
+    /// Drops the last `count` bytes, as `pop_back` does. The caller proves its conditions, so no call is unsafe.
     pub fn unsafe_pop_back(&mut self, count: u32)
         requires within { count ≤ length self.old.bytes }
         requires valid { F.valid (take (length self.old.bytes - count) self.old.bytes) }
@@ -167,11 +168,11 @@ impl<F: Format, A: Atomicity> Tendril<F, A> {
         self.storage.keep_part(0, rest);
     }
 
-    /// Removes the first `count` bytes and returns them, if they are there and both parts are valid in the format.
+    /// Removes the first `count` bytes and returns them, if they are there and both sides are valid in the format.
     ///
-    /// Returns `OutOfBounds` if the text has fewer, else `ValidationFailed` if either part isn't valid, else `Count` if both have
-    /// more than 8 bytes and the block as many references as it can have; then nothing has changed. Takes constant time and
-    /// allocates nothing: parts of more than 8 bytes keep sharing the block.
+    /// Returns `OutOfBounds` if the text has fewer, else `ValidationFailed` if either side isn't valid, else `Count` if
+    /// both have more than 8 bytes and the block as many references as it can have; then nothing has changed. Takes
+    /// constant time and allocates nothing: sides of more than 8 bytes keep sharing the block.
     ///
     /// ```
     /// let mut text = StrTendril::from_slice(alloc, "key=value")?;
@@ -193,7 +194,8 @@ impl<F: Format, A: Atomicity> Tendril<F, A> {
         self.split_to(count)
     }
 
-    /// Removes the first `count` bytes and returns them. The caller proves that they are there and that both parts are valid.
+    /// Removes the first `count` bytes and returns them. The caller proves that they are there and that both sides are
+    /// valid.
     ///
     /// Returns `Count` if both have more than 8 bytes and the block as many references as it can have; then nothing has changed.
     /// Takes constant time and allocates nothing.
@@ -247,8 +249,8 @@ impl<F: Format, A: Atomicity> Tendril<F, A> {
 }
 
 impl<A: Atomicity> Tendril<Bytes, A> {
-    // Removes the first `count` bytes, which are UTF-8, from a long text and returns them, and drops the `skip` bytes after them,
-    // where these are few and many bytes are left. Else it returns `None`, and nothing has changed.
+    // Removes the first `count` bytes, which are UTF-8, and returns them, and drops the `skip` bytes after them, if
+    // `count` is at most 8 and more than 8 bytes are left. Else returns `None`, and nothing has changed.
     #[inline(always)]
     pub(crate) fn take_few_text(&mut self, count: u32, skip: u32) -> Option<Tendril<UTF8, A>>
         requires within { count + skip ≤ length self.old.bytes }
@@ -313,7 +315,7 @@ fn is_slice_valid<F: Format>(bytes: &[u8], offset: usize, count: usize) -> bool
     F::validate_subseq(&bytes[offset..offset + count])
 }
 
-// Whether both parts of valid bytes are valid.
+// Whether both sides of a split of valid bytes are valid.
 fn are_parts_valid<F: Format>(bytes: &[u8], count: usize) -> bool
     requires valid { F.valid bytes.now }
     requires within { count ≤ length bytes.now }

@@ -10,7 +10,7 @@ use tendril_block::{Atomicity, Refusal};
 use tendril_fmt::fmt::{Bytes, UTF8};
 use tendril_storage::Storage;
 
-/// Prints the text as a string prints, with its width and fill. Allocates nothing.
+/// Prints the text as a `str` prints, with width and fill. Allocates nothing.
 ///
 /// ```
 /// let text = StrTendril::from_slice(alloc, "ab")?;
@@ -45,7 +45,7 @@ impl<A: Atomicity> Debug for Tendril<Bytes, A> {
     }
 }
 
-/// Prints the format, where the bytes are stored, and what they are seen as: `Tendril<UTF8>(inline: "foobar")`.
+/// Prints the format, where the bytes are stored, and `text`: `Tendril<UTF8>(inline: "foobar")`.
 pub(crate) fn debug<F: Default + Debug + Drop, A: Atomicity, T: Debug, W: Write>(
     storage: &Storage<A>,
     text: &T,
@@ -61,9 +61,9 @@ pub(crate) fn debug<F: Default + Debug + Drop, A: Atomicity, T: Debug, W: Write>
 impl<A: Atomicity> Tendril<UTF8, A> {
     /// Returns the text that a value prints.
     ///
-    /// Returns `TooLong` if it would have more than 4294967295 bytes, or `Memory` if an allocation fails. Where the value's own
-    /// `Display` fails and no push has, it is the text printed before. `print` returns what `Display` returned too, so its
-    /// contract says exactly when a push fails.
+    /// Returns `TooLong` if it would have more than 4294967295 bytes, or `Memory` if an allocation fails. If the
+    /// value's `Display` fails and no push has, it is the text printed so far. `print` also returns what `Display`
+    /// returned, so that its contract can say what the text is.
     ///
     /// ```
     /// let text = StrTendril::format(alloc, &42)?;
@@ -77,9 +77,9 @@ impl<A: Atomicity> Tendril<UTF8, A> {
 
     /// Returns the text that a value prints, and what the value's `Display` returned.
     ///
-    /// The first is `TooLong` if the text would have more than 4294967295 bytes, or `Memory` if an allocation fails. A value's
-    /// `Display` doesn't see an error of a push: what it prints afterwards is dropped. Where it fails itself, the text is what
-    /// was printed before.
+    /// The first is `TooLong` if the text would have more than 4294967295 bytes, or `Memory` if an allocation fails. A
+    /// value's `Display` doesn't see an error of a push: what it prints afterwards is discarded. If it fails itself,
+    /// the text is what was printed so far.
     ///
     /// ```
     /// let (text, printed) = StrTendril::print(alloc, &42);
@@ -121,7 +121,7 @@ impl<A: Atomicity> Printer<A> {
         (formatter.into_inner(), printed)
     }
 
-    // Pushes a piece, or keeps the error of that push. Nothing changes after a push has failed.
+    // Pushes a piece, or stores the error of that push. Nothing changes after a push has failed.
     fn push(&mut self, piece: &str)
         ensures { TakesPiece self.old.text.bytes self.old.refused piece.now self.new.text.bytes self.new.refused }
     {
@@ -131,8 +131,8 @@ impl<A: Atomicity> Printer<A> {
     }
 }
 
-// Every piece is accepted. So a `Display` that returns Ok has written its whole text, and the contract of all calls says
-// at which of its pieces a push failed.
+// Returns Ok even if a push fails. So a `Display` that returns Ok has printed its whole text, and `refused` has the
+// error of the first push that failed.
 impl<A: Atomicity> fmt::Write for Printer<A> {
     ghost write_str_gives = { λ p piece q. TakesPiece p.text.bytes p.refused piece q.text.bytes q.refused };
 

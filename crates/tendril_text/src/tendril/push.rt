@@ -13,9 +13,9 @@ impl<F: Format, A: Atomicity> Tendril<F, A> {
     /// allocation fails; then nothing has changed. In most formats the join is concatenation. In WTF-8 a trail surrogate that
     /// follows a lead becomes one character with it (the WTF-8 specification, 'Concatenating').
     ///
-    /// A text that is its block's only reference grows in place; where far more bytes were popped off its start than are left, it
-    /// moves to the start of the block. Any other text is copied to a new block first. n pushes of one byte take O(n) time, and
-    /// so do n pushes and pops in turn.
+    /// A text that is its block's only reference grows in place; if far more bytes were popped off its start than are
+    /// left, it moves to the start of the block. Any other text is copied to a new block first. n pushes of one byte
+    /// take O(n) time, and so do n alternating pushes and pops.
     ///
     /// ```
     /// let mut text = StrTendril::from_slice(alloc, "a")?;
@@ -55,10 +55,10 @@ impl<F: Format, A: Atomicity> Tendril<F, A> {
 
     /// Appends another text by the format's join.
     ///
-    /// Returns `TooLong` if the text would have more than 4294967295 bytes, else `Memory` if an allocation fails; then nothing
-    /// has changed. Where both texts are shared and the other's bytes follow this one's in its block, which is found by
-    /// comparing them, this text is extended over them: it allocates and copies nothing. Else it costs what `try_push_bytes`
-    /// costs, without the validation.
+    /// Returns `TooLong` if the text would have more than 4294967295 bytes, else `Memory` if an allocation fails; then
+    /// nothing has changed. If both texts are shared, and the bytes after this one in its block equal the other's, this
+    /// text is extended over them: nothing is allocated or copied. Else it costs what `try_push_bytes` costs, without
+    /// the validation.
     ///
     /// ```
     /// let mut text = StrTendril::from_slice(alloc, "one, ")?;
@@ -76,9 +76,10 @@ impl<F: Format, A: Atomicity> Tendril<F, A> {
         self.push_bytes_without_validating(more)
     }
 
-    // Extends the text over the bytes that follow it in its block, where both texts are long, those bytes equal `more`, and the
-    // join changes neither. The caller calls it only where both texts are shared: a text that isn't is its block's only
-    // reference, so the two can't be neighbours. The comparison reads all bytes, about what a copy costs without its writing.
+    // Extends the text over the bytes that follow it in its block, if both texts have more than 8 bytes, those bytes
+    // equal `more`, and the join is concatenation; returns whether it did. The caller calls it only if both texts are
+    // shared: a text that isn't is its block's only reference, so the two can't be neighbours. The comparison reads all
+    // bytes, which costs about what a copy costs without its writes.
     #[inline(always)]
     fn try_grow_over(&mut self, more: &[u8]) -> bool
         requires { F.valid more.now }
@@ -155,8 +156,8 @@ impl<A: Atomicity> Tendril<Bytes, A> {
 
     /// Appends `count` zeros, to be written over.
     ///
-    /// Returns `TooLong` if the text would have more than 4294967295 bytes, else `Memory` if an allocation fails; then nothing
-    /// has changed. The zeros are written in place.
+    /// Returns `TooLong` if the text would have more than 4294967295 bytes, else `Memory` if an allocation fails; then
+    /// nothing has changed. Grows in place or copies as `try_push_bytes` does.
     ///
     /// ```
     /// let mut text = ByteTendril::from_slice(alloc, b"ab")?;

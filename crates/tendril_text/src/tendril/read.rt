@@ -41,10 +41,12 @@ impl<F: Format, A: Atomicity> Tendril<F, A> {
         self.len32() == 0
     }
 
-    /// Whether the text may share its block: whether it was cloned, split, sliced or popped while long since its bytes were last
-    /// written.
+    /// Whether the text may share its block.
     ///
-    /// A text stored inline is never shared. No contract says when this is true.
+    /// It may after a clone, a slice, a split or a pop that left more than 8 bytes in the block, until its bytes are
+    /// next written.
+    ///
+    /// A text stored inline is never shared. Contracts don't say when this is true.
     ///
     /// ```
     /// let text = StrTendril::from_slice(alloc, "shared by both")?;

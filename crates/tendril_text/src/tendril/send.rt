@@ -70,8 +70,8 @@ impl<F: Format, A: Atomicity> Tendril<F, A> {
 
     /// Turns a text that came from another thread into a `Tendril` over this kind of block.
     ///
-    /// Takes constant time; allocates nothing, and copies at most 8 bytes. A kind of block may return `Memory` and the text; the
-    /// two of this crate never do.
+    /// Takes constant time; allocates nothing, and copies at most 8 bytes. A user's own kind of block may return
+    /// `Memory` and the text; those of `tendril_block` never do.
     ///
     /// ```
     /// let sent = StrTendril::from_slice(alloc, "from another thread")?.into_send()?;

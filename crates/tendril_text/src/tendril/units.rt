@@ -12,9 +12,9 @@ use tendril_fmt::fmt::{WTF8, decode_wtf8, encode_wtf8, wtf8_len};
 use tendril_storage::Storage;
 
 impl<A: Atomicity> Tendril<WTF8, A> {
-    /// Returns the text's UTF-16 units, a lone surrogate as itself (the WTF-8 specification).
+    /// Returns the text's UTF-16 units, lone surrogates included (the WTF-8 specification).
     ///
-    /// Returns `Memory` if the allocation fails: one of two bytes for each byte of the text. Takes one pass.
+    /// Returns `Memory` if the allocation fails, which is two bytes for each byte of the text. Takes one pass.
     ///
     /// ```
     /// let text = StrTendril::from_slice(alloc, "é😀")?.into_superset::<WTF8>();
@@ -29,8 +29,8 @@ impl<A: Atomicity> Tendril<WTF8, A> {
         Ok(decode_wtf8(bytes, units))
     }
 
-    /// Returns the text of UTF-16 units in WTF-8: a lead and the trail right after it are one character of four bytes, a lone
-    /// surrogate is three bytes (the WTF-8 specification).
+    /// Returns the text of UTF-16 units in WTF-8: a lead surrogate and the trail right after it are one character of
+    /// four bytes, a lone surrogate is three bytes (the WTF-8 specification).
     ///
     /// Returns `TooLong` if it would have more than 4294967295 bytes, else `Memory` if an allocation fails. Allocates only for
     /// more than 8 bytes. Takes one pass to count the bytes and one to write them.
@@ -53,8 +53,8 @@ impl<A: Atomicity> Tendril<WTF8, A> {
     }
 }
 
-// Returns the WTF-8 of units, which has `len` bytes. Where that is short it is written to an array and copied from there:
-// it needs no vector.
+// Returns the WTF-8 of units, which has `len` bytes. Up to `NODE_CAPACITY` are written to an array and copied from
+// there, without a vector.
 fn encoded<A: Atomicity>(alloc: Global, units: &[u16], len: usize) -> Result<Storage<A>, Refusal>
     requires len { len ≡ length (wtf8 units.now) }
     requires fits { len ≤ MAX_LEN }

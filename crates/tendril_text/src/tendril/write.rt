@@ -18,9 +18,9 @@ use tendril_fmt::fmt::{Bytes, UTF8};
 impl<A: Atomicity> Tendril<Bytes, A> {
     /// Passes the bytes to `edit`, which may write over them, and returns what it returns.
     ///
-    /// They are written in place if no other text shares them; else they are copied to a new block before `edit` is called.
-    /// Returns `Memory` if that allocation fails, which is possible only for more than 8 bytes; then `edit` isn't called and
-    /// nothing has changed.
+    /// They are written in place if no other text shares their block; else they are copied before `edit` is called.
+    /// Returns `Memory` if the allocation of the copy fails, which is possible only for more than 8 bytes; then `edit`
+    /// isn't called and nothing has changed.
     ///
     /// ```
     /// let mut text = ByteTendril::from_slice(alloc, b"abc")?;
@@ -38,9 +38,9 @@ impl<A: Atomicity> Tendril<Bytes, A> {
         self.bytes_mut_with(&mut edit)
     }
 
-    /// Passes the bytes to a borrowed closure, as `bytes_mut` does, so that contracts see what became of the closure.
+    /// Passes the bytes to a borrowed closure, as `bytes_mut` does, so that contracts see the closure's final state.
     ///
-    /// Returns `Memory` if the bytes are shared and the allocation of their copy fails; then `edit` isn't called.
+    /// Returns `Memory` if the allocation of a copy fails; then `edit` isn't called.
     ///
     /// ```
     /// let mut text = ByteTendril::from_slice(alloc, b"abc")?;
@@ -64,10 +64,11 @@ impl<A: Atomicity> Tendril<Bytes, A> {
 }
 
 impl<A: Atomicity> Tendril<UTF8, A> {
-    /// Makes the capital letters of ASCII small.
+    /// Converts ASCII uppercase letters to lowercase.
     ///
-    /// They are written in place if no other text shares them, else in a copy. Returns `Memory` if that allocation fails; then
-    /// nothing has changed. A text without capital letters stays as it is, and nothing is allocated.
+    /// They are written in place if no other text shares their block, else in a copy. Returns `Memory` if the
+    /// allocation of the copy fails; then nothing has changed. A text without uppercase letters doesn't change, and
+    /// nothing is allocated.
     ///
     /// ```
     /// let mut text = StrTendril::from_slice(alloc, "<DIV É>")?;
@@ -90,7 +91,7 @@ impl<A: Atomicity> Tendril<UTF8, A> {
     }
 }
 
-// Whether one of the bytes is a capital letter of ASCII.
+// Whether one of the bytes is an ASCII uppercase letter.
 fn has_capital(bytes: &[u8]) -> bool
     ensures { IsFalse result ↔ (map to_ascii_lowercase bytes.now ≡ bytes.now) }
 {
@@ -160,11 +161,11 @@ impl<A: Atomicity> io::Write for Tendril<Bytes, A> {
         ensures ok { IsOk result }
         ensures unchanged { self.new ≡ self.old }
     {
-        Ok(()) // nothing is held back
+        Ok(()) // nothing is buffered
     }
 }
 
-// The error of a writer for a push's error.
+// The `io::Error` for a push's error.
 fn write_error(refusal: Refusal) -> io::Error
     ensures too_long { refusal ≡ Refusal.TooLong → error_kind result ≡ ErrorKind.FileTooLarge }
     ensures memory { refusal ≡ Refusal.Memory → error_kind result ≡ ErrorKind.OutOfMemory }
