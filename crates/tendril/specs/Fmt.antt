@@ -1,5 +1,5 @@
--- The words of formats: lists of bytes and their fronts, characters, 16-bit units and WTF-8; and the lemmas that a
--- format of a user's own rests on.
+-- Definitions about formats: lists of bytes and their prefixes, characters, 16-bit units and WTF-8; and the lemmas that
+-- the proofs of a format of your own need.
 pub use Rattle.tendril_fmt.specs.Bytes
 pub use Rattle.tendril_fmt.specs.Chars
 pub use Rattle.tendril_fmt.specs.Classify

@@ -1,4 +1,4 @@
--- The words that a caller's contracts and proofs name. Those of formats are in `Fmt`; lemmas are in `Proofs`.
+-- The definitions that a caller's contracts and proofs cite. Those of formats are in `Fmt`; lemmas are in `Proofs`.
 pub use Rattle.tendril_text.specs.Texts
 pub use Rattle.tendril_text.specs.Edits
 pub use Rattle.tendril_text.specs.Errors

@@ -1,5 +1,5 @@
--- Lemmas that a caller's proofs cite: of prefixes and characters of a format, of lines and splits, of 16-bit units,
--- of what is sent, of a sink after a decoder, and of reading.
+-- Lemmas that a caller's proofs cite: about prefixes and characters of a format, lines and splits, 16-bit units, what
+-- is sent to a sink, a sink after a decoder, and reading.
 pub use Rattle.tendril_fmt.proofs.Parts
 pub use Rattle.tendril_fmt.proofs.Splits
 pub use Rattle.tendril_text.proofs.Splits as TextSplits

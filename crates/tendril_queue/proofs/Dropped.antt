@@ -1,4 +1,4 @@
--- Bytes that are dropped off the front of texts.
+-- Bytes that are removed from the front of texts.
 use Rattle.std.proofs.Common.{
   ◌≡◌,
   ℕ,
@@ -34,7 +34,7 @@ use Rattle.tendril_queue.proofs.Fronts.{leaves_some, left_bytes, left_each}
 use Rattle.tendril_queue.specs.Queues.{queued_bytes, IsQueued, AreQueued, DropsFront}
 use Rattle.tendril_text.specs.Texts.{Text, Keeps}
 
--- what follows a front in UTF-8 is UTF-8 where the front is
+-- what follows a prefix in UTF-8 is UTF-8 if the prefix is
 pub valid_after : (xs ys : List ℕ) → IsUtf8 (xs ++ ys) → IsUtf8 xs → IsUtf8 ys
 valid_after xs ys valid front =
     let first : take (length xs) (xs ++ ys) ≡ xs = take_at xs ys (length xs) refl in
@@ -43,7 +43,7 @@ valid_after xs ys valid front =
     subst IsUtf8 rest (IsUtf8-drop (xs ++ ys) (length xs) valid (IsCharBoundary-from_take (xs ++ ys)
     (length xs) valid within (subst IsUtf8 (sym first) front)))
 
--- left bytes are still to be dropped of ys, of which xs have lost their first texts; count bytes of xs were to be dropped
+-- ys are xs without the first texts; of the `count` bytes to be removed from xs, `left` are still to be removed from ys
 pub record IsDropping (xs ys : List Text) (count left : ℕ) : Type 0 where
   pub each : AreQueued ys
   pub bytes : drop left (queued_bytes ys) ≡ drop count (queued_bytes xs)
@@ -52,7 +52,7 @@ pub record IsDropping (xs ys : List Text) (count left : ℕ) : Type 0 where
   pub gone : List Text
   pub had : xs ≡ gone ++ ys
 
--- a whole text more, of so many bytes
+-- one more text is removed whole
 pub dropping_more : (xs ys : List Text) (t : Text) (count left : ℕ) → 0 < length ys → t ≡ get_or ys 0 t
     → length t.bytes ≤ left → IsDropping xs ys count left → IsDropping xs (drop 1 ys) count (left - length t.bytes)
 dropping_more xs [] t count left some is h d = absurd (omega arith)
@@ -77,7 +77,7 @@ dropping_more xs (y ∷ rest) t count left some is h d =
       had = d.had ∙ sym (append_assoc d.gone (y ∷ []) rest);
     }
 
--- the place where a text is cut
+-- the remainder of a text that is cut is UTF-8
 pub cuts_valid : (xs ys : List Text) (t : Text) (count left : ℕ) → 0 < length ys → t ≡ get_or ys 0 t
     → left < length t.bytes → IsDropping xs ys count left → IsUtf8 (drop left t.bytes)
 cuts_valid xs [] t count left some is h d = absurd (omega arith)
@@ -89,7 +89,7 @@ cuts_valid xs (y ∷ rest) t count left some is h d =
     subst (λ l. IsUtf8 (drop left l)) (sym same) (IsUtf8-drop y.bytes left valid
     (IsCharBoundary-from_take y.bytes left valid short (subst IsUtf8 front d.valid)))
 
--- the first text lost the last of them
+-- the first text lost the last of these bytes
 pub dropped_within : (xs ys : List Text) (t cut : Text) (count left : ℕ) → 0 < length ys → t ≡ get_or ys 0 t
     → left < length t.bytes → IsDropping xs ys count left → cut.bytes ≡ drop left t.bytes → Keeps t cut
     → IsUtf8 cut.bytes

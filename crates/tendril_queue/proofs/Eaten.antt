@@ -1,4 +1,4 @@
--- A pattern that was taken off the front of a queue.
+-- A pattern that was removed from the front of a queue.
 use Rattle.std.proofs.Common.{◌≡◌, ℕ, List, ◌++◌, length, take, drop, sym, ap, ◌∙◌, subst}
 use Rattle.std.specs.Prelude.{IsUtf8}
 use Rattle.std.proofs.lemmas.List.{length-take-le, take-append-drop}

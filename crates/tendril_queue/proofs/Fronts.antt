@@ -1,4 +1,4 @@
--- Texts one after another, and the first of them when bytes are taken off its front.
+-- Texts one after another, and the first of them when bytes are removed from its front.
 use Rattle.std.proofs.Common.{
   ◌≡◌,
   ℕ,
@@ -49,7 +49,7 @@ joined_valid [] h = IsUtf8-nil
 joined_valid (t ∷ xs) h = IsUtf8-append t.bytes (queued_bytes xs) (All-head IsQueued t xs h).valid (joined_valid xs
     (All-tail IsQueued t xs h))
 
--- texts have bytes
+-- if there are texts, there are bytes
 pub joined_some : (xs : List Text) → AreQueued xs → 0 < length xs → 0 < length (queued_bytes xs)
 joined_some [] each h = absurd (omega arith)
 joined_some (x ∷ xs) each h =
@@ -58,7 +58,7 @@ joined_some (x ∷ xs) each h =
     length-append x.bytes (queued_bytes xs) in
     omega arith
 
--- where there are no bytes there are no texts
+-- if there are no bytes, there are no texts
 pub no_texts : (xs : List Text) → AreQueued xs → queued_bytes xs ≡ [] → xs ≡ []
 no_texts [] each h = refl
 no_texts (x ∷ xs) each h =
@@ -146,7 +146,7 @@ module _ (xs ys : List Text) (t left : Text) (l : LeavesOfFirst xs t left ys) wh
       subst AreQueued (sym l.has) (All-append IsQueued (unless_empty left) l.rest (unless_empty_queued left valid)
       (All-tail IsQueued t l.rest all))
 
-  -- nothing was copied for what is left
+  -- nothing was copied for the remainder
   pub loses : Keeps t left → DropsFront xs ys
   loses keeps = record {
     gone = [];
@@ -155,7 +155,7 @@ module _ (xs ys : List Text) (t left : Text) (l : LeavesOfFirst xs t left ys) wh
     has = inr (record { first = t; left = left; leaves = l; keeps = keeps });
   }
 
--- the first text is as it was
+-- the first text is unchanged
 pub unchanged : (xs : List Text) (t s : Text) → t ≡ get_or xs 0 t → s ≡ t → set xs 0 s ≡ xs
 unchanged xs t s is e = ap (set xs 0) (e ∙ is) ∙ set-get_or xs 0 t
 
@@ -164,22 +164,22 @@ pub first_some : (xs : List Text) (t : Text) → 0 < length xs → t ≡ get_or 
 first_some [] t h is each = absurd (omega (arith, h))
 first_some (x ∷ rest) t h is each = subst (λ (y : Text). 0 < length y.bytes) (sym is) (All-head IsQueued x rest each).some
 
--- so a search that finds nothing in it can't be
+-- so a search in it finds something
 pub never : {X : Type 0} (r : Option X) (P Q : Type 0) → IfNone r P → (P → ⊥) → IfNone r Q
 never (Some x) P Q h wrong = tt
 never None P Q h wrong = absurd (wrong h)
 
--- where there are bytes there are texts
+-- if there are bytes, there are texts
 pub some_texts : (xs : List Text) (n : ℕ) → 0 < n → n ≤ length (queued_bytes xs) → 0 < length xs
 some_texts [] n some h = absurd (omega arith)
 some_texts (x ∷ xs) n some h = omega arith
 
--- what was read twice of the first text
+-- two reads of the first text return the same text
 pub same_first : (xs : List Text) (s t : Text) → 0 < length xs → s ≡ get_or xs 0 s → t ≡ get_or xs 0 t → s ≡ t
 same_first [] s t some is is' = absurd (omega arith)
 same_first (x ∷ xs) s t some is is' = is ∙ sym is'
 
--- a text was put at the end or the front, or was not
+-- a text was pushed at the end or at the front, or it wasn't
 
 pub pushed_back : (b : Bool) (xs ys : List Text) (t : Text) → ys ≡ (if b then xs ++ t ∷ [] else xs) → AreQueued xs
     → IsQueued t → AreQueued ys
@@ -191,7 +191,7 @@ pub pushed_front : (b : Bool) (xs ys : List Text) (t : Text) → ys ≡ (if b th
 pushed_front true xs ys t e each one = subst AreQueued (sym e) (All-cons IsQueued t xs one each)
 pushed_front false xs ys t e each one = subst AreQueued (sym e) each
 
--- the first character of the first text is that of all
+-- the first character of the first text is that of all texts
 pub first_char : (xs : List Text) (t : Text) (c : ℕ) → AreQueued xs → 0 < length xs → t ≡ get_or xs 0 t
     → (rest : List ℕ) × (chars t.bytes ≡ c ∷ rest) → (rest : List ℕ) × (chars (queued_bytes xs) ≡ c ∷ rest)
 first_char [] t c each some is h = absurd (omega arith)

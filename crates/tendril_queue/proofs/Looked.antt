@@ -1,4 +1,4 @@
--- A pattern beside the texts that were looked at.
+-- A pattern, and the texts that were compared with it.
 use Rattle.std.proofs.Common.{
   ◌≡◌,
   ℕ,
@@ -44,14 +44,14 @@ use Rattle.tendril_queue.specs.Eating.{AreSame, BeginsWith, Differs, EndsInPatte
 use Rattle.tendril_queue.specs.Queues.{queued_bytes}
 use Rattle.tendril_text.specs.Texts.{Text}
 
--- the first so many texts are the same as a front of the pattern, which goes on
+-- the first `index` texts are the same as the first `at` bytes of the pattern, which is longer
 pub record IsPassed (case : Case) (pattern : List ℕ) (xs : List Text) (index at : ℕ) : Type 0 where
   pub len : at ≡ length (queued_bytes (take index xs))
   pub within : at ≤ length pattern
   pub more : 0 < index → at < length pattern
   pub same : AreSame case (queued_bytes (take index xs)) (take at pattern)
 
--- the bytes of the texts, at one of them
+-- the bytes of the texts, split at one of them
 joined_at : (xs : List Text) (t : Text) (index : ℕ) → index < length xs → t ≡ get_or xs index t
     → queued_bytes xs ≡ queued_bytes (take index xs) ++ (t.bytes ++ queued_bytes (drop (index + 1) xs))
 joined_at xs t index h is =
@@ -59,7 +59,7 @@ joined_at xs t index h is =
     ∙ joined-append (take index xs) (get_or xs index t ∷ drop (index + 1) xs)
     ∙ ap (λ (x : Text). queued_bytes (take index xs) ++ (x.bytes ++ queued_bytes (drop (index + 1) xs))) (sym is)
 
--- so many more bytes are looked at in one of the texts
+-- the next `count` bytes are compared, in one of the texts
 pub record IsNext (case : Case) (pattern : List ℕ) (xs : List Text) (t : Text) (index at count : ℕ) : Type 0 where
   pub there : index < length xs
   pub is : t ≡ get_or xs index t
@@ -67,7 +67,7 @@ pub record IsNext (case : Case) (pattern : List ℕ) (xs : List Text) (t : Text)
   pub in_pattern : at + count ≤ length pattern
 
 module _ (case : Case) (pattern : List ℕ) (xs : List Text) (t : Text) (index at count : ℕ) where
-  -- the fronts of both
+  -- the bytes of the texts that are compared then
   front : IsPassed case pattern xs index at → IsNext case pattern xs t index at count
       → take (at + count) (queued_bytes xs) ≡ queued_bytes (take index xs) ++ take count t.bytes
   front p n =
@@ -107,7 +107,7 @@ module _ (case : Case) (pattern : List ℕ) (xs : List Text) (t : Text) (index a
         (λ l. AreSame case l (take (at + count) pattern)) (front p n) same)));
   }
 
-  -- as far as that both are the same
+  -- if the next bytes are the same, all bytes so far are
   together : IsPassed case pattern xs index at → IsNext case pattern xs t index at count
       → AreSame case (take count t.bytes) (take count (drop at pattern))
       → AreSame case (queued_bytes (take index xs) ++ take count t.bytes) (take (at + count) pattern)
@@ -127,7 +127,7 @@ module _ (case : Case) (pattern : List ℕ) (xs : List Text) (t : Text) (index a
         (take index xs) ++ take count t.bytes) l) whole (together p n same)));
   }
 
-  -- the whole text was looked at
+  -- the whole text was compared
   pub passed_more : IsPassed case pattern xs index at → IsNext case pattern xs t index at count
       → AreSame case (take count t.bytes) (take count (drop at pattern)) → at + count < length pattern
       → count ≡ length t.bytes → IsPassed case pattern xs (index + 1) (at + count)
@@ -145,10 +145,10 @@ module _ (case : Case) (pattern : List ℕ) (xs : List Text) (t : Text) (index a
             (take index xs) ++ l) all ∙ sym next) (together p n same);
       }
 
--- what the code compares: so many bytes of a text, and of the rest of the pattern
+-- what the code compares: `count` bytes of a text and of the remainder of the pattern
 
 module _ (pattern bytes text : List ℕ) (at count : ℕ) (read : bytes ≡ text) where
-  -- the rest of the pattern, as a slice of it
+  -- the remainder of the pattern, as a slice of it
   abbrev rest : List ℕ
   rest = take (length pattern - at) (drop at pattern)
 

@@ -1,4 +1,4 @@
--- Bytes that are taken for the same.
+-- Bytes that are equal, or equal but for the case of ASCII letters.
 use Rattle.std.proofs.Common.{◌≡◌, ℕ, ◌≤◌, List, [], ◌++◌, length, get_or, map, take, drop, refl, sym, ap, ap₂, ◌∙◌, subst, arith}
 use Rattle.std.specs.Prelude.{IsUtf8}
 use Rattle.std.specs.Char.{to_ascii_lowercase}
@@ -19,7 +19,7 @@ same_join AsciiIgnored a b c d p q = map-append to_ascii_lowercase a c ∙ ap₂
 after_same : (a b c d : List ℕ) → length a ≡ length b → a ++ c ≡ b ++ d → c ≡ d
 after_same a b c d len e = sym (drop_at a c (length a) refl) ∙ ap (drop (length a)) e ∙ drop_at b d (length a) (sym len)
 
--- what follows fronts that are as long
+-- what follows prefixes of the same length
 pub same_after : (case : Case) (a b c d : List ℕ) → length a ≡ length b → AreSame case (a ++ c) (b ++ d) → AreSame case c d
 same_after Matters a b c d len e = after_same a b c d len e
 same_after AsciiIgnored a b c d len e =
@@ -27,7 +27,7 @@ same_after AsciiIgnored a b c d len e =
     (length-map a to_ascii_lowercase ∙ len ∙ sym (length-map b to_ascii_lowercase))
     (sym (map-append to_ascii_lowercase a c) ∙ e ∙ map-append to_ascii_lowercase b d)
 
--- a front of UTF-8 that is the same as UTF-8 is UTF-8
+-- a prefix of UTF-8 that is the same as UTF-8 is UTF-8
 pub same_valid : (case : Case) (bytes pattern : List ℕ) → IsUtf8 bytes → IsUtf8 pattern
     → length pattern ≤ length bytes → AreSame case (take (length pattern) bytes) pattern
     → IsUtf8 (take (length pattern) bytes)

@@ -1,3 +1,3 @@
--- The words of the contracts on queues of texts.
+-- The definitions that contracts on queues of texts cite.
 pub mod Queues
 pub mod Eating

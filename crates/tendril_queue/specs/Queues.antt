@@ -1,4 +1,4 @@
--- A queue: texts in UTF-8, one after another, of which none is empty.
+-- A queue: texts in UTF-8, one after another, none of them empty.
 use Rattle.std.specs.Prelude.{
   ◌≡◌,
   ℕ,
@@ -38,7 +38,7 @@ pub record IsQueued (t : Text) : Type 0 where
 abbrev pub AreQueued : List Text → Type 0
 AreQueued texts = All IsQueued texts
 
--- the list of a text of the bytes b, or of none where there are no bytes
+-- the list of the text, or the empty list if there are no bytes
 abbrev pub listed_for : List ℕ → Text → List Text
 listed_for [] t = []
 listed_for (x ∷ xs) t = t ∷ []
@@ -46,27 +46,27 @@ listed_for (x ∷ xs) t = t ∷ []
 abbrev pub unless_empty : Text → List Text
 unless_empty t = listed_for t.bytes t
 
--- in place of the first text of a list there is what is left of it, or no text where that is empty
+-- the first text of a list is replaced by its remainder, or removed if that is empty
 pub record LeavesOfFirst (old : List Text) (first left : Text) (new : List Text) : Type 0 where
   pub rest : List Text
   pub had : old ≡ first ∷ rest
   pub has : new ≡ unless_empty left ++ rest
 
--- the first text of a list has lost bytes at its front
+-- the first text of a list has lost a prefix
 pub record ShortensFirst (old new : List Text) : Type 0 where
   pub first : Text
   pub left : Text
   pub leaves : LeavesOfFirst old first left new
   pub keeps : Keeps first left
 
--- the first texts of a list are gone, and the next one has lost bytes at its front, or none
+-- the first texts of a list are removed, and the next one has lost a prefix, or nothing
 pub record DropsFront (old new : List Text) : Type 0 where
   pub gone : List Text
   pub others : List Text
   pub had : old ≡ gone ++ others
   pub has : (new ≡ others) ⊎ ShortensFirst others new
 
--- what comes next of texts that are cut at the characters of a set was taken out of the first text
+-- the next part of the first text, which is cut at the characters of a set, was removed from it
 module _ {F A B : _} (set : ℕ → Bool) where
   pub record TakesFirst (old : List Text) (taken : SetResult F A B) (new : List Text) : Type 0 where
     pub first : Text

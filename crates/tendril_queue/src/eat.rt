@@ -1,4 +1,4 @@
-//! Patterns that are looked for at the front of a queue, across its texts.
+//! Matching a pattern at the front of a queue, across its texts.
 ghost use Rattle.std.specs.Prelude.{◌≡◌, ◌≤◌, ◌↔◌, length, take, drop, IsTrue, IsUtf8};
 ghost use Rattle.tendril_queue.specs.Eating.{Eats, Meets, AreSameInAnyCase, AreSame};
 ghost use Rattle.tendril_queue.specs.Queues.{queued_bytes, AreQueued, DropsFront};
@@ -8,18 +8,18 @@ use std::collections::VecDeque;
 use tendril_fmt::fmt::UTF8;
 use tendril_text::{Atomicity, Tendril};
 
-/// Whether a pattern was taken off the front of a queue. Where it wasn't, nothing was.
+/// Whether a pattern was removed from the front of a queue. If it wasn't, nothing has changed.
 #[derive(Clone, Copy, Debug, PartialEq, Eq)]
 pub enum EatResult {
-    /// The queue began with the pattern, which was taken off.
+    /// The queue began with the pattern, which was removed.
     Eaten,
-    /// The queue doesn't begin with the pattern, whatever comes in.
+    /// The queue doesn't begin with the pattern, whatever is appended.
     NotThere,
-    /// The queue ends within the pattern, so what comes in decides.
+    /// The queue ends within the pattern, so it depends on what is appended.
     NotKnown,
 }
 
-/// Which bytes are taken for the same.
+/// Whether bytes that differ only in the case of ASCII letters are equal.
 #[derive(Clone, Copy)]
 pub(crate) enum Case {
     Matters,
@@ -27,7 +27,7 @@ pub(crate) enum Case {
 }
 
 impl Case {
-    // Whether two slices have the same bytes.
+    // Whether two slices are equal in this sense.
     fn is_same(self, left: &[u8], right: &[u8]) -> bool
         ensures { IsTrue result ↔ AreSame self left.now right.now }
     {
@@ -39,8 +39,9 @@ impl Case {
 }
 
 impl<A: Atomicity> TextQueue<A> {
-    /// Takes the pattern off the front, where the queue begins with it. Looks across texts, and drops those that it
-    /// empties. An empty pattern is eaten at once. Allocates nothing.
+    /// Removes the pattern from the front if the queue begins with it, and returns whether it did.
+    ///
+    /// Matches across texts, and drops those that it empties. An empty pattern is always eaten. Allocates nothing.
     ///
     /// ```
     /// let mut queue: TextQueue = TextQueue::new(alloc);
@@ -54,7 +55,7 @@ impl<A: Atomicity> TextQueue<A> {
         self.eat_in(Case::Matters, pattern)
     }
 
-    /// Takes the pattern off the front as `eat` does, where ASCII letters are the same in either case.
+    /// Removes the pattern from the front as `eat` does, ignoring the case of ASCII letters.
     ///
     /// ```
     /// let mut queue: TextQueue = TextQueue::new(alloc);
@@ -79,7 +80,7 @@ impl<A: Atomicity> TextQueue<A> {
     }
 }
 
-// Whether texts begin with a pattern.
+// Whether texts begin with a pattern, which isn't removed.
 fn look_for<A: Atomicity>(
     texts: &VecDeque<Tendril<UTF8, A>>,
     case: Case,
@@ -107,7 +108,7 @@ fn look_for<A: Atomicity>(
     }
 }
 
-// Drops so many bytes off the front of texts, and the texts that have none left. They are UTF-8.
+// Removes the first `count` bytes of texts, which are UTF-8, and drops the texts that this empties.
 fn drop_front<A: Atomicity>(texts: &mut VecDeque<Tendril<UTF8, A>>, count: usize)
     requires each { AreQueued texts.old.items }
     requires there { count ≤ length (queued_bytes texts.old.items) }

@@ -1,6 +1,6 @@
 //! Queues of texts.
 //!
-//! A `TextQueue<A>` is seen by contracts as its bytes and the texts that have them. No text in it is empty.
+//! Contracts see a `TextQueue<A>` as its bytes and the texts that have them. No text in it is empty.
 ghost use Rattle.std.specs.Prelude.{◌≡◌, ◌<◌, ◌↔◌, ◌++◌, ◌∷◌, [], ℕ, List, length, chars, encode_utf8, IsTrue};
 ghost use Rattle.std.specs.Prelude.{IfSome, IfNone, IfOk, IfErr, OnOk, OnErr, OnSome};
 ghost use Rattle.tendril_queue.specs.Queues.{unless_empty, DropsFront, TakesFirst, HasLongFirst};
@@ -13,7 +13,7 @@ use tendril_block::Refusal;
 use tendril_fmt::fmt::UTF8;
 use tendril_text::{Atomicity, ByteSet, NonAtomic, SetResult, Tendril};
 
-/// Texts in UTF-8, read from the first on while more come in at the end. html5ever's is `BufferQueue`.
+/// A queue of texts in UTF-8, read from the front while more are pushed at the end, as html5ever's `BufferQueue`.
 ///
 /// ```
 /// let mut input: TextQueue = TextQueue::new(alloc);
@@ -39,7 +39,7 @@ impl<A: Atomicity> Model for TextQueue<A> {
 }
 
 impl<A: Atomicity> TextQueue<A> {
-    /// The empty queue. Allocates nothing.
+    /// Returns the empty queue. Allocates nothing.
     ///
     /// ```
     /// let queue: TextQueue = TextQueue::new(alloc);
@@ -54,7 +54,7 @@ impl<A: Atomicity> TextQueue<A> {
         }
     }
 
-    /// Whether there are no bytes, and so no texts.
+    /// Returns whether there are no bytes, and so no texts.
     ///
     /// ```
     /// let mut queue: TextQueue = TextQueue::new(alloc);
@@ -68,9 +68,9 @@ impl<A: Atomicity> TextQueue<A> {
         self.texts.is_empty()
     }
 
-    /// Puts a text at the end, in amortized constant time. An empty text is dropped.
+    /// Appends a text, in amortized constant time. An empty text is dropped.
     ///
-    /// Returns `Memory` and the text where the list of texts can't grow.
+    /// Returns `Memory` and the text if the list of texts can't grow.
     ///
     /// ```
     /// let mut queue: TextQueue = TextQueue::new(alloc);
@@ -95,7 +95,7 @@ impl<A: Atomicity> TextQueue<A> {
 
     /// Puts a text at the front, to be read next, in amortized constant time. An empty text is dropped.
     ///
-    /// Returns `Memory` and the text where the list of texts can't grow.
+    /// Returns `Memory` and the text if the list of texts can't grow.
     ///
     /// ```
     /// let mut queue: TextQueue = TextQueue::new(alloc);
@@ -118,7 +118,7 @@ impl<A: Atomicity> TextQueue<A> {
         }
     }
 
-    /// Takes the first text out of the queue, or returns `None` where the queue is empty. The text has a byte at least.
+    /// Removes the first text and returns it, or returns `None` if the queue is empty. The text isn't empty.
     ///
     /// ```
     /// let mut queue: TextQueue = TextQueue::new(alloc);
@@ -135,7 +135,7 @@ impl<A: Atomicity> TextQueue<A> {
         self.texts.pop_front()
     }
 
-    /// The next character, or `None` where the queue is empty.
+    /// Returns the next character, which stays in the queue, or `None` if the queue is empty.
     ///
     /// ```
     /// let mut queue: TextQueue = TextQueue::new(alloc);
@@ -150,7 +150,7 @@ impl<A: Atomicity> TextQueue<A> {
         self.texts.front()?.peek_front_char()
     }
 
-    /// Takes the next character off the front, or returns `None` where the queue is empty. Allocates nothing.
+    /// Removes the next character and returns it, or returns `None` if the queue is empty. Allocates nothing.
     ///
     /// ```
     /// let mut queue: TextQueue = TextQueue::new(alloc);
@@ -177,11 +177,11 @@ impl<A: Atomicity> TextQueue<A> {
         Some(character)
     }
 
-    /// Takes what comes before the first character of the set out of the first text, or that character where the text
-    /// begins with it. Returns `None` where the queue is empty.
+    /// Removes and returns the prefix of the first text before its first character of the set, or that character if the
+    /// text begins with it. Returns `None` if the queue is empty.
     ///
-    /// It looks at the first text alone, and shares its bytes, as `Tendril::pop_except_from` does: returns `Count` only
-    /// where a prefix and a rest of more than 8 bytes each would share a block that has as many references as it can have.
+    /// Reads only the first text, and shares its bytes, as `Tendril::pop_except_from` does. Returns `Count` only if the
+    /// prefix and the remainder both have more than 8 bytes, and their block has as many references as it can have.
     ///
     /// ```
     /// let mut queue: TextQueue = TextQueue::new(alloc);

@@ -1,4 +1,4 @@
--- What is due of kept bytes in which a stream ends.
+-- The decoding of kept bytes that a stream ends with.
 use Rattle.std.proofs.Common.{◌≡◌, ℕ, ◌<◌, List, [], ◌∷◌, length, flat_map, refl, sym, ap, ◌∙◌, codes}
 use Rattle.std.proofs.lemmas.List.{nil_from_length}
 use Rattle.tendril_lossy.proofs.Lossy.{lossy-nil}

@@ -1,4 +1,4 @@
--- A sink that is fed what a reader gives.
+-- A sink that is sent what a reader returns.
 use Rattle.std.proofs.Common.{◌≡◌, ℕ, ◌+◌, ◌<◌, ◌≤◌, List, [], ◌∷◌, ◌++◌, length, Option, Some, None, refl, sym, ap, ap₂, subst, ◌∙◌, arith, append_assoc, append-nil, length-append, inl, inr}
 use Rattle.std.proofs.KnownBytes.{Consumes-nil, Consumes-trans}
 use Rattle.std.proofs.lemmas.Fn.{FoldsTo-push}
@@ -21,7 +21,7 @@ given-append xs ys = flat_map-append given_by xs ys
 pub given-push : (xs : List OneRead) (r : OneRead) → given (xs ++ r ∷ []) ≡ given xs ++ given_by r
 given-push xs r = given-append xs (r ∷ []) ∙ ap (λ l. given xs ++ l) (append-nil (given_by r))
 
--- the pieces that a sink accepted have the bytes that were given
+-- the pieces that a sink accepted have the bytes that were read
 pub received : {S : Type 0} (takes : S → Sent → S → Type 0) (these : List OneRead) (old new : S) → Receives takes old these new → (pieces : List Text) × FoldsTo (λ s p t. takes s (Piece p) t) old pieces new × (bytes_of pieces ≡ given these)
 received takes [] old new h = ([], h, refl)
 received takes (Gave b ∷ these) old new h =
@@ -38,7 +38,7 @@ module _ {R : Type 0} (history : R → List OneRead) (remaining : R → Option (
   pub MakesReads-none : (r : R) → MakesReads history remaining r [] r
   MakesReads-none r = (sym (append-nil (history r)), Consumes-nil (remaining r))
 
-  -- further reads
+  -- reads, and further reads
   pub MakesReads-on : (a b c : R) (first second : List OneRead) → MakesReads history remaining a first b → MakesReads history remaining b second c → MakesReads history remaining a (first ++ second) c
   MakesReads-on a b c first second h k = (
     k.0 ∙ ap (λ l. l ++ second) h.0 ∙ append_assoc (history a) first second,
@@ -46,7 +46,7 @@ module _ {R : Type 0} (history : R → List OneRead) (remaining : R → Option (
   )
 
   module _ {S : Type 0} (takes : S → Sent → S → Type 0) (sink : S) (reader : R) where
-    -- so many reads were made, and the sink was sent what they gave
+    -- `made` reads were made, and the sink was sent their bytes
     pub record Fed (made : ℕ) (now : S) (at : R) : Type 0 where
       pub these : List OneRead
       pub receives : Receives takes sink these now
@@ -57,7 +57,7 @@ module _ {R : Type 0} (history : R → List OneRead) (remaining : R → Option (
     pub fed_nothing : Fed 0 sink reader
     fed_nothing = record { these = []; receives = refl; makes = MakesReads-none reader; on = All-nil MayReadOn; count = refl }
 
-    -- one more read, behind which the next may be made
+    -- one more read, after which another may be made
     pub fed_more : (made : ℕ) (now then : S) (at next : R) (one : OneRead) → Fed made now at → MayReadOn one → MakesReads history remaining at (one ∷ []) next → Hears takes now one then → Fed (made + 1) then next
     fed_more made now then at next one f goes read heard = record {
       these = f.these ++ one ∷ [];
@@ -67,11 +67,11 @@ module _ {R : Type 0} (history : R → List OneRead) (remaining : R → Option (
       count = one_more f.these one ∙ ap (λ n. n + 1) f.count;
     }
 
-    -- the last read, of which the sink hears nothing
+    -- one more read stays within the limit
     within_max : (max_reads made : ℕ) (these : List OneRead) (r : OneRead) → length these ≡ made → made + 1 ≤ max_reads → length (these ++ r ∷ []) ≤ max_reads
     within_max max_reads made these r count within = omega (arith, one_more these r, count, within)
 
-    -- all is read
+    -- the reader is at its end
     pub reads_all : {O : Type 0} (finishes : S → O → Type 0) (max_reads made : ℕ) (now then : S) (at next : R) (out : O) → Fed made now at → MakesReads history remaining at (CameToEnd ∷ []) next × IsAtEnd (remaining next) × (then ≡ now) → finishes then out → made + 1 ≤ max_reads
         → (these : List OneRead) × MakesReads history remaining reader these next × IsAtEnd (remaining next) × ReadsAll takes finishes max_reads sink these out
     reads_all finishes max_reads made now then at next out f read done within = (
@@ -91,7 +91,7 @@ module _ {R : Type 0} (history : R → List OneRead) (remaining : R → Option (
       abbrev pub Halted : R → Refusal → Option S → Type 0
       Halted next refusal handed = (these : List OneRead) × MakesReads history remaining reader these next × Halts takes refuses ends max_reads sink these refusal handed
 
-      -- no read is left
+      -- all `max_reads` reads were made
       pub halts_at_max : (made : ℕ) (now : S) (at : R) → Fed made now at → made ≡ max_reads → Halted at TooManyReads (Some now)
       halts_at_max made now at f is = (f.these, f.makes, inl (record { sink = now; receives = f.receives; back = refl; stops = inl (refl, f.on, f.count ∙ is) }))
 
@@ -115,7 +115,7 @@ module _ {R : Type 0} (history : R → List OneRead) (remaining : R → Option (
         }),
       )
 
-      -- a read that stops
+      -- a read that returned an error
       pub halts_once : (made : ℕ) (now then : S) (at next : R) (refusal : Refusal) → Fed made now at → ReadStops history remaining at next now then refuses refusal → made < max_reads → Halted next refusal (Some then)
       halts_once made now then at next refusal f (inl h) left = subst (λ r. Halted next r (Some then)) (sym h.0) (halts_without_memory made now then at next f (h.1, h.2) left)
       halts_once made now then at next refusal f (inr (inl h)) left = subst (λ r. Halted next r (Some then)) (sym h.0) (halts_at_failure made now then at next f (h.1, h.2) (omega (arith, left)))
@@ -138,7 +138,7 @@ module _ {R : Type 0} (history : R → List OneRead) (remaining : R → Option (
             })),
           )
 
-      -- the sink refused its end
+      -- the sink's `finish` returned an error
       pub halts_at_end : (made : ℕ) (now then : S) (at next : R) (refusal : Refusal) → Fed made now at → MakesReads history remaining at (CameToEnd ∷ []) next × IsAtEnd (remaining next) × (then ≡ now) → ends then refusal → made + 1 ≤ max_reads → Halted next refusal None
       halts_at_end made now then at next refusal f read refused within = (
         f.these ++ CameToEnd ∷ [],

@@ -1,4 +1,4 @@
--- What was sent to a sink, one run after another.
+-- Lists of calls that a sink accepted, one after another.
 use Rattle.std.proofs.Common.{◌≡◌, List, [], ◌∷◌, ◌++◌, refl, sym, ap, ap₂, subst, inl, inr, ◌∙◌, append_assoc, append-nil}
 use Rattle.std.specs.List.{FoldsTo}
 use Rattle.tendril_text.specs.Texts.{Text}
@@ -32,11 +32,11 @@ Feeds-append takes piece a b c x y h k = record {
 pub Feeds-same : {S : Type 0} (takes : S → Sent → S → Type 0) (piece : Text) (a b : S) (x y : List Told) → x ≡ y → Feeds takes piece a x b → Feeds takes piece a y b
 Feeds-same takes piece a b x y e h = subst (λ l. Feeds takes piece a l b) e h
 
--- a call is refused where nothing was sent yet
+-- an error before anything was sent
 pub Stops-here : {S : Type 0} (takes : S → Sent → S → Type 0) (refuses : S → Sent → Refusal → S → Type 0) (piece : Text) (a : S) (due : List Told) (e : Refusal) (c : S) → IsStop refuses piece a due e c → Stops takes refuses piece a due e c
 Stops-here takes refuses piece a due e c h = record { sent = []; each = All-nil (IsSentOf piece); mid = a; calls = refl; rest = due; front = refl; stop = h }
 
--- the call that tells the first of what is due is refused
+-- an error for the first call
 pub Stops-call : {S : Type 0} (takes : S → Sent → S → Type 0) (refuses : S → Sent → Refusal → S → Type 0) (piece : Text) (a : S) (call : Sent) (x due : List Told) (e : Refusal) (c : S) → IsSentOf piece call → told_of call ++ x ≡ due → RefusesCall refuses a call e c → Stops takes refuses piece a due e c
 Stops-call takes refuses piece a call x due e c fit front h = Stops-here takes refuses piece a due e c (inr (record { call = call; fit = fit; rest = x; front = front; refused = h }))
 
@@ -51,7 +51,7 @@ Stops-after takes refuses piece a b c x y z e h k is = record {
   stop = k.stop;
 }
 
--- and more is due behind
+-- the same error, if more is to be sent after it
 stop_more : {S : Type 0} (refuses : S → Sent → Refusal → S → Type 0) (piece : Text) (mid : S) (x y : List Told) (e : Refusal) (c : S) → IsStop refuses piece mid x e c → IsStop refuses piece mid (x ++ y) e c
 stop_more refuses piece mid x y e c (inl h) = inl h
 stop_more refuses piece mid x y e c (inr h) = inr (record { call = h.call; fit = h.fit; rest = h.rest ++ y; front = sym (append_assoc (told_of h.call) h.rest y) ∙ ap (λ l. l ++ y) h.front; refused = h.refused })

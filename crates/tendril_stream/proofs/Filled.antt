@@ -1,4 +1,4 @@
--- A text that reads fill from behind.
+-- A text that reads append to.
 use Rattle.std.proofs.Common.{◌≡◌, ℕ, zero, suc, ◌+◌, ◌<◌, ◌≤◌, List, [], ◌∷◌, ◌++◌, slice_index, length, take, drop, Option, Result, Ok, Err, refl, inl, inr, subst, sym, ap, ◌∙◌, arith, append_assoc, append-nil, length-append, length-take, length-drop, take-add, take_all}
 use Rattle.std.proofs.KnownBytes.{Consumes-kept, Consumes-nil}
 use Rattle.std.proofs.lemmas.List.Elements.{All-nil, All-push}
@@ -15,7 +15,7 @@ pub read_some : (n : ℕ) (buffer : List ℕ) → 0 < n → read_of (Ok n) buffe
 read_some zero buffer h = absurd (omega arith)
 read_some (suc n) buffer h = refl
 
--- the front of a list of bytes is one
+-- a prefix of a list of bytes is a list of bytes
 pub front_bytes : (n : ℕ) (xs : List ℕ) → ((i : ℕ) → slice_index xs i < 256) → (i : ℕ) → slice_index (take n xs) i < 256
 front_bytes zero xs h i = omega arith
 front_bytes (suc n) [] h i = omega arith
@@ -23,7 +23,7 @@ front_bytes (suc n) (x ∷ xs) h zero = h zero
 front_bytes (suc n) (x ∷ xs) h (suc i) = front_bytes n xs (λ j. h (suc j)) i
 
 module _ {R : Type 0} (history : R → List OneRead) (remaining : R → Option (List ℕ)) (reader : R) (old : List ℕ) where
-  -- so many reads were made, and the first so many bytes are the old ones and what they gave
+  -- `made` reads were made, and the first `filled` bytes are the old ones and those that were read
   pub record Filled (made filled : ℕ) (bytes : List ℕ) (at : R) : Type 0 where
     pub these : List OneRead
     pub makes : MakesReads history remaining reader these at
@@ -34,7 +34,7 @@ module _ {R : Type 0} (history : R → List OneRead) (remaining : R → Option (
   pub filled_nothing : (filled : ℕ) → filled ≡ length old → Filled 0 filled old reader
   filled_nothing filled is = record { these = []; makes = MakesReads-none history remaining reader; on = All-nil MayReadOn; count = refl; front = take_all filled old (omega (arith, is)) ∙ sym (append-nil old) }
 
-  -- the bytes behind are others
+  -- only bytes after the first `filled` have changed
   pub filled_front : (made filled : ℕ) (bytes new : List ℕ) (at : R) → Filled made filled bytes at → take filled new ≡ take filled bytes → Filled made filled new at
   filled_front made filled bytes new at f same = record { these = f.these; makes = f.makes; on = f.on; count = f.count; front = same ∙ f.front }
 
@@ -61,14 +61,14 @@ module _ {R : Type 0} (history : R → List OneRead) (remaining : R → Option (
         front = take-add filled n new ∙ ap (λ l. l ++ part) (same ∙ f.front) ∙ append_assoc old (given f.these) part ∙ ap (λ l. old ++ l) (sym (given-push f.these (Gave part)));
       }
 
-  -- a last read that gave nothing
+  -- a last read that returned no bytes
   last_front : (filled : ℕ) (bytes new : List ℕ) (these : List OneRead) (r : OneRead) → given_by r ≡ [] → take filled bytes ≡ old ++ given these → take filled new ≡ take filled bytes → take filled new ≡ old ++ given (these ++ r ∷ [])
   last_front filled bytes new these r none front same = same ∙ front ∙ ap (λ l. old ++ l) (sym (given-push these r ∙ ap (λ l. given these ++ l) none ∙ append-nil (given these)))
 
   within_max : (max_reads made : ℕ) (these : List OneRead) (r : OneRead) → length these ≡ made → made + 1 ≤ max_reads → length (these ++ r ∷ []) ≤ max_reads
   within_max max_reads made these r count within = omega (arith, one_more made these r count, within)
 
-  -- all is read
+  -- the reader is at its end
   pub filled_end : {T : Type 0} (count : T) (max_reads made filled : ℕ) (bytes new : List ℕ) (at next : R) → Filled made filled bytes at → take filled new ≡ take filled bytes → MakesReads history remaining at (CameToEnd ∷ []) next → made + 1 ≤ max_reads → filled < 4294967295
       → (these : List OneRead) × MakesReads history remaining reader these next × (take filled new ≡ old ++ given these) × Fills {T = T} max_reads these (Ok count) filled
   filled_end count max_reads made filled bytes new at next f same read within short = (
@@ -88,7 +88,7 @@ module _ {R : Type 0} (history : R → List OneRead) (remaining : R → Option (
     inr (inr (inl (refl, record { before = f.these; on = f.on; is = refl }, within_max max_reads made f.these HasFailed f.count within)), short),
   )
 
--- the read that came to this answer
+-- the read that returned this answer
 module _ {R : Type 0} (history : R → List OneRead) (remaining : R → Option (List ℕ)) (at next : R) (answer : Result ℕ ReadFault) (buffer : List ℕ) (read : history next ≡ history at ++ read_of answer buffer ∷ []) (consumed : ReadConsumes (remaining at) (remaining next) answer buffer) where
   pub read_ended : answer ≡ Ok 0 → MakesReads history remaining at (CameToEnd ∷ []) next
   read_ended is = (subst (λ a. history next ≡ history at ++ read_of a buffer ∷ []) is read, (subst (λ a. ReadConsumes (remaining at) (remaining next) a buffer) is consumed).0)

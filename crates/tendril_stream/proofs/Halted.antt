@@ -1,4 +1,4 @@
--- What a sink has where reading into a decoder stopped, of all that is due of what was read.
+-- What a sink was sent when reading into a decoder stopped: a prefix of the decoding of what was read.
 use Rattle.std.proofs.Common.{◌≡◌, ◌⊎◌, ℕ, Bool, true, false, List, [], ◌++◌, Option, sym, ap, subst, ◌∙◌, append_assoc, ⊎_elim, inl, inr}
 use Rattle.std.specs.Prelude.{IfSome}
 use Rattle.tendril_block.specs.declared.refusal.Refusal.{Refusal}
@@ -15,8 +15,8 @@ use Rattle.tendril_stream.specs.Reads.{OneRead, Gave, given}
 use Rattle.tendril_stream.specs.Sinks.{Sent, IsSent, IsStop, Stops, told, told_of}
 use Rattle.tendril_text.specs.Texts.{Text}
 
--- `after` is what a sink has of what it was told, `front` what it has of more than it was told: `after` is a `front`, also of more,
--- and so is what a refused call leaves.
+-- `after a told`: the sink a was sent the list `told`. `front a told`: a was sent a prefix of it. The second follows
+-- from the first, holds of longer lists too, and holds after a call for which the sink returned an error.
 module _ {S D : Type 0} (takes : S → Sent → S → Type 0) (refuses : S → Sent → Refusal → S → Type 0) (after front : S → List Told → Type 0) (goes : FollowsCalls takes after)
     (begins : (told more : List Told) (a : S) → after a told → front a (told ++ more))
     (grows : (told more : List Told) (a : S) → front a told → front a (told ++ more))

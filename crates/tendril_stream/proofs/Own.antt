@@ -1,4 +1,4 @@
--- A refusal of reading itself is none of a decoder.
+-- No error that reading itself returns is one that a decoder returns.
 use Rattle.std.proofs.Common.{◌≡◌, ℕ, ◌⊎◌, Bool, true, false, List, [], ◌∷◌, sym, ap, ◌∙◌, ⊎_elim, true≢false, inl, inr, refl}
 use Rattle.std.specs.List.{FoldsTo}
 use Rattle.tendril_text.specs.Texts.{Text}

@@ -1,4 +1,4 @@
--- How a decoder stops that hadn't failed.
+-- Errors of a decoder that hadn't failed.
 use Rattle.std.proofs.Common.{◌≡◌, ℕ, Bool, true, false, List, [], ◌++◌, ◌⊎◌, ⊎_elim, inl, inr, Option, sym, subst, ◌∙◌, true≢false}
 use Rattle.tendril_text.specs.Texts.{Text}
 use Rattle.tendril_block.specs.declared.refusal.Refusal.{Refusal}
@@ -32,7 +32,7 @@ module _ {S D : Type 0} (takes : S → Sent → S → Type 0) (inner : D → S) 
       )
 
 module _ {S D : Type 0} (takes : S → Sent → S → Type 0) (refuses : S → Sent → Refusal → S → Type 0) (inner : D → S) (held : D → List ℕ) (failed : D → Bool) where
-  -- at a piece, where the cut end of b is kept
+  -- an error at a piece that follows the bytes b
   pub stops_at_piece : (d : D) (x : Text) (r : Refusal) (n : D) (b : List ℕ) → failed d ≡ false → held d ≡ kept b
       → (failed n ≡ true) × (((failed d ≡ true) × (r ≡ Failed) × (inner n ≡ inner d)) ⊎ ((failed d ≡ false) × DecodingStops takes refuses (inner d) (held d) (Piece x) r (inner n)))
       → Stops takes refuses x (inner d) (due_open (kept b ++ x.bytes)) r (inner n)
@@ -40,7 +40,7 @@ module _ {S D : Type 0} (takes : S → Sent → S → Type 0) (refuses : S → S
       (λ k. absurd (true≢false (sym k.0 ∙ e)))
       (λ k. subst (λ l. Stops takes refuses x (inner d) (due_open (l ++ x.bytes)) r (inner n)) keeps k.1) h.1
 
-  -- at the end
+  -- an error at the end
   pub stops_at_end : (ends : S → Refusal → Type 0) (d : D) (r : Refusal) (b : List ℕ) → failed d ≡ false → held d ≡ kept b
       → ((failed d ≡ true) × (r ≡ Failed)) ⊎ ((failed d ≡ false) × EndStops takes refuses ends (inner d) (held d) r)
       → EndStops takes refuses ends (inner d) (kept b) r
@@ -48,7 +48,7 @@ module _ {S D : Type 0} (takes : S → Sent → S → Type 0) (refuses : S → S
       (λ k. absurd (true≢false (sym k.0 ∙ e)))
       (λ k. subst (λ l. EndStops takes refuses ends (inner d) l r) keeps k.1) h
 
-  -- while it was read into, as a new one
+  -- an error while a new decoder was read into
   pub stream_stops : (ends : S → Refusal → Type 0) (after : S → List Told → Type 0) → FollowsCalls takes after → (sink : S) (d : D) (max_reads : ℕ) (these : List OneRead) (r : Refusal) (handed : Option D)
       → inner d ≡ sink → held d ≡ [] → failed d ≡ false → after sink []
       → Halts (λ d e n. (failed d ≡ false) × (failed n ≡ false) × Decodes takes (inner d) (held d) e (inner n) (held n))

@@ -1,4 +1,4 @@
--- One text out of a piece, and what breaks it.
+-- One iteration over a piece: a text is popped, and what breaks it.
 use Rattle.std.proofs.Common.{◌≡◌, ℕ, ◌≤◌, ◌<◌, List, [], ◌∷◌, ◌++◌, length, take, drop, map, flat_map, ◌⊎◌, Option, Some, None, refl, sym, ap, ◌+◌, ◌∙◌, subst, arith, append_assoc, append-nil, length-drop, length-take, inl, inr, codes}
 use Rattle.std.specs.List.{FoldsTo}
 use Rattle.std.specs.Str.{chars}
@@ -21,11 +21,11 @@ use Rattle.tendril_lossy.specs.declared.search.Ending.TheVariants.{Whole, Broken
 use Rattle.tendril_stream.proofs.Feeds.{Feeds-append, Feeds-none, Feeds-one, Feeds-same, Stops-after, Stops-call, Stops-more}
 use Rattle.tendril_stream.specs.Sinks.{Sent, Piece, Fault, Feeds, IsStop, RefusesCall, Stops, IsSentOf}
 
--- what is left of a piece isn't longer
+-- the remainder of a piece isn't longer
 rest_shorter : (input rest : List ℕ) (n : ℕ) → rest ≡ drop n input → length rest ≤ length input
 rest_shorter input rest n is = omega (arith, ap length is, length-drop n input)
 
--- what is told of an ending, before the rest
+-- what is sent after the text, before the remainder is decoded
 abbrev pub told_by : Ending → List Told
 told_by Whole = []
 told_by (Broken k) = replaced (codes "invalid byte sequence")
@@ -34,7 +34,7 @@ told_by Open = []
 abbrev pub text_told : Option Text → List Told
 text_told text = map Char (chars (bytes_of text))
 
--- what is due of a piece, and kept of it
+-- the decoding of a piece, and the bytes that are kept of it
 pub record Popped (b : List ℕ) (text : Option Text) (ending : Ending) (c : List ℕ) : Type 0 where
   pub due : due_open b ≡ text_told text ++ (told_by ending ++ due_open c)
   pub keeps : kept b ≡ kept c
@@ -55,7 +55,7 @@ popped b c text Open h =
     let items : lossy b.bytes ≡ map Keep cs ++ lossy c.bytes = h.items ∙ ap (λ l. map Keep cs ++ l) (h.leaves.0 ∙ sym cut) in
     record { due = ap (flat_map closed_of) items ∙ closed-keeps cs (lossy c.bytes); keeps = ap cut_bytes items ∙ cut-keeps cs (lossy c.bytes) }
 
--- what is left where nothing breaks it is kept, and tells nothing
+-- if no bytes are broken, the remainder is kept, and nothing is sent of it
 
 pub whole_left : (b c : Text) (text : Option Text) → PopsText b text Whole c → IsOpen c.bytes × (due_open c.bytes ≡ []) × (kept c.bytes ≡ c.bytes)
 whole_left b c text h =
@@ -74,7 +74,7 @@ module _ {S : Type 0} (takes : S → Sent → S → Type 0) where
   sends piece b s u (Some t) rest less h calls =
       Feeds-one takes piece s (Piece t) u (handed-through piece b rest less t h) (subst (λ v. takes s (Piece t) v) calls.2 calls.1)
 
-  -- what was told so far of a piece, and what is left of it
+  -- what was sent so far of a piece, and its remainder
   pub record SoFar (piece : Text) (old : S) (rest : Text) (now : S) : Type 0 where
     pub told : List Told
     pub feeds : Feeds takes piece old told now
@@ -86,7 +86,7 @@ module _ {S : Type 0} (takes : S → Sent → S → Type 0) where
   pub start : (piece : Text) (old : S) → SoFar piece old piece old
   start piece old = record { told = []; feeds = Feeds-none takes piece old; due = refl; keeps = refl; part = inl refl; end = (0, refl) }
 
-  -- one more text, and then one more replacement where it is broken
+  -- one more text, and one more replacement if broken bytes follow it
   pub more : (piece b c : Text) (old s u v : S) (text : Option Text) (ending : Ending) → SoFar piece old b s → PopsText b text ending c → FoldsTo (λ s t u. takes s (Piece t) u) s (listed text) u → Feeds takes piece u (told_by ending) v → SoFar piece old c v
   more piece b c old s u v text ending so h calls ends =
       let p = popped b c text ending h in
@@ -102,7 +102,7 @@ module _ {S : Type 0} (takes : S → Sent → S → Type 0) where
         end = (so.end.0 + taken, h.rest ∙ ap (drop taken) so.end.1 ∙ drop-drop taken so.end.0 piece.bytes);
       }
 
--- what is left where nothing breaks it
+-- the remainder if no bytes are broken
 pub unbroken : (b c : Text) (text : Option Text) (ending : Ending) → PopsText b text ending c → (ending ≡ Whole) ⊎ (ending ≡ Open) → IsOpen c.bytes × (due_open c.bytes ≡ []) × (kept c.bytes ≡ c.bytes) × (told_by ending ≡ [])
 unbroken b c text ending h (inl is) = let l = whole_left b c text (subst (λ e. PopsText b text e c) is h) in (l.0, l.1, l.2, ap told_by is)
 unbroken b c text ending h (inr is) = let l = open_left b c text (subst (λ e. PopsText b text e c) is h) in (l.0, l.1, l.2, ap told_by is)
@@ -117,7 +117,7 @@ module _ {S : Type 0} (takes : S → Sent → S → Type 0) (refuses : S → Sen
         sym l.2 ∙ sym all.keeps,
       )
 
-  -- the replacement of what breaks it is refused
+  -- the sink returned an error for the replacement of broken bytes
   pub stopped : (piece b c : Text) (old s u v : S) (text : Option Text) (k : ℕ) (r : Refusal) → SoFar takes piece old b s → PopsText b text (Broken k) c → FoldsTo (λ s t u. takes s (Piece t) u) s (listed text) u → Stops takes refuses piece u (replaced (codes "invalid byte sequence")) r v → Stops takes refuses piece old (due_open piece.bytes) r v
   stopped piece b c old s u v text k r so h calls stop =
       let p = popped b c text (Broken k) h in
@@ -128,7 +128,7 @@ module _ {S : Type 0} (takes : S → Sent → S → Type 0) (refuses : S → Sen
       (sym p.due))
       (sym so.due)
 
-  -- the text is refused
+  -- the sink returned an error for the text
   pub unsent : (piece b c : Text) (old s u : S) (text : Option Text) (ending : Ending) (r : Refusal) → SoFar takes piece old b s → PopsText b text ending c → IsSomeAnd text (λ t. RefusesCall refuses s (Piece t) r u) → Stops takes refuses piece old (due_open piece.bytes) r u
   unsent piece b c old s u None ending r so h refused = absurd refused
   unsent piece b c old s u (Some t) ending r so h refused =
@@ -138,7 +138,7 @@ module _ {S : Type 0} (takes : S → Sent → S → Type 0) (refuses : S → Sen
       (Stops-call takes refuses piece s (Piece t) (told_by ending ++ due_open c.bytes) (due_open b.bytes) r u fit (sym p.due) refused)
       (sym so.due)
 
-  -- no further text could be taken out
+  -- the next text couldn't be popped
   pub unpopped : (piece b : Text) (old s : S) (r : Refusal) → SoFar takes piece old b s → LongTextMay b.bytes r → Stops takes refuses piece old (due_open piece.bytes) r s
   unpopped piece b old s r so may = record {
     sent = so.feeds.sent;
@@ -150,7 +150,7 @@ module _ {S : Type 0} (takes : S → Sent → S → Type 0) (refuses : S → Sen
     stop = inl (long-text piece.bytes b.bytes so.end.0 r so.end.1 may, refl);
   }
 
--- what is sent of a part is sent of the piece
+-- what is sent of a remainder of a piece is sent of the piece
 
 sent_through : (piece rest : Text) → IsRest piece rest → length rest.bytes ≤ length piece.bytes → (e : Sent) → IsSentOf rest e → IsSentOf piece e
 sent_through piece rest part less (Piece t) h = handed-through piece rest part less t h
@@ -170,7 +170,7 @@ module _ {S : Type 0} (takes : S → Sent → S → Type 0) (refuses : S → Sen
   pub Stops-through : (a b : S) (told : List Told) (r : Refusal) → Stops takes refuses rest a told r b → Stops takes refuses piece a told r b
   Stops-through a b told r h = record { sent = h.sent; each = All-weaker (IsSentOf rest) (IsSentOf piece) (sent_through piece rest part less) h.sent h.each; mid = h.mid; calls = h.calls; rest = h.rest; front = h.front; stop = stop_through h.mid b h.rest r h.stop }
 
--- a text of few bytes, which kept ones and a piece begin with
+-- the first character of the kept bytes and a piece, as a text
 pub short_handed : (piece t : Text) (k input rest : List ℕ) → 0 < length k → CompletesTo k input t.bytes rest → t.copied ≡ length t.bytes → IsHandedOn piece t
 short_handed piece t k input rest some h copied =
     let len : length t.bytes ≤ 4 = omega (arith, ap length h.longest.front, length-take (length t.bytes) (take 4 (k ++ input)), length-take 4 (k ++ input)) in
@@ -181,6 +181,6 @@ short_handed piece t k input rest some h copied =
       part = (λ long. absurd (omega (arith, len, long)), λ _. omega (arith, len, copied));
     }
 
--- what a pop left
+-- the remainder that a pop leaves
 pub rest_kept : (piece rest : Text) → Keeps piece rest → IsRest piece rest
 rest_kept piece rest k = inr (λ long. inr (k.0 long), k.1)

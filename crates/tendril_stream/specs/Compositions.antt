@@ -1,4 +1,4 @@
--- A decoder over a sink whose state is known by what it was told.
+-- A decoder over a sink with a property that follows from what it was sent.
 use Rattle.std.specs.Prelude.{
   ◌≡◌,
   ◌≤◌,
@@ -25,18 +25,20 @@ use Rattle.tendril_stream.specs.Decoders.{Decodes, Ends, EndStops}
 use Rattle.tendril_stream.specs.Reads.{OneRead, Gave, CameToEnd, MayReadOn, StopsWith, given}
 use Rattle.tendril_stream.specs.Sinks.{Sent, Piece, IsSent, Stops, told_of}
 
--- if `after a told` and the sink accepts e, which a decoder sends, then `after b (told ++ told_of e)`
+-- if `after a told` holds, and accepting e turns the sink a into b, then `after b (told ++ told_of e)` holds; e is one
+-- that a decoder sends
 abbrev pub FollowsCalls : {S : Type 0} → (S → Sent → S → Type 0) → (S → List Told → Type 0) → Type 0
 FollowsCalls {S} takes after =
     (told : List Told) (a : S) (e : Sent) (b : S) → IsSent e → after a told → takes a e b → after b (told ++ told_of e)
 
--- a decoder that keeps k, over a sink that was told what is due of b, where k is the cut end of b
+-- a decoder has decoded the bytes b: it keeps k, the bytes of an unfinished last character, and its sink was sent the
+-- decoding of those before
 pub record StandsAt {S : Type 0} (after : S → List Told → Type 0) (sink : S) (k b : List ℕ) : Type 0 where
   pub tells : after sink (due_open b)
   pub keeps : k ≡ kept b
 
--- However a stream is cut: a new decoder stands at nothing, each piece leads on from where it stands, and at the end
--- the sink was told what is due of all.
+-- Decoding doesn't depend on where a stream is cut: a new decoder has decoded no bytes, each piece adds its bytes to
+-- those that were decoded, and at the end the sink was sent the decoding of all.
 pub record Composes {S O : Type 0} (takes : S → Sent → S → Type 0) (finishes : S → O → Type 0)
     (after : S → List Told → Type 0) : Type 0 where
   pub begins : (sink : S) → after sink [] → StandsAt after sink [] []
@@ -45,9 +47,8 @@ pub record Composes {S O : Type 0} (takes : S → Sent → S → Type 0) (finish
   pub ends : (sink : S) (k b : List ℕ) (out : O) → StandsAt after sink k b → Ends takes finishes sink k out
       → (last : S) × after last (due b) × finishes last out
 
--- The pieces of an iterator were decoded from the stream's beginning, up to the one of which the rest was refused, or
--- up to the end, which was. By then the sink was told what is due of those before, and of that one or of the end a
--- beginning.
+-- Decoding the pieces of an iterator stopped with an error, at one piece or at the end. The sink was sent the decoding
+-- of the pieces before, and a prefix of what that piece or the end adds.
 pub record PiecesStop {I It S : Type 0} (becomes : I → It → Type 0) (steps : It → Option Text → It → Type 0)
     (takes : S → Sent → S → Type 0) (refuses : S → Sent → Refusal → S → Type 0) (ends : S → Refusal → Type 0)
     (after : S → List Told → Type 0) (pieces : I) (refusal : Refusal) : Type 0 where
@@ -62,8 +63,8 @@ pub record PiecesStop {I It S : Type 0} (becomes : I → It → Type 0) (steps :
       ⊎ (YieldsThen steps iterator read None last
       × EndStops takes refuses ends sink (kept (flat_map (λ p. p.bytes) read)) refusal)
 
--- A new decoder refused what the last read of a stream gave, and comes back failed. By then its sink was told what is
--- due of what was read before, and of that piece a beginning.
+-- A new decoder returned an error for the piece of the last read, and is returned failed. Its sink was sent the
+-- decoding of what was read before, and a prefix of what that piece adds.
 pub record StreamStopsAtPiece {S D : Type 0} (takes : S → Sent → S → Type 0) (refuses : S → Sent → Refusal → S → Type 0)
     (after : S → List Told → Type 0) (inner : D → S) (failed : D → Bool) (max_reads : ℕ) (these : List OneRead)
     (refusal : Refusal) (handed : Option D) : Type 0 where
@@ -79,7 +80,8 @@ pub record StreamStopsAtPiece {S D : Type 0} (takes : S → Sent → S → Type 
   pub on : All MayReadOn these
   pub within : length these ≤ max_reads
 
--- It refused the end, and is gone. By then its sink was told what is due of what was read, and of the end a beginning.
+-- A new decoder returned an error at the end, and was dropped. Its sink was sent the decoding of what was read, and a
+-- prefix of what the end adds.
 pub record StreamStopsAtEnd {S D : Type 0} (takes : S → Sent → S → Type 0) (refuses : S → Sent → Refusal → S → Type 0)
     (ends : S → Refusal → Type 0) (after : S → List Told → Type 0) (max_reads : ℕ) (these : List OneRead)
     (refusal : Refusal) (handed : Option D) : Type 0 where
@@ -90,7 +92,7 @@ pub record StreamStopsAtEnd {S D : Type 0} (takes : S → Sent → S → Type 0)
   pub at_end : StopsWith CameToEnd these
   pub within : length these ≤ max_reads
 
--- where a new decoder stopped the stream that was read through it
+-- a new decoder returned an error for a stream that was read through it, at a piece or at the end
 abbrev pub StreamStops : {S D : Type 0} → (S → Sent → S → Type 0) → (S → Sent → Refusal → S → Type 0)
     → (S → Refusal → Type 0) → (S → List Told → Type 0) → (D → S) → (D → Bool) → ℕ → List OneRead → Refusal → Option D
     → Type 0

@@ -7,12 +7,13 @@ use Rattle.tendril_block.specs.declared.refusal.Refusal.TheVariants.{SinkRefused
 use Rattle.tendril_lossy.specs.Lossy.{Told, due, due_open, kept}
 use Rattle.tendril_stream.specs.Sinks.{Sent, Piece, Fault, Feeds, RefusesCall, Stops}
 
--- no piece: at the end of a stream a decoder sends short texts alone
+-- no piece: at the end of a stream a decoder sends only short texts
 abbrev pub no_piece : Text
 no_piece = record { bytes = []; copied = 0 }
 
--- What is told of the kept bytes k and the piece, after they were completed or more is kept. Where they were completed,
--- the rest of the piece is left, and nothing is kept.
+-- What `resume` does with the kept bytes k and a piece. True: k was empty, or it was completed or replaced and sent;
+-- the remainder of the piece is left, and no bytes are kept. False: the piece ends within the same character, and more
+-- bytes are kept.
 abbrev pub ResumesPiece : {S : Type 0} → (S → Sent → S → Type 0) → S → List ℕ → Text → Bool → S → List ℕ → Text → Type 0
 ResumesPiece takes old k piece true new next rest =
     (told : List Told) × Feeds takes piece old told new × (due_open (k ++ piece.bytes) ≡ told ++ due_open rest.bytes)
@@ -21,12 +22,12 @@ ResumesPiece takes old k piece true new next rest =
 ResumesPiece takes old k piece false new next rest =
     (new ≡ old) × (due_open (k ++ piece.bytes) ≡ []) × (next ≡ kept (k ++ piece.bytes))
 
--- an accepted call of a decoder that kept k
+-- a call of a decoder that kept k, which returned Ok
 abbrev pub Decodes : {S : Type 0} → (S → Sent → S → Type 0) → S → List ℕ → Sent → S → List ℕ → Type 0
 Decodes takes old k (Piece p) new next = Feeds takes p old (due_open (k ++ p.bytes)) new × (next ≡ kept (k ++ p.bytes))
 Decodes takes old k (Fault words) new next = takes old (Fault words) new × (next ≡ k)
 
--- a refused call of a decoder that kept k, and hadn't failed
+-- a call of a decoder that kept k and hadn't failed, which returned an error
 abbrev pub DecodingStops : {S : Type 0} → (S → Sent → S → Type 0) → (S → Sent → Refusal → S → Type 0) → S → List ℕ
     → Sent → Refusal → S → Type 0
 DecodingStops takes refuses old k (Piece p) refusal new =
@@ -34,11 +35,11 @@ DecodingStops takes refuses old k (Piece p) refusal new =
 DecodingStops takes refuses old k (Fault words) refusal new =
     RefusesCall refuses old (Fault words) refusal new
 
--- an accepted end
+-- a `finish` that returned Ok
 abbrev pub Ends : {S O : Type 0} → (S → Sent → S → Type 0) → (S → O → Type 0) → S → List ℕ → O → Type 0
 Ends {S} takes finishes old k out = (last : S) × Feeds takes no_piece old (due k) last × finishes last out
 
--- a refused end: of a call before the sink's own, or of that
+-- a `finish` that returned an error: of a call before the sink's own `finish`, or of that one
 abbrev pub EndStops : {S : Type 0} → (S → Sent → S → Type 0) → (S → Sent → Refusal → S → Type 0)
     → (S → Refusal → Type 0) → S → List ℕ → Refusal → Type 0
 EndStops {S} takes refuses ends old k refusal =

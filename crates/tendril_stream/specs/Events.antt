@@ -9,6 +9,6 @@ abbrev pub sent_of : {A B : _} → Event A B → Sent
 sent_of (Text t) = Piece t
 sent_of (Error words) = Fault (cow_str_bytes words)
 
--- the calls that left these events
+-- the calls that stored these events
 abbrev pub sent : {A B : _} → List (Event A B) → List Sent
 sent events = map sent_of events

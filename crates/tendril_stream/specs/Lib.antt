@@ -1,4 +1,4 @@
--- The words of the contracts on streams.
+-- The definitions that contracts on streams cite.
 pub mod Sinks
 pub mod Events
 pub mod Decoders

@@ -1,4 +1,4 @@
--- What is read into a sink, and where that stops.
+-- What is read into a sink or a text, and where reading stops.
 use Rattle.std.specs.Prelude.{
   ◌≡◌,
   ℕ,
@@ -41,28 +41,28 @@ use Rattle.tendril_stream.specs.Sinks.{Sent, Piece}
 use Rattle.tendril_stream.specs.declared.reading.Part.{Part}
 use Rattle.tendril_stream.specs.declared.reading.Part.TheVariants.{Bytes, Interrupted, End}
 
--- a reader made these reads, and where it tells what it will give, it has given that
+-- a reader made these reads; if `remaining` is known, they returned its first bytes, and what is left remains
 abbrev pub MakesReads : {R : Type 0} → (R → List OneRead) → (R → Option (List ℕ)) → R → List OneRead → R → Type 0
 MakesReads history remaining old these new =
     (history new ≡ history old ++ these) × Consumes (remaining old) (remaining new) (given these)
 
--- the read that came to this
+-- the read that returned this
 abbrev pub read_for : {A B : _} → Part A B → OneRead
 read_for (Bytes t) = Gave t.bytes
 read_for Interrupted = WasInterrupted
 read_for End = CameToEnd
 
--- a piece that one read gave: a byte at least, and 4096 at most
+-- a piece of one read: 1 to 4096 bytes
 abbrev pub IsReadPiece : Text → Type 0
 IsReadPiece piece = (0 < length piece.bytes) × (length piece.bytes ≤ 4096)
 
--- what came of a read is such a piece, or at the end a reader that tells what it will give has no more
+-- what a read returned: such a piece, an interruption, or the end, where `remaining` has no bytes if it is known
 abbrev pub IsReadPart : {A B : _} → Part A B → Option (List ℕ) → Type 0
 IsReadPart (Bytes t) left = IsReadPiece t
 IsReadPart Interrupted left = Unit {0}
 IsReadPart End left = IsAtEnd left
 
--- a sink accepts the piece that a read gave, and of other reads hears nothing
+-- a sink accepts the piece of a read; reads without bytes send it nothing
 abbrev pub Hears : {S : Type 0} → (S → Sent → S → Type 0) → S → OneRead → S → Type 0
 Hears takes old (Gave bytes) new =
     (piece : Text) × (piece.bytes ≡ bytes) × IsReadPiece piece × takes old (Piece piece) new
@@ -70,14 +70,15 @@ Hears takes old WasInterrupted new = new ≡ old
 Hears takes old HasFailed new = new ≡ old
 Hears takes old CameToEnd new = new ≡ old
 
--- a sink accepts what these reads gave, a piece for each that gave bytes
+-- a sink accepts the bytes of these reads, one piece for each read that returned bytes
 abbrev pub Receives : {S : Type 0} → (S → Sent → S → Type 0) → S → List OneRead → S → Type 0
 Receives takes old these new = FoldsTo (Hears takes) old these new
 
 -- One read into a sink.
 module _ {R S : Type 0} (history : R → List OneRead) (remaining : R → Option (List ℕ)) (reader reader' : R)
     (sink sink' : S) where
-  -- it came to the end, and the sink stays as it is; or the next may be made, and the sink has heard of this one
+  -- true: the reader is at its end, and the sink is unchanged; false: another read may be made, and the sink accepted
+  -- the piece of this one, if it has one
   abbrev pub ReadsOnce : (S → Sent → S → Type 0) → Bool → Type 0
   ReadsOnce takes true =
       MakesReads history remaining reader (CameToEnd ∷ []) reader' × IsAtEnd (remaining reader') × (sink' ≡ sink)
@@ -85,7 +86,7 @@ module _ {R S : Type 0} (history : R → List OneRead) (remaining : R → Option
       (one : OneRead) × MayReadOn one × MakesReads history remaining reader (one ∷ []) reader'
       × Hears takes sink one sink'
 
-  -- There was no memory for it; it failed; or the sink refused the piece that it gave.
+  -- There was no memory for the read; it failed; or the sink returned an error for its piece.
   abbrev pub ReadStops : (S → Sent → Refusal → S → Type 0) → Refusal → Type 0
   ReadStops refuses refusal =
       ((refusal ≡ Memory) × (reader' ≡ reader) × (sink' ≡ sink))
@@ -93,7 +94,7 @@ module _ {R S : Type 0} (history : R → List OneRead) (remaining : R → Option
       ⊎ ((piece : Text) × IsReadPiece piece × MakesReads history remaining reader (Gave piece.bytes ∷ []) reader'
       × refuses sink (Piece piece) refusal sink'))
 
--- all was read, up to the first read of none, and the sink accepted it and its end; so many reads at most
+-- all was read, up to the first read of 0 bytes, the sink accepted it and finished; at most `max_reads` reads were made
 pub record ReadsAll {S O : Type 0} (takes : S → Sent → S → Type 0) (finishes : S → O → Type 0) (max_reads : ℕ)
     (sink : S) (these : List OneRead) (out : O) : Type 0 where
   pub last : S
@@ -102,18 +103,18 @@ pub record ReadsAll {S O : Type 0} (takes : S → Sent → S → Type 0) (finish
   pub ends : StopsWith CameToEnd these
   pub within : length these ≤ max_reads
 
--- no read was left, or one failed, or there was no memory for one that was left
+-- all `max_reads` reads were made, or the last one failed, or there was no memory for the next one
 abbrev pub StopsBetween : ℕ → List OneRead → Refusal → Type 0
 StopsBetween max_reads these refusal =
     ((refusal ≡ TooManyReads) × All MayReadOn these × (length these ≡ max_reads))
     ⊎ (((refusal ≡ Io) × StopsWith HasFailed these × (length these ≤ max_reads))
     ⊎ ((refusal ≡ Memory) × All MayReadOn these × (length these < max_reads)))
 
--- a refusal of reading itself
+-- an error that reading itself returns
 abbrev pub IsOfReading : Refusal → Type 0
 IsOfReading refusal = (refusal ≡ TooManyReads) ⊎ ((refusal ≡ Io) ⊎ (refusal ≡ Memory))
 
--- Reading stopped between two pieces. The sink comes back, and has accepted all that was read.
+-- Reading stopped between two reads. The sink is returned, and has accepted all that was read.
 pub record HaltsBetween {S : Type 0} (takes : S → Sent → S → Type 0) (max_reads : ℕ) (old : S) (these : List OneRead)
     (refusal : Refusal) (handed : Option S) : Type 0 where
   pub sink : S
@@ -121,7 +122,7 @@ pub record HaltsBetween {S : Type 0} (takes : S → Sent → S → Type 0) (max_
   pub back : handed ≡ Some sink
   pub stops : StopsBetween max_reads these refusal
 
--- The sink refused what the last read gave, and comes back. It had accepted all that was read before.
+-- The sink returned an error for the piece of the last read, and is returned. It had accepted all that was read before.
 pub record HaltsAtPiece {S : Type 0} (takes : S → Sent → S → Type 0) (refuses : S → Sent → Refusal → S → Type 0)
     (max_reads : ℕ) (old : S) (these : List OneRead) (refusal : Refusal) (handed : Option S) : Type 0 where
   pub sink : S
@@ -136,7 +137,7 @@ pub record HaltsAtPiece {S : Type 0} (takes : S → Sent → S → Type 0) (refu
   pub on : All MayReadOn these
   pub within : length these ≤ max_reads
 
--- The sink refused its end, and is gone. It had accepted all that was read.
+-- The sink's `finish` returned an error, and the sink was dropped. It had accepted all that was read.
 pub record HaltsAtEnd {S : Type 0} (takes : S → Sent → S → Type 0) (ends : S → Refusal → Type 0) (max_reads : ℕ)
     (old : S) (these : List OneRead) (refusal : Refusal) (handed : Option S) : Type 0 where
   pub sink : S
@@ -146,7 +147,7 @@ pub record HaltsAtEnd {S : Type 0} (takes : S → Sent → S → Type 0) (ends :
   pub at_end : StopsWith CameToEnd these
   pub within : length these ≤ max_reads
 
--- where reading into a sink stopped
+-- reading into a sink stopped at one of these three places
 abbrev pub Halts : {S : Type 0} → (S → Sent → S → Type 0) → (S → Sent → Refusal → S → Type 0) → (S → Refusal → Type 0)
     → ℕ → S → List OneRead → Refusal → Option S → Type 0
 Halts takes refuses ends max_reads old these refusal handed =
@@ -154,15 +155,15 @@ Halts takes refuses ends max_reads old these refusal handed =
     ⊎ (HaltsAtPiece takes refuses max_reads old these refusal handed
     ⊎ HaltsAtEnd takes ends max_reads old these refusal handed)
 
--- Why reading into a text ended, and how long the text is then: it was read to the end; or it is as long as a text can
--- be; or no read was left, or one failed, or there was no memory for one.
+-- Why reading into a text stopped, and the text's length then. Ok: the reader is at its end. TooLong: the text is as
+-- long as a text can be. Other errors: as `StopsBetween`.
 abbrev pub Fills : {T : Type 0} → ℕ → List OneRead → Result T Refusal → ℕ → Type 0
 Fills max_reads these (Ok count) len = StopsWith CameToEnd these × (length these ≤ max_reads) × (len < 4294967295)
 Fills max_reads these (Err refusal) len =
     ((refusal ≡ TooLong) × (len ≡ 4294967295) × All MayReadOn these × (length these ≤ max_reads))
     ⊎ (StopsBetween max_reads these refusal × (len < 4294967295))
 
--- all that was read went behind a text, and the answer is how many bytes that is
+-- all that was read was appended to a text, and on Ok its number of bytes is returned
 abbrev pub Adds : {R : Type 0} → (R → List OneRead) → (R → Option (List ℕ)) → ℕ → R → R → Text → Text
     → Result ℕ Refusal → Type 0
 Adds history remaining max_reads reader reader' text text' result =

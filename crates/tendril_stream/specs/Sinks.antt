@@ -1,4 +1,4 @@
--- What is sent to a sink, and what it tells.
+-- What is sent to a sink: texts and errors, or as a list, their characters and errors.
 use Rattle.std.specs.Prelude.{
   ◌≡◌,
   ◌<◌,
@@ -26,12 +26,12 @@ use Rattle.tendril_block.specs.declared.refusal.Refusal.{Refusal}
 use Rattle.tendril_block.specs.declared.refusal.Refusal.TheVariants.{SinkRefused}
 use Rattle.tendril_lossy.specs.Lossy.{Told, Char, Mark}
 
--- a text, or an error with its words
+-- a text, or an error with its message
 pub data Sent : Type 0 where
   Piece : Text → Sent
   Fault : List ℕ → Sent
 
--- what was sent tells the text's characters, or a mark with the error's words
+-- the list of what was sent: the text's characters, or the error
 abbrev pub told_of : Sent → List Told
 told_of (Piece t) = map Char (chars t.bytes)
 told_of (Fault words) = Mark words ∷ []
@@ -44,13 +44,13 @@ abbrev pub IsSent : Sent → Type 0
 IsSent (Piece t) = (0 < length t.bytes) × IsUtf8 t.bytes
 IsSent (Fault words) = Unit {0}
 
--- what is sent of a piece: an error, or a text that isn't empty and copied no bytes but those that the piece had, or
--- few
+-- what a decoder sends of a piece: an error, or a text that isn't empty and has at most 8 bytes, shares the piece's
+-- block, or is the piece
 abbrev pub IsSentOf : Text → Sent → Type 0
 IsSentOf piece (Piece t) = IsHandedOn piece t
 IsSentOf piece (Fault words) = Unit {0}
 
--- a sink accepted calls, one after another, that tell these
+-- a sink accepted calls, one after another, that send the list `due`
 pub record Feeds {S : Type 0} (takes : S → Sent → S → Type 0) (piece : Text) (old : S) (due : List Told)
     (new : S) : Type 0 where
   pub sent : List Sent
@@ -58,11 +58,11 @@ pub record Feeds {S : Type 0} (takes : S → Sent → S → Type 0) (piece : Tex
   pub calls : FoldsTo takes old sent new
   pub tells : told sent ≡ due
 
--- the sink refused this call
+-- the sink returned an error for this call, and the decoder returns SinkRefused
 abbrev pub RefusesCall : {S : Type 0} → (S → Sent → Refusal → S → Type 0) → S → Sent → Refusal → S → Type 0
 RefusesCall refuses mid call refusal new = (refusal ≡ SinkRefused) × ((r : Refusal) × refuses mid call r new)
 
--- it refused a call that is one of the piece, and tells a beginning of what is still due
+-- the sink returned an error for a call that sends a prefix of `due`, the list still to be sent of the piece
 pub record SinkRefuses {S : Type 0} (refuses : S → Sent → Refusal → S → Type 0) (piece : Text) (mid : S)
     (due : List Told) (refusal : Refusal) (new : S) : Type 0 where
   pub call : Sent
@@ -71,12 +71,12 @@ pub record SinkRefuses {S : Type 0} (refuses : S → Sent → Refusal → S → 
   pub front : told_of call ++ rest ≡ due
   pub refused : RefusesCall refuses mid call refusal new
 
--- or no call was made, since no text could be taken out of a long piece
+-- that, or no call was made, since the next text of a long piece couldn't be popped
 abbrev pub IsStop : {S : Type 0} → (S → Sent → Refusal → S → Type 0) → Text → S → List Told → Refusal → S → Type 0
 IsStop refuses piece mid due refusal new =
     (LongPieceMay piece.bytes refusal × (new ≡ mid)) ⊎ SinkRefuses refuses piece mid due refusal new
 
--- a sink accepted calls that tell a beginning of these, and then there was a refusal
+-- a sink accepted calls that send a prefix of `due`, and then there was an error
 pub record Stops {S : Type 0} (takes : S → Sent → S → Type 0) (refuses : S → Sent → Refusal → S → Type 0)
     (piece : Text) (old : S) (due : List Told) (refusal : Refusal) (new : S) : Type 0 where
   pub sent : List Sent
@@ -99,7 +99,7 @@ module _ {I It T S : Type 0} (becomes : I → It → Type 0) (steps : It → Opt
     pub yields : YieldsThen steps iterator sent None last
     pub calls : FoldsTo (λ s x t. takes s (Piece (text x)) t) old sent new
 
-  -- some are accepted, then one is refused, and it is the last that is sent
+  -- some are accepted, then the sink returns an error for one, which is the last that is sent
   pub record AcceptsUpTo (refuses : S → Sent → Refusal → S → Type 0) (old : S) (texts : I) (refusal : Refusal)
       (new : S) : Type 0 where
     pub iterator : It
@@ -112,11 +112,11 @@ module _ {I It T S : Type 0} (becomes : I → It → Type 0) (steps : It → Opt
     pub calls : FoldsTo (λ s x t. takes s (Piece (text x)) t) old sent sunk
     pub refused : refuses sunk (Piece (text next)) refusal new
 
-  -- each of them is accepted, and so is the end
+  -- each of them is accepted, and `finish` returns Ok
   abbrev pub SendsAll : {O : Type 0} → (S → O → Type 0) → S → I → O → Type 0
   SendsAll finishes sink texts out = (sunk : S) × AcceptsAll sink texts sunk × finishes sunk out
 
-  -- one is refused, or the end
+  -- the sink returns an error for one of them, or from `finish`
   abbrev pub SendsSome : (S → Sent → Refusal → S → Type 0) → (S → Refusal → Type 0) → S → I → Refusal → Type 0
   SendsSome refuses ends sink texts refusal =
       ((new : S) × AcceptsUpTo refuses sink texts refusal new)

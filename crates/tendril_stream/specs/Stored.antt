@@ -1,4 +1,4 @@
--- What is told of a sink that stores what it is sent.
+-- The list of characters and errors that a sink was sent, if it stores them.
 use Rattle.std.proofs.Common.{◌≡◌, List, [], ◌∷◌, ◌++◌, ap, ◌∙◌, append-nil}
 use Rattle.std.proofs.lemmas.List.Concat.{flat_map-append}
 use Rattle.tendril_lossy.specs.Lossy.{Told}

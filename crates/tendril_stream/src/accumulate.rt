@@ -120,7 +120,7 @@ impl<A: Atomicity> TendrilSink<Tendril<UTF8, A>> for Accumulate<A> {
     }
 }
 
-/// The characters and marks of the events are those that were sent.
+/// The stored events have exactly the characters and errors that were sent.
 impl<A: Atomicity> Tracks<Tendril<UTF8, A>> for Accumulate<A> {
     ghost use Rattle.std.specs.Prelude.{◌≡◌};
     ghost use Rattle.tendril_stream.specs.Stored.{stored_on};

@@ -7,7 +7,7 @@ use crate::log::Log;
 use std::io;
 use std::io::{ErrorKind, Read};
 
-/// A reader whose reads are recorded for contracts. The record is in proofs only: at run time this is the reader.
+/// A reader whose reads are recorded for contracts. The record exists only in proofs: at run time this is the reader.
 #[derive(Drop)]
 pub struct Counted<R: Read + Drop> {
     reader: R,
@@ -48,7 +48,7 @@ impl<R: Read + Drop> CountedRead for Counted<R> {
     }
 }
 
-// Which fault an error of std is.
+// Tells interrupted reads from failed ones, by the kind of the error.
 fn fault_of(error: &io::Error) -> ReadFault
     ensures { (result ≡ ReadFault.Interrupted) ↔ (error_kind error.now ≡ ErrorKind.Interrupted) }
 {

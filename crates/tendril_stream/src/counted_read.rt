@@ -9,16 +9,16 @@ pub enum ReadFault {
     Failed,
 }
 
-/// A source of bytes whose reads are recorded for contracts. `Counted` makes one of any reader.
+/// A source of bytes whose reads are recorded for contracts. `Counted` turns any std `Read` into one.
 pub trait CountedRead: Drop {
     ghost use Rattle.std.specs.Prelude.{◌≡◌, ◌≤◌, List, [], ◌∷◌, ◌++◌, ℕ, Option, None, length, IfOk};
     ghost use Rattle.std.specs.Io.KnownBytes.{ReadConsumes};
     ghost use Rattle.tendril_stream.specs.Reads.{OneRead, read_of};
 
-    /// Its reads, in order.
+    /// The reads so far, in order.
     ghost history: { Self → List OneRead };
 
-    /// The bytes that further reads will return, where they are known.
+    /// The bytes that further reads will return, or `None` if they aren't known.
     ghost remaining: { Self → Option (List ℕ) } = { λ _. None };
 
     /// Reads into the start of the buffer and returns the number of bytes: 0 at the end, or for an empty buffer.

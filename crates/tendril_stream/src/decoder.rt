@@ -20,16 +20,17 @@ const INVALID: &str = "invalid byte sequence";
 
 const INCOMPLETE: &str = "incomplete byte sequence at end of stream";
 
-// All calls fail after an error, since the rest of the piece is gone: if the next piece were decoded, bytes would be
-// missing in the middle, and no call would say so.
+// All calls fail after an error, since the remainder of the piece is lost: decoding the next piece would leave a gap
+// that no call reports.
 /// Decodes pieces of bytes to texts for a sink, with an error and U+FFFD for each broken sequence.
 ///
-/// A sequence is broken as Unicode's maximal subparts say (chapter 3, 'U+FFFD Substitution of Maximal Subparts'). A character
-/// that is cut by the end of a piece is completed from the next one; where the stream ends in it, it is one broken sequence.
+/// Each maximal subpart is one broken sequence (Unicode, chapter 3, 'U+FFFD Substitution of Maximal Subparts'). A
+/// character that is cut by the end of a piece is completed from the next one; if the stream ends within it, it is one
+/// broken sequence.
 ///
-/// A call returns `SinkRefused` if the sink returns an error, whichever it is, and `Count` if the piece's block has as many
-/// references as it can have. All calls after an error return `Failed`. Decoding allocates nothing: texts of more than 8
-/// bytes share the piece's block.
+/// A call returns `SinkRefused` if the sink returns any error, and `Count` if the piece's block has as many references
+/// as it can have. All calls after an error return `Failed`. Decoding allocates nothing: texts of more than 8 bytes
+/// share the piece's block.
 #[derive(Drop)]
 pub struct Utf8LossyDecoder<S: TendrilSink<Tendril<UTF8, A>>, A: Atomicity = NonAtomic> {
     /// The sink that the texts are sent to.
@@ -93,7 +94,7 @@ impl<S: TendrilSink<Tendril<UTF8, A>>, A: Atomicity> Utf8LossyDecoder<S, A> {
         &self.inner_sink
     }
 
-    /// Borrows the sink mutably: what it is changed to is sent the next texts.
+    /// Borrows the sink mutably. The next texts are sent to the sink as the caller leaves it.
     ///
     /// ```
     /// let mut decoder = Utf8LossyDecoder::new(alloc, Accumulate::new(alloc));
@@ -109,7 +110,7 @@ impl<S: TendrilSink<Tendril<UTF8, A>>, A: Atomicity> Utf8LossyDecoder<S, A> {
     }
 }
 
-/// A decoder of any encoding of this crate, which is UTF-8 alone.
+/// A decoder of any encoding that this crate supports, which is only UTF-8.
 pub type LossyDecoder<S, A = NonAtomic> = Utf8LossyDecoder<S, A>;
 
 impl<S: TendrilSink<Tendril<UTF8, A>>, A: Atomicity> TendrilSink<Tendril<Bytes, A>>
@@ -160,7 +161,7 @@ impl<S: TendrilSink<Tendril<UTF8, A>>, A: Atomicity> TendrilSink<Tendril<Bytes, 
     }
 }
 
-// Sends a text to the sink.
+// Sends a text to the sink. An error of the sink becomes `SinkRefused`.
 fn send<S: TendrilSink<Tendril<UTF8, A>>, A: Atomicity>(
     sink: &mut S,
     text: Tendril<UTF8, A>,
@@ -201,7 +202,7 @@ fn send_some<S: TendrilSink<Tendril<UTF8, A>>, A: Atomicity>(
     }
 }
 
-// Decodes a piece where nothing is kept, and returns what is to be kept.
+// Decodes a piece when no bytes are kept, and returns the bytes to keep: those of an unfinished last character.
 fn feed_rest<S: TendrilSink<Tendril<UTF8, A>>, A: Atomicity>(
     sink: &mut S,
     alloc: Global,
@@ -224,7 +225,8 @@ fn feed_rest<S: TendrilSink<Tendril<UTF8, A>>, A: Atomicity>(
     }
 }
 
-// Completes what is kept, if anything is, from the start of a piece, and returns whether that completed it.
+// Completes the kept bytes from the start of a piece. Returns false if the piece ends within their character too, and
+// true if that was sent, as a text or as broken, or if no bytes were kept.
 fn resume<S: TendrilSink<Tendril<UTF8, A>>, A: Atomicity>(
     sink: &mut S,
     alloc: Global,
@@ -248,7 +250,7 @@ fn resume<S: TendrilSink<Tendril<UTF8, A>>, A: Atomicity>(
     Ok(true)
 }
 
-// Decodes a piece after what is kept.
+// Decodes the kept bytes and a piece that follows them.
 fn feed<S: TendrilSink<Tendril<UTF8, A>>, A: Atomicity>(
     sink: &mut S,
     alloc: Global,
@@ -266,7 +268,7 @@ fn feed<S: TendrilSink<Tendril<UTF8, A>>, A: Atomicity>(
     Ok(())
 }
 
-// Sends an error and U+FFFD for kept bytes that the stream ended in.
+// At the end of the stream: sends an error and U+FFFD for the kept bytes, if there are any.
 fn flush<S: TendrilSink<Tendril<UTF8, A>>, A: Atomicity>(
     sink: &mut S,
     alloc: Global,

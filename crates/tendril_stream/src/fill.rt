@@ -24,9 +24,9 @@ pub trait ReadExt: CountedRead {
 
     /// Reads to the end, appends the bytes to the text, and returns how many were read.
     ///
-    /// Makes at most `max_reads` reads, interrupted ones included. Returns `TooLong` if the text has 4294967295 bytes when a read
-    /// is to be made, else `TooManyReads` after `max_reads` reads that didn't reach the end, `Memory` if an allocation fails, or
-    /// `Io` if a read fails. After an error the text keeps the bytes that were read.
+    /// Makes at most `max_reads` reads, interrupted ones included. Returns `TooLong` if the text has 4294967295 bytes
+    /// before a read, else `TooManyReads` after `max_reads` reads that didn't reach the end, `Memory` if an allocation
+    /// fails, or `Io` if a read fails. After an error the text keeps the bytes that were read.
     ///
     /// The first read has a buffer of 32 bytes. Whenever a buffer is full the next one is twice as large, up to 65536 bytes.
     ///
@@ -62,8 +62,8 @@ impl<R: CountedRead> ReadExt for R {
     }
 }
 
-// Reads to the end of the text, and returns how many of its bytes are its own and those that were read. The others are
-// zeros that no read has written over.
+// Reads to the reader's end, and appends the bytes to the text. Returns how many bytes the text had, plus those that
+// were read: the bytes after them are spare, and the caller removes them.
 fn fill<A: Atomicity, R: CountedRead>(
     reader: &mut R,
     text: &mut Tendril<Bytes, A>,
@@ -98,7 +98,8 @@ fn fill<A: Atomicity, R: CountedRead>(
     }
 }
 
-// If the text has no more zeros to read into, appends as many as `offered`, and doubles that for the next time.
+// If the text has only `filled` bytes, appends `offered` zeros to read into, as far as its greatest length permits, and
+// doubles `offered` for the next time, up to `LARGEST`.
 fn make_room<A: Atomicity>(
     text: &mut Tendril<Bytes, A>,
     filled: u32,

@@ -1,4 +1,4 @@
-//! The reads of a reader, for contracts alone. The list isn't there at run time, and these functions do nothing then.
+//! The reads of a reader, only for contracts. At run time the list doesn't exist, and these functions do nothing.
 ghost use Rattle.std.specs.Prelude.{◌≡◌, List, [], ◌∷◌, ◌++◌};
 ghost use Rattle.std.specs.Borrow.{ftrue};
 ghost use Rattle.tendril_stream.specs.Reads.{OneRead, read_of};
@@ -24,7 +24,7 @@ impl Log {
         Log {}
     }
 
-    /// Returns the record with one more read, which returned this and left the buffer like this.
+    /// Returns the record with one more read, which returned `_answer` and left `_buffer` as it is now.
     pub(crate) fn after(&self, _answer: &Result<usize, ReadFault>, _buffer: &[u8]) -> Log
         ensures { result.reads ≡ self.now.reads ++ read_of _answer.now _buffer.now ∷ [] }
     {

@@ -62,9 +62,9 @@ impl<S: Drop> From<Stopped<S>> for Refusal {
 // The number of reads is bounded since a reader may be interrupted without end, and every call has to return.
 /// Reads to the end, sends the bytes to the sink in pieces of at most 4096, and returns what the sink's `finish` returns.
 ///
-/// Makes at most `max_reads` reads, interrupted ones included. Returns `Io` if a read fails, `TooManyReads` if the end wasn't
-/// reached within `max_reads` reads, `Memory` if a piece can't be allocated, or the sink's own error. The sink is returned
-/// with the error, unless it comes from `finish`.
+/// Makes at most `max_reads` reads, interrupted ones included. Returns `Io` if a read fails, `TooManyReads` if the end
+/// wasn't reached within `max_reads` reads, `Memory` if a piece can't be allocated, or the sink's own error. The sink
+/// is returned with the error, unless that is from `finish`.
 ///
 /// ```
 /// let decoder: Utf8LossyDecoder<Rope> = Utf8LossyDecoder::new(alloc, Rope::new(alloc));
@@ -112,7 +112,7 @@ pub fn read_from<A: Atomicity, S: TendrilSink<Tendril<Bytes, A>>, R: CountedRead
 
 /// Reads once, sends the sink the bytes, at most 4096, and returns whether the reader is at its end.
 ///
-/// At the end, or after an interrupted read, the sink is sent nothing. Returns `Io` if the read fails, `Memory` if the piece
+/// At the end, or after an interrupted read, nothing is sent. Returns `Io` if the read fails, `Memory` if the piece
 /// can't be allocated, or the sink's own error.
 ///
 /// ```
@@ -142,8 +142,8 @@ pub fn read_once<A: Atomicity, S: TendrilSink<Tendril<Bytes, A>>, R: CountedRead
 
 /// Reads a file to its end, sends the bytes to the sink in pieces, and returns what the sink's `finish` returns.
 ///
-/// Makes at most `max_reads` reads. Returns `Io` if the file can't be opened, and else what `read_from` returns: a directory
-/// is `Io` too, since no read of it succeeds. The sink is returned with the error, unless it comes from `finish`.
+/// Makes at most `max_reads` reads. Returns `Io` if the file can't be opened, or the errors of `read_from`: also `Io`
+/// for a directory, since no read of one succeeds. The sink is returned with the error, unless that is from `finish`.
 ///
 /// ```
 /// let decoder: Utf8LossyDecoder<Rope> = Utf8LossyDecoder::new(alloc, Rope::new(alloc));
@@ -172,9 +172,9 @@ pub fn from_file<A: Atomicity, S: TendrilSink<Tendril<Bytes, A>>, F: Files>(
 
 /// Reads to the end, decodes the bytes, and returns the list of texts and errors.
 ///
-/// Makes at most `max_reads` reads, and returns the errors of `read_from`. If reading itself stops, the decoder is returned
-/// with all that was read so far decoded, and reading may go on with it. If the decoder returns an error for a piece it is
-/// returned failed, and if it does for the end it is gone.
+/// Makes at most `max_reads` reads, and returns the errors of `read_from`. If reading stops between two reads, the
+/// decoder is returned: it has decoded all that was read, and can be passed to `read_decoded` to continue. If the
+/// decoder returns an error for a piece, it is returned and has failed; if it returns one at the end, it is dropped.
 ///
 /// ```
 /// let events = decode_reader::<NonAtomic, _>(alloc, &mut Counted::new(b"a\xFF".as_slice()), 10)?;
@@ -203,8 +203,8 @@ pub fn decode_reader<A: Atomicity, R: CountedRead>(
 
 /// Reads to the end through a decoder, as `read_from` does, and returns what its sink's `finish` returns.
 ///
-/// For sinks whose type names a lifetime, as `Accumulate` does: the borrow checker passes no decoder of such a sink to
-/// `read_from` itself.
+/// For sinks whose type names a lifetime, as `Accumulate`'s does: the borrow checker rejects a decoder over such a sink
+/// as an argument of `read_from`.
 ///
 /// ```
 /// let decoder: Utf8LossyDecoder<Accumulate> = Utf8LossyDecoder::new(alloc, Accumulate::new(alloc));

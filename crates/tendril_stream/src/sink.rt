@@ -16,8 +16,9 @@ impl<F: Format, A: Atomicity> StreamText for Tendril<F, A> {
     ghost text = { λ t. t };
 }
 
-// Over the type of its texts, not over a format and an atomicity as in the Rust crate: over those two the toolchain
-// generates no proof. The four members are relations, not functions, so a sink may say less than it does.
+// Generic over the type of its texts, not over a format and an atomicity as in the Rust crate: for those two the
+// toolchain generates no proof. The four ghost members are relations, not functions, so that a sink may specify less
+// than it does.
 /// A consumer of a stream of texts and errors.
 pub trait TendrilSink<T: StreamText>: Drop {
     ghost use Rattle.std.specs.Prelude.{◌≡◌, ◌⊎◌, List, Option, Some, None, IfOk, IfErr, OnOk};
@@ -30,15 +31,15 @@ pub trait TendrilSink<T: StreamText>: Drop {
     /// What `finish` returns.
     type Output;
 
-    // A sink that says nothing of its calls leaves these four out.
+    // A sink that specifies nothing about its calls leaves these four out.
 
-    /// What a call does that returns Ok.
+    /// What a call does if it returns Ok.
     ghost takes: { Self → Sent → Self → Type 0 } = { λ a e b. Unit {0} };
 
-    /// What a call does that returns an error.
+    /// What a call does if it returns an error.
     ghost refuses: { Self → Sent → Refusal → Self → Type 0 } = { λ a e r b. Unit {0} };
 
-    /// What `finish` returns when it returns Ok.
+    /// The output of `finish` if it returns Ok.
     ghost finishes: { Self → Self.Output → Type 0 } = { λ a out. Unit {0} };
 
     /// The errors that `finish` may return.
@@ -54,7 +55,7 @@ pub trait TendrilSink<T: StreamText>: Drop {
         ensures ok { OnOk result (takes self.old (Fault (cow_str_bytes words.entry)) self.new) }
         ensures err { IfErr result (λ r. refuses self.old (Fault (cow_str_bytes words.entry)) r self.new) };
 
-    /// Ends the stream and returns what the sink made of it, or an error of the sink's own.
+    /// Ends the stream and returns the sink's output, or an error of the sink's own.
     fn finish(self) -> Result<Self::Output, Refusal>
         ensures ok { IfOk result (λ out. finishes self out) }
         ensures err { IfErr result (λ r. ends self r) };
@@ -81,7 +82,7 @@ pub trait TendrilSink<T: StreamText>: Drop {
 
     /// Takes each text of an iterator, up to the first for which `process` returns an error.
     ///
-    /// Returns that error, and makes no call after it.
+    /// Returns that error, and sends nothing after it.
     ///
     /// ```
     /// let mut rope = Rope::new(alloc);

@@ -11,7 +11,7 @@ use Rattle.tendril_stream.specs.contracts.log.Log.after as f
 use Rattle.tendril_stream.proofs.log.Log.after.Statement.{statement}
 use Rattle.tendril_stream.proofs.log.Log.after.Code as code
 
--- what a read answers
+-- what a read returns
 abbrev ReadRow : RattleType
 ReadRow = Answer.the_row usize fault.the_row
 
