@@ -1,5 +1,5 @@
--- The words that a caller of ropes, and of tables that hold them, names. Those of formats are in `Fmt`; lemmas are in
--- `Proofs`.
+-- The definitions that callers of ropes, and of tables that hold them, cite. Those of formats are in `Fmt`; lemmas are
+-- in `Proofs`.
 pub use Rattle.rope_text.specs.Growth
 pub use Rattle.rope_text.specs.Parts
 pub use Rattle.rope_text.specs.Ropes

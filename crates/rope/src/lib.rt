@@ -1,7 +1,7 @@
 //! Ropes: UTF-8 of up to 18446744073709551615 bytes, in texts that are shared; and tables that hold them.
 //!
-//! This crate has no function of its own. It gives the ropes of `rope_text`, the tables of `rope_run`, and the texts and
-//! streams that ropes are made of, under the name that a user writes.
+//! This crate has no function of its own. It re-exports the ropes of `rope_text`, the tables of `rope_run`, and the
+//! texts and streams that ropes need, so that users name one crate.
 #![tactic(auto)]
 
 pub use rope_run::{

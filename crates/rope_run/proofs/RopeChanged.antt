@@ -18,7 +18,7 @@ use Rattle.tendril_run.specs.Rules.{Rule}
 abbrev pub cells_of : List Cell → List (Option RopeText) → Cells
 cells_of slots items = record { slots = slots; ropes = map rope_cell_of items }
 
--- one rope was old, and after it is new; all other ropes stay
+-- one rope's cell was `old`, and in `after` it is `new`; all other ropes are unchanged
 pub record OneRope (items : List (Option RopeText)) (number : ℕ) (old new : RopeCell) (after : List (Option RopeText)) : Type 0 where
   pub here : rope_at (map rope_cell_of items) number ≡ old
   pub there : map rope_cell_of after ≡ set (map rope_cell_of items) number new
@@ -31,7 +31,7 @@ one_rope items number s t within found = record {
   kept = λ same. map-set_same rope_cell_of items number t s (same ∙ ap rope_cell_of found);
 }
 
--- what one rope answers and becomes is what its table does
+-- a call on one rope is a step of its table
 answered : (by : RopeCell → Rule RopeCell) (said : RopeCell → Reply) (slots : List Cell) (items after : List (Option RopeText)) (number : ℕ) (old new : RopeCell) (reply : Reply) → OneRope items number old new after → Answered by said old reply new → RopeReplied (at_rope number said by) (cells_of slots items) (Plain reply) (cells_of slots after)
 answered by said slots items after number old new (Refused r) one h =
     (subst (λ c. (by c).must (Some r) ⊎ ((by c).must None × (by c).may r)) (sym one.here) h.0, ap (λ ropes. record { slots = slots; ropes = ropes }) (one.kept h.1))
@@ -43,18 +43,18 @@ answered by said slots items after number old new reply one h = (
   ),
 )
 
--- the same, by the cells that a table is seen as
+-- the same, by the cells that contracts see
 pub table_answered : (by : RopeCell → Rule RopeCell) (said : RopeCell → Reply) (before : Cells) (slots : List Cell) (items after : List (Option RopeText)) (number : ℕ) (old new : RopeCell) (reply : Reply) → cells_of slots items ≡ before → OneRope items number old new after → Answered by said old reply new → RopeReplied (at_rope number said by) before (Plain reply) (cells_of slots after)
 table_answered by said before slots items after number old new reply is one h =
     subst (λ (b : Cells). RopeReplied (at_rope number said by) b (Plain reply) (cells_of slots after)) is
     (answered by said slots items after number old new reply one h)
 
--- a rope that isn't there is gone
+-- a number past the end has the cell `gone`
 pub past_gone : (before : Cells) (slots : List Cell) (items : List (Option RopeText)) (number : ℕ) → cells_of slots items ≡ before → length items ≤ number → rope_at before.ropes number ≡ gone
 past_gone before slots items number is past =
     subst (λ (b : Cells). rope_at b.ropes number ≡ gone) is (get_or_past (map rope_cell_of items) number gone (subst (λ n. n ≤ number) (sym (length-map items rope_cell_of)) past))
 
--- ropes stay valid where one of them becomes another valid one
+-- ropes stay valid if one of them becomes another valid one
 pub kept_ropes : (items : List (Option RopeText)) (number : ℕ) (s t : Option RopeText) → number < length items → s ≡ get_or items number s → All IsRopeCell (map rope_cell_of items) → (IsRopeCell (rope_cell_of s) → IsRopeCell (rope_cell_of t)) → All IsRopeCell (map rope_cell_of (set items number t))
 kept_ropes items number s t within found h kept =
     let here : IsRopeCell (rope_cell_of s) =
@@ -62,6 +62,6 @@ kept_ropes items number s t within found h kept =
     (All-get_or IsRopeCell (map rope_cell_of items) number gone (subst (λ n. number < n) (sym (length-map items rope_cell_of)) within) h) in
     subst (λ cells. All IsRopeCell cells) (sym (map-set rope_cell_of items number t)) (All-set IsRopeCell (map rope_cell_of items) number (rope_cell_of t) (kept here) h)
 
--- and where one is added
+-- and if one is added
 pub added_ropes : (items : List (Option RopeText)) (s : Option RopeText) → All IsRopeCell (map rope_cell_of items) → IsRopeCell (rope_cell_of s) → All IsRopeCell (map rope_cell_of (items ++ s ∷ []))
 added_ropes items s h one = subst (λ cells. All IsRopeCell cells) (sym (map-append rope_cell_of items (s ∷ []))) (All-push IsRopeCell (map rope_cell_of items) (rope_cell_of s) h one)

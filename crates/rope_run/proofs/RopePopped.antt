@@ -1,4 +1,4 @@
--- A character that is taken out of a rope.
+-- A character that is popped from a rope.
 use Rattle.std.proofs.Common.{◌≡◌, ℕ, [], ◌∷◌, ◌++◌, length, drop, sym, ap, ◌∙◌, Option, Some, None}
 use Rattle.std.specs.Prelude.{IfSome, IfNone, chars, encode_utf8}
 use Rattle.std.proofs.Math.Seq.{drop-append_seam}

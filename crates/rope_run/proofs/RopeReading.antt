@@ -1,4 +1,4 @@
--- What tells the lines of ropes from one another, and from the lines of slots.
+-- What distinguishes the lines of ropes from one another, and from the lines of slots.
 use Rattle.std.proofs.Common.{◌≡◌, ◌↔◌, ℕ, List, [], ◌∷◌, Bool, true, false, Some, bytes_eq, codes, refl, sym, ap, ◌∙◌}
 use Rattle.std.specs.List.{list_any}
 use Rattle.rope_run.specs.RopeLines.{OnRopes, rope_words_of}
@@ -28,7 +28,7 @@ ropes_verb (OnSlots x) on = absurd on
 ropes_verb RopeNew on = refl
 ropes_verb other on = refl
 
--- where a command on ropes has the verb and the values, no command on slots has them
+-- if a command on ropes has the verb and the values, no command on slots has them
 pub rope_found : (verb : List ℕ) (values : Values) (made : RopeCommand)
     → ((c : RopeCommand) → (Some made ≡ Some c) ↔ (OnRopes c × Spells (rope_words_of c) verb values))
     → (c : RopeCommand) → (Some made ≡ Some c) ↔ Spells (rope_words_of c) verb values

@@ -1,4 +1,4 @@
--- The words of the contracts on tables of ropes, on the commands over them, and on their lines.
+-- The definitions that contracts on tables of ropes, on their commands and on their lines cite.
 pub mod RopeLines
 pub mod RopePrinted
 pub mod RopeCells

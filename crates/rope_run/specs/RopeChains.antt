@@ -5,7 +5,7 @@ use Rattle.rope_run.specs.declared.command.RopeReply.{RopeReply}
 use Rattle.rope_run.specs.RopeCells.{Cells}
 use Rattle.rope_run.specs.RopeSteps.{RopeStep}
 
--- a chain of steps, one reply a command
+-- a chain of steps, with one reply for each command
 abbrev pub RopeChain : (ℕ → ℕ) → Cells → List RopeCommand → List RopeReply → Cells → Type 0
 RopeChain class old [] [] new = new ≡ old
 RopeChain class old (command ∷ commands) (reply ∷ replies) new =

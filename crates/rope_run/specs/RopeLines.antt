@@ -1,4 +1,4 @@
--- Lines of commands over ropes: the verb of each command, and what the words after it stand for.
+-- Lines of commands on ropes: the verb of each command, and the values of the words after it.
 use Rattle.std.specs.Prelude.{ℕ, List, codes}
 use Rattle.rope_run.specs.declared.command.RopeCommand.{RopeCommand}
 use Rattle.rope_run.specs.declared.command.RopeCommand.TheVariants.{
@@ -19,7 +19,7 @@ use Rattle.tendril_lines.specs.declared.shape.Value.TheVariants.{Long, Slot}
 use Rattle.tendril_lines.specs.declared.shape.Values.{Values}
 use Rattle.tendril_lines.specs.declared.shape.Values.TheVariants.{Empty, One, Two, Three}
 
--- the verb of a command, and what the words after it stand for; a command on slots has those of its own line
+-- the verb of a command, and the values of the words after it; a command on slots has those of its own line
 abbrev pub rope_words_of : RopeCommand → List ℕ × Values
 rope_words_of (OnSlots command) = words_of command
 rope_words_of RopeNew = (codes "rope", Empty)
@@ -31,7 +31,7 @@ rope_words_of (RopeSub rope offset count) = (codes "rsub", Three (Slot rope) (Lo
 rope_words_of (RopeTake rope) = (codes "rtake", One (Slot rope))
 rope_words_of (RopeDrop rope) = (codes "rdrop", One (Slot rope))
 
--- it is one of the commands on ropes
+-- this is a command on ropes
 abbrev pub OnRopes : RopeCommand → Type 0
 OnRopes (OnSlots command) = ⊥
 OnRopes RopeNew = Unit {0}
@@ -43,6 +43,6 @@ OnRopes (RopeSub rope offset count) = Unit {0}
 OnRopes (RopeTake rope) = Unit {0}
 OnRopes (RopeDrop rope) = Unit {0}
 
--- the line is the command's
+-- this is the line of the command
 abbrev pub IsRopeLine : RopeCommand → List ℕ → Type 0
 IsRopeLine command line = AreVerbAndWords (rope_words_of command) (words line)

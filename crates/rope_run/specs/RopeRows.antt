@@ -1,4 +1,4 @@
--- The rules of what is done to one rope, or where one is gone.
+-- The rules of what is done to one rope, which may have been dropped.
 use Rattle.std.specs.Prelude.{
   ℕ,
   ◌≡◌,
@@ -27,16 +27,16 @@ use Rattle.tendril_run.specs.OneCell.{on_text, made_rule}
 use Rattle.tendril_run.specs.Rules.{Rule, rule_with, always, no_slot, first, with_effect}
 use Rattle.rope_run.specs.RopeCells.{RopeCell, gone, rope}
 
--- the rule of what asks for a rope's text; one that is gone refuses it, so that the effect there never comes
+-- the rule of a command that needs a rope's text: NoSuchSlot for a dropped rope, where the effect `never` never happens
 abbrev pub on_rope : {E : Type 0} → E → (List ℕ → Rule E) → RopeCell → Rule E
 on_rope never inner gone = no_slot never
 on_rope never inner (rope b) = inner b
 
--- the rule of what makes another text of a rope's text
+-- the rule of a command whose effect is a new text of a rope
 abbrev pub on_total : (List ℕ → Rule (List ℕ)) → RopeCell → Rule RopeCell
 on_total inner cell = on_rope gone (λ b. with_effect rope (inner b)) cell
 
--- no state rules out that a share of so many bytes is refused: their count may be full, and the pieces are listed anew
+-- the errors that are possible if `count` bytes are shared: Count of a block, and Memory for the list of pieces
 abbrev pub ShareMay : ℕ → Refusal → Type 0
 ShareMay count r = CountMay count r ⊎ RoomMay count r
 
@@ -58,19 +58,19 @@ abbrev pub rope_char : RopeCell → Option ℕ
 rope_char gone = None
 rope_char (rope b) = first_of (chars b)
 
--- the rule of a pop of a rope's first character, which leaves the rest
+-- the rule of a pop of a rope's first character, which leaves the remainder
 abbrev pub rope_pop_rule : RopeCell → Rule RopeCell
 rope_pop_rule cell = on_total (λ b. always (without_first encode_utf8 (chars b) b)) cell
 
--- the rule of a part of a rope
+-- the rule of a slice of a rope
 abbrev pub rope_part_rule : ℕ → ℕ → RopeCell → Rule RopeCell
 rope_part_rule offset count cell =
     on_total (λ b. rule_with (SliceMust IsUtf8 b offset count) (ShareMay count) (take count (drop offset b))) cell
 
--- the rule of a rope as a cell of the slots
+-- the rule of a new slot with a rope's text
 abbrev pub rope_take_rule : RopeCell → Rule Cell
 rope_take_rule cell = on_rope slots.gone (λ b. made_rule Utf8 LengthMust b) cell
 
--- the rule of a rope that is dropped
+-- the rule of a drop of a rope
 abbrev pub rope_drop_rule : RopeCell → Rule RopeCell
 rope_drop_rule cell = on_rope gone (λ b. always gone) cell

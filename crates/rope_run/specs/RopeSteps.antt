@@ -32,7 +32,7 @@ use Rattle.rope_run.specs.declared.command.RopeCommand.TheVariants.{
 use Rattle.rope_run.specs.declared.command.RopeReply.{RopeReply}
 use Rattle.rope_run.specs.declared.command.RopeReply.TheVariants.{Plain, MadeRope, Length}
 
--- a reply as an answer: that it is refused, or what else it says
+-- a reply as a result: its error, or the reply itself
 abbrev pub rope_answer_of : RopeReply → Result RopeReply Refusal
 rope_answer_of (Plain (reply.Refused r)) = Err r
 rope_answer_of answer = Ok answer
@@ -41,15 +41,15 @@ rope_answer_of answer = Ok answer
 abbrev pub RopeEffect : Type 1
 RopeEffect = RopeReply → Cells → Type 0
 
--- what a command replies and leaves: it is refused and changes nothing, or has its effect
+-- what a command replies and leaves: an error and no change, or its effect
 abbrev pub RopeReplied : (Cells → Rule RopeEffect) → Cells → RopeReply → Cells → Type 0
 RopeReplied by old answer new = Follows by old (rope_answer_of answer) new
 
--- what is said is answered, and nothing changes
+-- the reply is `said`, and nothing changes
 abbrev pub Says : Cells → RopeReply → RopeEffect
 Says old said answer new = (answer ≡ said) × (new ≡ old)
 
--- this refusal is answered, and nothing changes
+-- the reply is this error, and nothing changes
 abbrev pub IsRefused : Cells → Refusal → RopeEffect
 IsRefused old r answer new = Says old (Plain (reply.Refused r)) answer new
 
@@ -64,23 +64,23 @@ AddsSlot old cell answer new =
     (answer ≡ Plain (reply.Made (length old.slots)))
     × ((new.slots ≡ old.slots ++ cell ∷ []) × (new.ropes ≡ old.ropes))
 
--- one rope becomes another, and what is said is answered
+-- one rope's cell becomes `cell`, and the reply is `said`
 abbrev pub LeavesRope : Cells → ℕ → Reply → RopeCell → RopeEffect
 LeavesRope old number said cell answer new =
     (answer ≡ Plain said) × ((new.ropes ≡ slice_set old.ropes number cell) × (new.slots ≡ old.slots))
 
--- a command on the slots has its effect there, and the ropes stay
+-- a command on the slots has its effect there, and the ropes are unchanged
 abbrev pub OnSlotsAlone : Cells → Effect → RopeEffect
 OnSlotsAlone old effect answer new =
     (said : Reply) × (answer ≡ Plain said) × effect said new.slots × (new.ropes ≡ old.ropes)
 
--- the rule of a rope at a place of a table, where it becomes another, and what is said of it is answered
+-- the rule of a command that changes the rope of a number by the rule `by`, and replies what `said` says of the old one
 abbrev pub at_rope : ℕ → (RopeCell → Reply) → (RopeCell → Rule RopeCell) → Cells → Rule RopeEffect
 at_rope number said by old =
     with_effect (LeavesRope old number (said (rope_at old.ropes number))) (by (rope_at old.ropes number))
 
--- The rule of a command, from the cells before it: which refusal must come, which may, and what it replies and leaves
--- where none does. `class` sorts characters.
+-- The rule of a command, from the cells before it: the required error, the permitted ones, and what it replies and
+-- leaves without an error. `class` returns the class of a character.
 abbrev pub rope_rule_of : (ℕ → ℕ) → RopeCommand → Cells → Rule RopeEffect
 rope_rule_of class (OnSlots command) old = with_effect (OnSlotsAlone old) (rule_of class command old.slots)
 rope_rule_of class RopeNew old = always (AddsRope old (rope []))

@@ -10,10 +10,10 @@ use tendril_run::Classifier;
 use tendril_text::Atomicity;
 use tendril_text::block::Refusal;
 
-/// Carries out commands in order and answers one reply a command.
+/// Carries out commands in order, and returns one reply for each.
 ///
-/// Room for all replies, slots and ropes is made before the first command, so that memory is refused either then, and
-/// nothing is changed, or by a reply.
+/// Returns `Memory` if the replies or more slots and ropes can't be allocated; that is before the first command, and no
+/// cell has changed. A later error is in the reply to its command.
 pub fn run_ropes<A: Atomicity, C: Classifier>(
     table: &mut RopeTable<A>,
     commands: &[RopeCommand],
@@ -27,12 +27,12 @@ pub fn run_ropes<A: Atomicity, C: Classifier>(
     ensures err { OnErr result (table.new.cells ≡ table.old.cells) }
 {
     let replies = run_each(table, commands, classifier);
-    // Both tell that their cells are valid.
+    // The contracts of both calls state that the cells are valid.
     let _ = (table.slots().len(), table.ropes());
     replies
 }
 
-// The same, where nothing is said of what cells are valid.
+// Does what `run_ropes` does. Its contract doesn't state that the cells are valid.
 fn run_each<A: Atomicity, C: Classifier>(
     table: &mut RopeTable<A>,
     commands: &[RopeCommand],

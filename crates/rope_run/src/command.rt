@@ -1,36 +1,36 @@
-//! What a table with ropes is asked, and what it answers.
+//! Commands on a table with ropes, and their replies.
 
 use tendril_lines::{Command, Reply};
 
-/// What is asked of a table with ropes. Slots and ropes are named by their numbers, each from 0.
+/// A command on a table with ropes. Slots and ropes are numbered, each from 0.
 #[derive(Debug, Drop)]
 pub enum RopeCommand {
     /// A command on the slots.
     OnSlots(Command),
-    /// A new rope, which is empty.
+    /// Adds an empty rope.
     RopeNew,
-    /// The text of the slot, which is in UTF-8, at the end of the rope.
+    /// Pushes the text of the slot, which is in UTF-8, onto the rope.
     RopePush(usize, usize),
-    /// The text of the second rope at the end of the first.
+    /// Pushes the text of the second rope onto the first.
     RopeAppend(usize, usize),
-    /// The number of the rope's bytes.
+    /// Returns the number of the rope's bytes.
     RopeLen(usize),
-    /// The first character is taken out of the rope.
+    /// Pops the first character of the rope.
     RopePopChar(usize),
-    /// A new rope with the slice of the text from the offset on, of this length.
+    /// Adds a rope with a slice of the rope: the offset, and the number of bytes.
     RopeSub(usize, u64, u64),
-    /// A new slot with the rope's text.
+    /// Adds a slot with the rope's text.
     RopeTake(usize),
-    /// The rope is gone for good. Its number isn't used again.
+    /// Drops the rope. Its number isn't used again.
     RopeDrop(usize),
 }
 
-/// What is answered to a command.
+/// The reply to a command.
 #[derive(Debug, Drop)]
 pub enum RopeReply {
-    /// What a table without ropes answers too.
+    /// A reply that a table without ropes has too.
     Plain(Reply),
-    /// It is done, and the text is in the new rope of this number.
+    /// The command is done, and its text is in the new rope of this number.
     MadeRope(usize),
     /// The number of bytes.
     Length(u64),

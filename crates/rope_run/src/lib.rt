@@ -1,7 +1,7 @@
-//! Commands over tables of texts and ropes, and the lines in which they are written.
+//! Commands on tables of texts and ropes, and the lines of a script that has them.
 //!
-//! A table is seen by contracts as two lists of independent cells. What its texts and ropes share is never seen: each
-//! command changes the cell that it names, or adds one, and leaves all others.
+//! Contracts see a table as two lists of independent cells, but not what its texts and ropes share: each command
+//! changes the cell that it names, or adds one, and leaves all others.
 #![tactic(auto)]
 
 mod chain;

@@ -9,13 +9,13 @@ use std::alloc::Global;
 use tendril_block::Refusal;
 use tendril_lines::{Command, LineCommand, Value, Values, Word, parse};
 
-/// The command of a line without its line feed, or `None` where no command has this line.
+/// Returns the command of a line, given without its line feed, or `None` if it is no command's line.
 ///
-/// The words of a line are parted by one space each. A rope or a slot is a decimal number up to 4294967295 without
+/// The words of a line are separated by one space each. A rope or a slot is a decimal number up to 4294967295 without
 /// leading zeros, the offset and the number of bytes of `rsub` are such numbers up to 18446744073709551615: `rope`,
 /// `rpush R S`, `rjoin R R`, `rlen R`, `rpop R`, `rsub R O N`, `rtake R`, `rdrop R`, and every line of `parse_line`.
 ///
-/// Allocates for the words of the line, once, and for what the command carries. Returns Memory only.
+/// Allocates the list of words, once, and the bytes or units of the command. The only error is `Memory`.
 pub fn parse_rope_line(alloc: Global, line: &[u8]) -> Result<Option<RopeCommand>, Refusal>
     ensures found { IfOk result (λ found. (c : _) → (found ≡ Some c) ↔ IsRopeLine c line.now) }
     ensures refusal { IfErr result (λ r. r ≡ Refusal.Memory) }
@@ -37,7 +37,7 @@ impl LineCommand for RopeCommand {
     }
 }
 
-// What the words after a verb may stand for.
+// The kinds of the words after a verb.
 fn shape(verb: &[u8]) -> Option<&'static [Word]>
     ensures { (c : _) → verb.now ≡ (rope_words_of c).0
         → IsSomeAnd result (λ shape. shape.now ≡ shape_of (rope_words_of c).1) }
@@ -52,7 +52,7 @@ fn shape(verb: &[u8]) -> Option<&'static [Word]>
     }
 }
 
-// The command of a verb and what the words after it stand for.
+// The command of a verb and the values of the words after it.
 fn from_values(verb: &[u8], values: Values) -> Option<RopeCommand>
     ensures { (c : _) → (result ≡ Some c) ↔ Spells (rope_words_of c) verb.now values }
 {
@@ -63,7 +63,7 @@ fn from_values(verb: &[u8], values: Values) -> Option<RopeCommand>
     Some(RopeCommand::OnSlots(command))
 }
 
-// The command on ropes of a verb and what the words after it stand for.
+// The command on ropes of a verb and the values of the words after it.
 fn on_ropes(verb: &[u8], values: &Values) -> Option<RopeCommand>
     ensures { (c : _) → (result ≡ Some c) ↔ OnRopes c × Spells (rope_words_of c) verb.now values.now }
 {

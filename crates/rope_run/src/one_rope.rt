@@ -1,4 +1,4 @@
-//! What a command does to one rope, or where one is gone.
+//! What a command does to one rope, which may have been dropped.
 ghost use Rattle.std.specs.Prelude.{◌≡◌, IfErr, OnOk};
 ghost use Rattle.rope_run.specs.RopeCells.{IsRopeCell, gone as gone_cell, rope as rope_cell};
 ghost use Rattle.rope_run.specs.RopeOf.{rope_cell_of};
@@ -13,7 +13,7 @@ use tendril_text::block::Refusal;
 use tendril_text::fmt::UTF8;
 use tendril_text::{Atomicity, Tendril};
 
-/// Puts the text of a slot at the end of the rope.
+/// Pushes the text of a slot onto the rope, and returns the reply.
 pub(crate) fn push<A: Atomicity>(rope: &mut Option<Rope<A>>, slot: &Slot<A>) -> Reply
     ensures done { Changed (rope_push_rule (cell_of slot.now)) (rope_cell_of rope.old) result (rope_cell_of rope.new) }
     ensures kept { IsRopeCell (rope_cell_of rope.old) → IsRopeCell (rope_cell_of rope.new) }
@@ -25,7 +25,7 @@ pub(crate) fn push<A: Atomicity>(rope: &mut Option<Rope<A>>, slot: &Slot<A>) -> 
     }
 }
 
-// Puts a text at the rope's end, which shares it.
+// Pushes a clone of a text onto the rope: they share the bytes.
 fn push_text<A: Atomicity>(rope: &mut Rope<A>, text: &Tendril<UTF8, A>) -> Result<(), Refusal>
     ensures done { Changes (share_rule text.now.bytes) rope.old.bytes result rope.new.bytes }
     ensures kept { IsRopeCell (rope_cell rope.old.bytes) → IsRopeCell (rope_cell rope.new.bytes) }
@@ -41,7 +41,7 @@ fn push_text<A: Atomicity>(rope: &mut Rope<A>, text: &Tendril<UTF8, A>) -> Resul
     Ok(())
 }
 
-/// Puts the pieces of another rope at the end of the rope.
+/// Appends the pieces of another rope, and returns the reply.
 pub(crate) fn append<A: Atomicity>(rope: &mut Option<Rope<A>>, more: Rope<A>) -> Reply
     ensures done { Changed (append_rule (rope_cell more.bytes)) (rope_cell_of rope.old) result (rope_cell_of rope.new) }
     ensures kept { IsRopeCell (rope_cell_of rope.old) → IsRopeCell (rope_cell_of rope.new) }
@@ -63,7 +63,7 @@ fn append_pieces<A: Atomicity>(rope: &mut Rope<A>, more: Rope<A>) -> Result<(), 
     Ok(())
 }
 
-/// Takes the first character out of the rope.
+/// Pops the rope's first character, and returns the reply.
 pub(crate) fn pop_char<A: Atomicity>(rope: &mut Option<Rope<A>>) -> Reply
     ensures done { Answered rope_pop_rule (λ cell. Reply.Char (rope_char cell))
         (rope_cell_of rope.old) result (rope_cell_of rope.new) }
@@ -79,7 +79,7 @@ pub(crate) fn pop_char<A: Atomicity>(rope: &mut Option<Rope<A>>) -> Reply
     }
 }
 
-/// The rope is gone.
+/// Drops the rope, and returns the reply.
 pub(crate) fn drop_rope<A: Atomicity>(rope: &mut Option<Rope<A>>) -> Reply
     ensures done { Changed rope_drop_rule (rope_cell_of rope.old) result (rope_cell_of rope.new) }
     ensures gone { rope_cell_of rope.new ≡ gone_cell }
@@ -91,7 +91,7 @@ pub(crate) fn drop_rope<A: Atomicity>(rope: &mut Option<Rope<A>>) -> Reply
     Reply::Done
 }
 
-/// A rope tells where it is read that it is valid, and not too long. Costs nothing.
+/// Reads a rope, since contracts of reads state that it is valid and not too long. Costs nothing.
 pub(crate) fn read<A: Atomicity>(rope: &Rope<A>)
     ensures { IsRopeCell (rope_cell rope.now.bytes) }
 {
@@ -99,7 +99,7 @@ pub(crate) fn read<A: Atomicity>(rope: &Rope<A>)
     let _pieces = rope.pieces();
 }
 
-// The reply to a call that was done or refused.
+// The reply to a call that returned Ok or an error.
 fn reply_of(done: Result<(), Refusal>) -> Reply
     ensures ok { OnOk done (result ≡ Reply.Done) }
     ensures err { IfErr done (λ r. result ≡ Reply.Refused r) }

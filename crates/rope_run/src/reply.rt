@@ -7,9 +7,9 @@ use std::alloc::Global;
 use tendril_block::Refusal;
 use tendril_lines::print_reply;
 
-/// A reply's line, without its line feed: `rope N` for a new rope, `length N`, or what `print_reply` prints.
+/// Returns a reply's line, without its line feed: `rope N` for a new rope, `length N`, or what `print_reply` prints.
 ///
-/// Takes memory for the line, and refuses Memory alone.
+/// Allocates the line. The only error is `Memory`.
 pub fn print_rope_reply(alloc: Global, reply: &RopeReply) -> Result<String, Refusal>
     ensures printed { IfOk result (λ text. string_bytes text ≡ rope_printed reply.now) }
     ensures refusal { IfErr result (λ r. r ≡ Refusal.Memory) }

@@ -18,7 +18,7 @@ use tendril_text::block::Refusal;
 use tendril_text::fmt::UTF8;
 use tendril_text::{Atomicity, Tendril};
 
-/// Slots and ropes, each numbered from 0, each with a text or gone.
+/// A table of slots and ropes, each numbered from 0, each with a text or dropped.
 #[derive(Drop)]
 pub struct RopeTable<A: Atomicity> {
     table: Table<A>,
@@ -39,7 +39,7 @@ impl<A: Atomicity> Model for RopeTable<A> {
 }
 
 impl<A: Atomicity> RopeTable<A> {
-    /// The slots of a table, and no ropes. Takes no memory.
+    /// Returns a table with the slots of another, and no ropes. Allocates nothing.
     pub fn new(alloc: Global, table: Table<A>) -> Self
         ensures slots { result.cells.slots ≡ table.cells }
         ensures ropes { result.cells.ropes ≡ [] }
@@ -52,7 +52,7 @@ impl<A: Atomicity> RopeTable<A> {
         }
     }
 
-    /// The slots.
+    /// Borrows the slots.
     pub fn slots(&self) -> &Table<A>
         ensures cells { result.now.cells ≡ self.now.cells.slots }
         ensures room { result.now.room ≡ self.now.slot_room }
@@ -60,7 +60,7 @@ impl<A: Atomicity> RopeTable<A> {
         &self.table
     }
 
-    /// How many ropes there are, the ones that are gone too.
+    /// Returns the number of ropes, dropped ones included.
     pub fn ropes(&self) -> usize
         ensures count { result ≡ length self.now.cells.ropes }
         ensures valid { All IsRopeCell self.now.cells.ropes }
@@ -68,7 +68,7 @@ impl<A: Atomicity> RopeTable<A> {
         self.ropes.len()
     }
 
-    /// The rope of a number, `None` where it is gone or not there.
+    /// Borrows the rope of a number, or returns `None` if it was dropped or never created.
     pub fn rope(&self, number: usize) -> Option<&Rope<A>>
         ensures { MatchOption result (rope_at self.now.cells.ropes number ≡ gone_cell)
             (λ r. rope_at self.now.cells.ropes number ≡ rope_cell r.now.bytes) }
@@ -76,7 +76,7 @@ impl<A: Atomicity> RopeTable<A> {
         self.ropes.get(number)?.as_ref()
     }
 
-    /// Makes capacity for `slots` more slots and `ropes` more ropes. Capacity that was there stays.
+    /// Reserves capacity for `more` slots and `more` ropes. The only error is `Memory`; then no cell has changed.
     pub fn reserve(&mut self, more: usize) -> Result<(), Refusal>
         ensures slots { OnOk result (more ≤ self.new.slot_room) }
         ensures ropes { OnOk result (more ≤ self.new.rope_room) }
@@ -90,7 +90,7 @@ impl<A: Atomicity> RopeTable<A> {
         Ok(())
     }
 
-    /// Carries out one command, where there is room for the slot or the rope that it may make.
+    /// Carries out one command, and returns its reply. The caller proves capacity for one more slot and rope.
     pub fn step<C: Classifier>(&mut self, command: &RopeCommand, classifier: &C) -> RopeReply
         requires slot { 1 ≤ self.old.slot_room }
         requires rope { 1 ≤ self.old.rope_room }
@@ -117,7 +117,7 @@ impl<A: Atomicity> RopeTable<A> {
         self.alloc
     }
 
-    // Puts a rope at the end, where there is room.
+    // Adds a rope, for which there is capacity.
     fn add(&mut self, rope: Rope<A>) -> RopeReply
         requires { 1 ≤ self.old.rope_room }
         ensures adds { AddsRope self.old.cells (rope_cell rope.bytes) result self.new.cells }
@@ -130,7 +130,7 @@ impl<A: Atomicity> RopeTable<A> {
         RopeReply::MadeRope(number)
     }
 
-    // Puts a rope at the end, where there is room and it could be made.
+    // Adds a rope, for which there is capacity, or replies with the error.
     fn add_made(&mut self, made: Result<Rope<A>, Refusal>) -> RopeReply
         requires { 1 ≤ self.old.rope_room }
         ensures added { MatchResult made (λ rope. AddsRope self.old.cells (rope_cell rope.bytes) result self.new.cells)
@@ -144,7 +144,7 @@ impl<A: Atomicity> RopeTable<A> {
         }
     }
 
-    // Puts a text at the end of the slots, where there is room and it could be made.
+    // Adds a slot with a text, for which there is capacity, or replies with the error.
     fn add_slot(&mut self, made: Result<Tendril<UTF8, A>, Refusal>) -> RopeReply
         requires { 1 ≤ self.old.slot_room }
         ensures added { MatchResult made
@@ -173,7 +173,7 @@ impl<A: Atomicity> RopeTable<A> {
         }
     }
 
-    // A part of a rope, which shares its pieces.
+    // A slice of a rope, which shares its pieces.
     fn part(&self, rope: usize, offset: u64, count: u64) -> Result<Rope<A>, Refusal>
         ensures { GivesBy (rope_part_rule offset count (rope_at self.now.cells.ropes rope)) (λ r. rope_cell r.bytes) result }
     {
@@ -183,7 +183,7 @@ impl<A: Atomicity> RopeTable<A> {
         }
     }
 
-    // The bytes of a rope as one text, copied.
+    // A copy of a rope's bytes, as one text.
     fn whole(&self, rope: usize) -> Result<Tendril<UTF8, A>, Refusal>
         ensures { GivesBy (rope_take_rule (rope_at self.now.cells.ropes rope)) (λ t. text_cell kind.Utf8 t.bytes) result }
     {
@@ -193,7 +193,7 @@ impl<A: Atomicity> RopeTable<A> {
         }
     }
 
-    // A clone of a rope, to be put at the end of another, where both together aren't too long.
+    // A clone of a rope that is to be appended to another, if both together aren't too long.
     fn shared(&self, to: usize, from: usize) -> Result<Rope<A>, Refusal>
         ensures { let from = rope_at self.now.cells.ropes from in
             let by = append_rule from (rope_at self.now.cells.ropes to) in
@@ -224,7 +224,7 @@ impl<A: Atomicity> RopeTable<A> {
         }
     }
 
-    // The rope that is put at the end is shared first, so that one rope may be put at its own end.
+    // Appends a clone of the second rope, so that a rope may be appended to itself.
     fn append(&mut self, to: usize, from: usize) -> RopeReply
         ensures step { (class : _) → RopeStep class self.old.cells (RopeCommand.RopeAppend to from) result self.new.cells }
         ensures slots { self.old.slot_room ≡ self.new.slot_room }

@@ -1,15 +1,15 @@
--- Where bytes that are UTF-8 may be cut.
+-- Character boundaries in bytes that are UTF-8.
 use Rattle.std.proofs.Common.{◌≡◌, ℕ, zero, suc, ◌+◌, ◌-◌, ◌<◌, ◌≤◌, List, [], ◌∷◌, ◌++◌, length, get_or, take, drop, refl, sym, ap, ◌∙◌, subst, arith, append-nil}
 use Rattle.std.specs.Prelude.{IsUtf8, ◌↔◌}
 use Rattle.std.specs.Str.{IsCharBoundary}
 use Rattle.std.proofs.lemmas.Str.{IsUtf8-nil, IsUtf8-drop, IsUtf8-between, IsCharBoundary-start, IsCharBoundary-from_take, IsCharBoundary-from_rest}
 use Rattle.std.proofs.lemmas.List.{get_or-drop, get_or-take, get_or_append_left, length-drop, length-take, length-append, take_at, take-append-le, drop-append-le, drop_at, take_all}
 
--- a place where two lists have the same byte
+-- if two lists have the same byte at two offsets, both offsets are character boundaries or neither is
 pub same_cut : (b p : List ℕ) (at i : ℕ) → at < length b → i < length p → get_or b at 0 ≡ get_or p i 0 → IsCharBoundary p i ↔ IsCharBoundary b at
 same_cut b p at i h k e = (λ c. (omega arith, λ _. subst (λ x. 128 ≤ x → 192 ≤ x) (sym e) (c.1 k)), λ c. (omega arith, λ _. subst (λ x. 128 ≤ x → 192 ≤ x) e (c.1 h)))
 
--- a text that stands within another begins and ends where that may be cut
+-- UTF-8 that is within UTF-8 begins and ends at character boundaries
 pub begins_at_cut : (b : List ℕ) (offset count : ℕ) → offset + count ≤ length b → 0 < count → IsUtf8 (take count (drop offset b)) → IsCharBoundary b offset
 begins_at_cut b offset count h some u =
     let len : length (take count (drop offset b)) ≡ count = simp (length-take, length-drop) (omega arith) in
@@ -25,7 +25,7 @@ between_cuts b offset count u c d =
     let e : offset + count - offset ≡ count = omega arith in
     subst (λ n. IsUtf8 (take n (drop offset b))) e (IsUtf8-between b offset (offset + count) u (omega arith) c d)
 
--- A text that begins within p and goes on in q, where p is a text: what it has of p is one, and so is the rest.
+-- A text that begins within p and goes on in q, if p is UTF-8: what it has of p is UTF-8, and so is its remainder.
 pub record IsParted (p q : List ℕ) (from left n : ℕ) : Type 0 where
   pub valid : IsUtf8 (take n (drop from p))
   pub rest_valid : IsUtf8 (take (left - n) (drop 0 q))
@@ -46,7 +46,7 @@ take_past [] ys n h = ap (λ m. take m ys) (omega arith)
 take_past (x ∷ xs) ys zero h = absurd (omega arith)
 take_past (x ∷ xs) ys (suc n) h = ap (λ l. x ∷ l) (take_past xs ys n (omega arith) ∙ ap (λ m. xs ++ take m ys) (omega arith))
 
--- what follows a text in a text is one
+-- what follows UTF-8 in UTF-8 is UTF-8
 pub behind_text : (xs ys : List ℕ) → IsUtf8 xs → IsUtf8 (xs ++ ys) → IsUtf8 ys
 behind_text xs ys v u =
     let cut : IsCharBoundary (xs ++ ys) (length xs) = IsCharBoundary-from_take (xs ++ ys) (length xs) u (rw length-append (omega arith)) (rw (take_at xs ys (length xs) refl) v) in

@@ -1,4 +1,4 @@
--- A rope of which a decoder has sent nothing yet.
+-- A rope to which a decoder has sent nothing yet.
 use Rattle.std.proofs.Common.{◌≡◌, [], ap, ◌∙◌}
 use Rattle.std.specs.Prelude.{chars}
 use Rattle.std.proofs.lemmas.Str.{IsUtf8-nil, chars-nil}

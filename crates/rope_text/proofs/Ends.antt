@@ -1,4 +1,4 @@
--- Where pieces end: what a push, an append, a pop and a cut do to that.
+-- The ends of pieces after a push, an append, a pop and a cut.
 use Rattle.std.proofs.Common.{◌≡◌, ℕ, zero, suc, ◌+◌, ◌-◌, ◌%◌, ◌^◌, ◌<◌, ◌≤◌, List, [], ◌∷◌, ◌++◌, length, get_or, map, take, drop, refl, sym, ap, ◌∙◌, arith, inl, inr}
 use Rattle.std.proofs.lemmas.Bool.{cases_lt}
 use Rattle.std.proofs.lemmas.List.{length-append, length-map, length-take, length_push, get_or-map, get_or-append-add, get_or_append_left, get_or_push, get_or_read, get_or-take, take-append-le, take-take, take_all}
@@ -7,7 +7,7 @@ use Rattle.rope_text.proofs.Joined.{joined-append, joined_push, length_joined_bo
 use Rattle.rope_text.specs.Ropes.{AreEnds, bytes_of_all}
 use Rattle.tendril_text.specs.Texts.{Text}
 
--- the place that an end stands for
+-- the offset that an end denotes
 pub unwrapped : (r s b : ℕ) → r < 2 ^ 64 → b < 2 ^ 64 → (r + s) % 2 ^ 64 ≡ (s + b) % 2 ^ 64 → r ≡ b
 unwrapped r s b h k e = omega arith
 
@@ -32,7 +32,7 @@ AreEnds-push xs t s e ends is h =
       ];
     }
 
--- the first piece is gone
+-- the first piece is removed
 pub AreEnds-rest : (x : Text) (rest : List Text) (s n : ℕ) (ends : List ℕ) → n ≡ (s + length x.bytes) % 2 ^ 64 → AreEnds (x ∷ rest) s ends → AreEnds rest n (drop 1 ends)
 AreEnds-rest x rest s n [] is h = absurd (let l = h.len in omega arith)
 AreEnds-rest x rest s n (e ∷ ends) is h = record {
@@ -45,7 +45,7 @@ AreEnds-rest x rest s n (e ∷ ends) is h = record {
       sym same ∙ was ∙ ap (λ m. (s + m) % 2 ^ 64) size ∙ sym (wrapped_twice s (length x.bytes) (length (bytes_of_all (take (k + 1) rest)))) ∙ ap (λ m. (m + length (bytes_of_all (take (k + 1) rest))) % 2 ^ 64) (sym is);
 }
 
--- the first piece has lost so many bytes at its front
+-- the first piece has lost `lost` bytes at its front
 pub AreEnds-left : (x left : Text) (rest : List Text) (s n lost : ℕ) (ends : List ℕ) → length x.bytes ≡ lost + length left.bytes → n ≡ (s + lost) % 2 ^ 64 → AreEnds (x ∷ rest) s ends → AreEnds (left ∷ rest) n ends
 AreEnds-left x left rest s n lost ends e is h = record {
   len = h.len;
@@ -56,7 +56,7 @@ AreEnds-left x left rest s n lost ends e is h = record {
       h.at k b ∙ ap (λ j. (s + j) % 2 ^ 64) both ∙ sym (wrapped_twice s lost (length (bytes_of_all (take (k + 1) (left ∷ rest))))) ∙ ap (λ j. (j + length (bytes_of_all (take (k + 1) (left ∷ rest)))) % 2 ^ 64) (sym is);
 }
 
--- the same place, from the start of either list
+-- the same offset, from the start of either list
 moved_on : (s t by n m : ℕ) → (t + by) % 2 ^ 64 ≡ (s + n) % 2 ^ 64 → ((t + m) % 2 ^ 64 + by) % 2 ^ 64 ≡ (s + (n + m)) % 2 ^ 64
 moved_on s t by n m e = omega arith
 
@@ -64,7 +64,7 @@ moved_on s t by n m e = omega arith
 pub moved_between : (s t m : ℕ) → t < 2 ^ 64 → (t + ((s + m) % 2 ^ 64 + (2 ^ 64 - t)) % 2 ^ 64) % 2 ^ 64 ≡ (s + m) % 2 ^ 64
 moved_between s t m h = omega arith
 
--- the pieces of another list stand behind, and their ends are moved on
+-- the pieces of another list are appended, and their ends are moved
 pub AreEnds-append : (xs ys : List Text) (s t by : ℕ) (ends more : List ℕ) → (t + by) % 2 ^ 64 ≡ (s + length (bytes_of_all xs)) % 2 ^ 64 → AreEnds xs s ends → AreEnds ys t more → AreEnds (xs ++ ys) s (ends ++ map (λ e. (e + by) % 2 ^ 64) more)
 AreEnds-append xs ys s t by ends more e h m =
     let moved = map (λ e. (e + by) % 2 ^ 64) more in
@@ -90,7 +90,7 @@ AreEnds-append xs ys s t by ends more e h m =
       ];
     }
 
--- the first pieces alone
+-- only the first pieces
 pub AreEnds-take : (xs : List Text) (n s : ℕ) (ends : List ℕ) → n ≤ length xs → AreEnds xs s ends → AreEnds (take n xs) s (take n ends)
 AreEnds-take xs n s ends b h =
     let l = h.len in
@@ -103,14 +103,14 @@ AreEnds-take xs n s ends b h =
           ∙ ap (λ zs. (s + length (bytes_of_all zs)) % 2 ^ 64) (sym (take-take (k + 1) n xs (omega arith)));
     }
 
--- the same start, past 2 ^ 64
+-- the same start, modulo 2 ^ 64
 AreEnds-start : (xs : List Text) (s n : ℕ) (ends : List ℕ) → n ≡ (s + 0) % 2 ^ 64 → AreEnds xs s ends → AreEnds xs n ends
 AreEnds-start xs s n ends is h = record {
   len = h.len;
   at = λ k b. h.at k b ∙ let m = length (bytes_of_all (take (k + 1) xs)) in let e : (s + m) % 2 ^ 64 ≡ (n + m) % 2 ^ 64 = omega arith in e;
 }
 
--- the first pieces are gone
+-- the first pieces are removed
 pub AreEnds-drop : (xs : List Text) (k s n : ℕ) (ends : List ℕ) → k ≤ length xs → n ≡ (s + length (bytes_of_all (take k xs))) % 2 ^ 64 → AreEnds xs s ends → AreEnds (drop k xs) n (drop k ends)
 AreEnds-drop xs zero s n ends b is h = AreEnds-start xs s n ends is h
 AreEnds-drop [] (suc k) s n ends b is h = absurd (omega arith)
@@ -120,7 +120,7 @@ AreEnds-drop (x ∷ xs) (suc k) s n (e ∷ ends) b is h =
     let size : length (bytes_of_all (take (suc k) (x ∷ xs))) ≡ length x.bytes + length (bytes_of_all (take k xs)) = length-append x.bytes (bytes_of_all (take k xs)) in
     AreEnds-drop xs k mid n ends (omega arith) (is ∙ ap (λ m. (s + m) % 2 ^ 64) size ∙ sym (wrapped_twice s (length x.bytes) (length (bytes_of_all (take k xs))))) (AreEnds-rest x xs s mid (e ∷ ends) refl h)
 
--- where a piece ends, counted from the start
+-- the offset where a piece ends, by its end and the start
 pub end_is : (xs : List Text) (s k e total : ℕ) (ends : List ℕ) → s < 2 ^ 64 → total < 2 ^ 64 → total ≡ length (bytes_of_all xs) → k < length xs → e ≡ get_or ends k e → AreEnds xs s ends → (e + (2 ^ 64 - s)) % 2 ^ 64 ≡ length (bytes_of_all (take (k + 1) xs))
 end_is xs s k e total ends small most size b read h =
     let n = length (bytes_of_all (take (k + 1) xs)) in

@@ -1,4 +1,4 @@
--- The bytes of pieces, one behind the other.
+-- The bytes of pieces, one after another.
 use Rattle.std.proofs.Common.{◌≡◌, ℕ, ◌+◌, ◌<◌, List, [], ◌∷◌, ◌++◌, length, get_or, take, drop, refl, sym, ap, ◌∙◌, arith, append-nil}
 use Rattle.std.specs.Prelude.{IsUtf8, All}
 use Rattle.std.proofs.lemmas.Str.{IsUtf8-nil, IsUtf8-append}
@@ -14,16 +14,16 @@ joined-append xs ys = flat_map-append (λ t. t.bytes) xs ys
 pub joined_push : (xs : List Text) (t : Text) → bytes_of_all (xs ++ t ∷ []) ≡ bytes_of_all xs ++ t.bytes
 joined_push xs t = joined-append xs (t ∷ []) ∙ ap (λ l. bytes_of_all xs ++ l) (append-nil t.bytes)
 
--- one piece more
+-- one more piece
 pub length_joined_more : (xs : List Text) (i : ℕ) → i < length xs → length (bytes_of_all (take (i + 1) xs)) ≡ length (bytes_of_all (take i xs)) + length (piece_at xs i).bytes
 length_joined_more xs i h =
     ap (λ l. length (bytes_of_all l)) (take_more xs i no_text h) ∙ ap length (joined_push (take i xs) (piece_at xs i)) ∙ length-append (bytes_of_all (take i xs)) (piece_at xs i).bytes
 
--- one piece less
+-- the bytes of a piece, and those after it
 pub joined_drop_more : (xs : List Text) (i : ℕ) → i < length xs → bytes_of_all (drop i xs) ≡ (piece_at xs i).bytes ++ bytes_of_all (drop (i + 1) xs)
 joined_drop_more xs i h = ap bytes_of_all (drop_more xs i no_text h)
 
--- the pieces before a number and from it on
+-- the pieces before an index, and from it on
 pub length_joined_both : (xs : List Text) (i : ℕ) → length (bytes_of_all (take i xs)) + length (bytes_of_all (drop i xs)) ≡ length (bytes_of_all xs)
 length_joined_both xs i =
     sym (length-append (bytes_of_all (take i xs)) (bytes_of_all (drop i xs))) ∙ ap length (sym (joined-append (take i xs) (drop i xs))) ∙ ap (λ l. length (bytes_of_all l)) (take-append-drop i xs)
@@ -40,7 +40,7 @@ pub joined_valid : (xs : List Text) → All IsPiece xs → IsUtf8 (bytes_of_all 
 joined_valid [] h = IsUtf8-nil
 joined_valid (t ∷ xs) h = IsUtf8-append t.bytes (bytes_of_all xs) (All-head IsPiece t xs h).valid (joined_valid xs (All-tail IsPiece t xs h))
 
--- pieces have bytes
+-- if there are pieces, there are bytes
 pub length_joined_some : (xs : List Text) → All IsPiece xs → 0 < length xs → 0 < length (bytes_of_all xs)
 length_joined_some [] each h = absurd (omega arith)
 length_joined_some (x ∷ xs) each h =
@@ -53,7 +53,7 @@ pub no_pieces : (xs : List Text) → All IsPiece xs → length (bytes_of_all xs)
 no_pieces [] each h = refl
 no_pieces (x ∷ xs) each h = let some = length_joined_some (x ∷ xs) each (omega arith) in absurd (omega arith)
 
--- where there are bytes, there are pieces
+-- if there are bytes, there are pieces
 pub some_pieces : (xs : List Text) (at : ℕ) → at < length (bytes_of_all xs) → 0 < length xs
 some_pieces [] at h = absurd (omega arith)
 some_pieces (x ∷ xs) at h = omega arith

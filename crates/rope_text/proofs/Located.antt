@@ -1,4 +1,4 @@
--- Places in pieces.
+-- Offsets in pieces.
 use Rattle.std.proofs.Common.{◌≡◌, ℕ, ◌+◌, ◌-◌, ◌<◌, ◌≤◌, List, ◌++◌, length, get_or, take, drop, refl, sym, ap, ◌∙◌, arith, inl, inr}
 use Rattle.std.specs.Prelude.{◌↔◌, All}
 use Rattle.std.specs.Str.{IsCharBoundary}
@@ -12,19 +12,19 @@ use Rattle.rope_text.proofs.Shared.{cut_at_end, drop_joined}
 use Rattle.rope_text.specs.Ropes.{IsPiece, bytes_of_all, no_text, piece_at}
 use Rattle.tendril_text.specs.Texts.{Text}
 
--- a byte of a piece stands within all
+-- a byte of a piece is one of all bytes
 pub in_joined : (xs : List Text) (i j : ℕ) → i < length xs → j < length (piece_at xs i).bytes → length (bytes_of_all (take i xs)) + j < length (bytes_of_all xs)
 in_joined xs i j h k =
     let a = length_joined_both xs i in
     let b : length (bytes_of_all (drop i xs)) ≡ length (piece_at xs i).bytes + length (bytes_of_all (drop (i + 1) xs)) = ap length (joined_drop_more xs i h) ∙ length-append (piece_at xs i).bytes (bytes_of_all (drop (i + 1) xs)) in
     omega arith
 
--- all may be cut there exactly where the piece may
+-- all bytes have a character boundary at a byte of a piece exactly if the piece has
 pub cut_in_piece : (xs : List Text) (i j at : ℕ) → i < length xs → j < length (piece_at xs i).bytes → length (bytes_of_all (take i xs)) + j ≡ at → IsCharBoundary (piece_at xs i).bytes j ↔ IsCharBoundary (bytes_of_all xs) at
 cut_in_piece xs i j at h k e =
     same_cut (bytes_of_all xs) (piece_at xs i).bytes at j (let n = in_joined xs i j h k in omega arith) k (ap (λ n. get_or (bytes_of_all xs) n 0) (sym e) ∙ joined_byte xs i j h k)
 
--- all may be cut where a piece begins, and behind the last
+-- all bytes have a character boundary where a piece begins, and after the last one
 pub cut_between : (xs : List Text) (i : ℕ) → All IsPiece xs → IsCharBoundary (bytes_of_all xs) (length (bytes_of_all (take i xs)))
 cut_between xs i each =
     let a = bytes_of_all (take i xs) in
@@ -32,7 +32,7 @@ cut_between xs i each =
     let front : take (length a) (bytes_of_all xs) ≡ a = ap (λ l. take (length a) l) (joined_both xs i) ∙ take_at a (bytes_of_all (drop i xs)) (length a) refl in
     IsCharBoundary-from_take (bytes_of_all xs) (length a) (joined_valid xs each) (omega arith) (rw front (joined_valid (take i xs) (All-take IsPiece i xs each)))
 
--- all may be cut behind so many bytes of a piece exactly where the piece may
+-- all bytes have a character boundary after j bytes of a piece exactly if the piece has
 pub cut_behind : (xs : List Text) (i j : ℕ) → All IsPiece xs → i < length xs → j ≤ length (piece_at xs i).bytes → IsCharBoundary (piece_at xs i).bytes j ↔ IsCharBoundary (bytes_of_all xs) (length (bytes_of_all (take i xs)) + j)
 cut_behind xs i j each h k =
     elim (cases_lt j (length (piece_at xs i).bytes)) [
@@ -43,20 +43,20 @@ cut_behind xs i j each h k =
           (λ _. rw is (cut_between xs (i + 1) each), λ _. cut_at_end (piece_at xs i).bytes j (omega arith))
     ]
 
--- the piece that is read at a number
+-- the piece that is read at an index
 pub piece_read : (xs : List Text) (i : ℕ) (t : Text) → i < length xs → t ≡ get_or xs i t → length t.bytes ≡ length (piece_at xs i).bytes
 piece_read xs i t h e = ap (λ (u : Text). length u.bytes) (get_or_read xs i t h e no_text)
 
--- what the pieces before a number have, with the one that is read there
+-- the length of the pieces before an index, and of the one that is read there
 pub length_read_more : (xs : List Text) (i : ℕ) (t : Text) → i < length xs → t ≡ get_or xs i t → length (bytes_of_all (take (i + 1) xs)) ≡ length (bytes_of_all (take i xs)) + length t.bytes
 length_read_more xs i t h e = length_joined_more xs i h ∙ ap (λ n. length (bytes_of_all (take i xs)) + n) (sym (piece_read xs i t h e))
 
--- bytes stand in others from a place on
+-- the bytes r are in b, from an offset on
 pub record StandAt (b r : List ℕ) (at : ℕ) : Type 0 where
   pub within : at + length r ≤ length b
   pub bytes : r ≡ take (length r) (drop at b)
 
--- the rest of a piece stands there
+-- the remainder of a piece is in all bytes
 pub rest_stands : (xs : List Text) (i j at : ℕ) (p : List ℕ) → p ≡ (piece_at xs i).bytes → i < length xs → j < length (piece_at xs i).bytes → length (bytes_of_all (take i xs)) + j ≡ at → StandAt (bytes_of_all xs) (take (length p - j) (drop j p)) at
 rest_stands xs i j at p is h k e =
     let q = bytes_of_all (drop (i + 1) xs) in

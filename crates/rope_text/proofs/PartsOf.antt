@@ -1,4 +1,4 @@
--- What each piece has of a part.
+-- The bytes that each piece has of a slice.
 use Rattle.std.proofs.Common.{◌≡◌, ℕ, zero, suc, ◌+◌, ◌-◌, ◌<◌, ◌≤◌, min, List, [], ◌∷◌, length, map, take, drop, refl, sym, ap, ◌∙◌, arith, inl, inr}
 use Rattle.std.specs.Prelude.{All}
 use Rattle.std.proofs.lemmas.Bool.{cases_lt}
@@ -16,7 +16,7 @@ with_some_nil : (b : List ℕ) (others : List (List ℕ)) → length b ≡ 0 →
 with_some_nil [] others h = refl
 with_some_nil (x ∷ xs) others h = absurd (omega arith)
 
--- no bytes
+-- a slice of no bytes
 pub shares_of_none : (xs : List Text) (at : ℕ) → shares_of xs at 0 ≡ []
 shares_of_none [] at = refl
 shares_of_none (x ∷ xs) at = let e : 0 - (length x.bytes - at) ≡ 0 = omega arith in ap (λ n. shares_of xs (at - length x.bytes) n) e ∙ shares_of_none xs (at - length x.bytes)
@@ -37,12 +37,12 @@ first_share x xs at left here part inside some is e =
     ∙ ap (λ n. part ∷ shares_of xs n (left - (length x.bytes - at))) none
     ∙ ap (λ n. part ∷ shares_of xs 0 n) less
 
--- what the next piece has, and the others
+-- the bytes of the next piece, and those of the others
 pub shares_of_more : (xs : List Text) (index at left here : ℕ) (part : List ℕ) → index < length xs → at < length (piece_at xs index).bytes → 0 < left → here ≡ min left (length (piece_at xs index).bytes - at) → part ≡ take here (drop at (piece_at xs index).bytes) → shares_of (drop index xs) at left ≡ part ∷ shares_of (drop (index + 1) xs) 0 (left - here)
 shares_of_more xs index at left here part h inside some is e =
     ap (λ l. shares_of l at left) (drop_more xs index no_text h) ∙ first_share (piece_at xs index) (drop (index + 1) xs) at left here part inside some is e
 
--- pieces before the part have nothing of it
+-- pieces before the slice have none of its bytes
 pub shares_of_past : (xs : List Text) (first from at count : ℕ) → length (bytes_of_all (take first xs)) + from ≡ at → shares_of xs at count ≡ shares_of (drop first xs) from count
 shares_of_past xs zero from at count e = let is : at ≡ from = omega arith in ap (λ n. shares_of xs n count) is
 shares_of_past [] (suc first) from at count e = refl
@@ -55,7 +55,7 @@ shares_of_past (x ∷ xs) (suc first) from at count e =
     ∙ ap (λ n. shares_of xs (at - length x.bytes) n) less
     ∙ shares_of_past xs first from (at - length x.bytes) count (omega arith)
 
--- all pieces
+-- a slice of all bytes has all pieces
 pub shares_of_all : (xs : List Text) (count : ℕ) → All IsPiece xs → count ≡ length (bytes_of_all xs) → shares_of xs 0 count ≡ map (λ t. t.bytes) xs
 shares_of_all [] count each e = refl
 shares_of_all (x ∷ xs) count each e =

@@ -1,4 +1,4 @@
--- Ends of pieces, of which those that are no later than a place are counted.
+-- The number of ends of pieces that are at most an offset.
 use Rattle.std.proofs.Common.{◌≡◌, ℕ, ◌+◌, ◌-◌, ◌*◌, ◌<◌, ◌≤◌, ◌⊎◌, List, length, take, ap, sym, subst, ◌∙◌, arith, inl, inr}
 use Rattle.std.proofs.Math.Nat.{mul-le-mul_left}
 use Rattle.std.proofs.lemmas.Bool.{cases_lt}
@@ -17,7 +17,7 @@ length_joined_upto xs i j h =
     let same = ap (λ l. length (bytes_of_all l)) (take-take i j xs h) in
     omega arith
 
--- a piece that begins no later than a byte is there
+-- a piece that begins at or before a byte exists
 pub begins_before : (xs : List Text) (i at : ℕ) → length (bytes_of_all (take i xs)) ≤ at → at < length (bytes_of_all xs) → i < length xs
 begins_before xs i at h k =
     elim (cases_lt i (length xs)) [ inl lt ↦ lt | inr past ↦ absurd (let all = ap (λ l. length (bytes_of_all l)) (take_all i xs past) in omega arith) ]
@@ -25,7 +25,7 @@ begins_before xs i at h k =
 told : (e at : ℕ) → ((bool_byte (leb e at) ≡ 1) × (e ≤ at)) ⊎ ((bool_byte (leb e at) ≡ 0) × (at < e))
 told e at = elim (leb_tells e at) [ inl h ↦ inl (ap bool_byte h.0, h.1) | inr h ↦ inr (ap bool_byte h.0, h.1) ]
 
--- of three ascending numbers, n are at most another, which is at least the one before them
+-- of the ascending numbers f 1, f 2 and f 3, n are at most `at`, and so is f 0
 pub record HasPassed (f : ℕ → ℕ) (at n : ℕ) : Type 0 where
   pub most : n ≤ 3
   pub start : f n ≤ at
@@ -58,7 +58,7 @@ passed_of f at a b c start up up' is is' is'' =
       ]
     ]
 
--- of three ends, each so many pieces behind the one before, those that are no later than a place
+-- of three ends, each `step` pieces after the one before, how many are at most an offset
 pub passed_in : (xs : List Text) (low step at a b c : ℕ) → 0 < step → length (bytes_of_all (take low xs)) ≤ at
     → a ≡ length (bytes_of_all (take (low + step - 1 + 1) xs)) → b ≡ length (bytes_of_all (take (low + 2 * step - 1 + 1) xs)) → c ≡ length (bytes_of_all (take (low + 3 * step - 1 + 1) xs))
     → HasPassed (λ k. length (bytes_of_all (take (low + k * step) xs))) at (bool_byte (leb a at) + bool_byte (leb b at) + bool_byte (leb c at))
@@ -71,7 +71,7 @@ passed_in xs low step at a b c some start is is' is'' =
     passed_of f at a b c (rw zeroth start) (length_joined_upto xs (low + 1 * step) (low + 2 * step) (omega arith)) (length_joined_upto xs (low + 2 * step) (low + 3 * step) (omega arith))
     (is ∙ ap (λ n. length (bytes_of_all (take n xs))) first) (is' ∙ ap (λ n. length (bytes_of_all (take n xs))) second) (is'' ∙ ap (λ n. length (bytes_of_all (take n xs))) third)
 
--- the pieces that are left of so many where those are passed that begin no later than a place
+-- there are `count` pieces from `low` on, and the offset is before their end
 pub record AreLeft (xs : List Text) (low count at : ℕ) : Type 0 where
   pub there : low + count ≤ length xs
   pub end : at < length (bytes_of_all (take (low + count) xs))
@@ -100,7 +100,7 @@ AreLeft-more xs low count at step n fits most end h =
       ];
     }
 
--- where at most three pieces are left
+-- at most three pieces are left
 pub AreLeft-few : (xs : List Text) (low count at : ℕ) → count ≤ 3 → AreLeft xs low count at → at < length (bytes_of_all (take (low + 3) xs))
 AreLeft-few xs low count at few h =
     let upto = length_joined_upto xs (low + count) (low + 3) (omega arith) in

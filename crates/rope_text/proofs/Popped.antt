@@ -1,4 +1,4 @@
--- A character that is taken out of the first piece.
+-- A character that is popped from the first piece.
 use Rattle.std.proofs.Common.{◌≡◌, ℕ, ◌+◌, ◌-◌, ◌%◌, ◌^◌, ◌<◌, ◌≤◌, List, [], ◌∷◌, ◌++◌, length, get_or, set, drop, refl, sym, ap, ◌∙◌, subst, arith, append_assoc}
 use Rattle.std.specs.Prelude.{All, chars, encode_utf8}
 use Rattle.std.specs.Char.{len_utf8}
@@ -12,7 +12,7 @@ use Rattle.rope_text.specs.Parts.{LosesFront}
 use Rattle.rope_text.specs.Ropes.{AreEnds, bytes_of_all, IsPiece, IsRope}
 use Rattle.tendril_text.specs.Texts.{Text, Keeps}
 
--- the character c was taken out of the pieces xs, and ys are left, which end so from the start on
+-- the character c was popped from the pieces xs; ys are left, with this start and these ends
 pub record IsPopped (xs ys : List Text) (total c start : ℕ) (ends : List ℕ) : Type 0 where
   pub enough : len_utf8 c ≤ total
   pub rope : IsRope ys start ends (total - len_utf8 c)

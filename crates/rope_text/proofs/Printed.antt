@@ -1,4 +1,4 @@
--- What is written piece by piece.
+-- Bytes that are written piece by piece.
 use Rattle.std.proofs.Common.{◌≡◌, ℕ, List, [], ◌∷◌, ◌++◌, refl, sym, ap, ◌∙◌, append_assoc}
 use Rattle.std.specs.Fmt.{HasWritten, HasWrittenStyled, IsFlush, IsPlainFormatter, WritesInCalls, formatter_writer}
 use Rattle.std.specs.List.{concat}

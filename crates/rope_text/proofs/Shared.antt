@@ -1,4 +1,4 @@
--- What the calls say that a part is made by.
+-- What the contracts of the calls that build a slice imply.
 use Rattle.std.proofs.Common.{◌≡◌, ℕ, ◌+◌, ◌<◌, ◌≤◌, List, [], ◌∷◌, length, take, drop, Result, Ok, Err, Bool, true, false, not, refl, sym, ap, ◌∙◌, subst, arith, inl, inr}
 use Rattle.std.specs.Prelude.{IsUtf8, All, OnErr, OnOk, is_ok, map}
 use Rattle.std.specs.Str.{IsCharBoundary}
@@ -19,12 +19,12 @@ use Rattle.tendril_text.specs.Errors.{refusal_of}
 use Rattle.tendril_text.specs.Parts.{Slices}
 use Rattle.tendril_text.specs.Texts.{Text, Shares}
 
--- a slice is refused for a full count alone
+-- the only error of a slice is Count, for more than 8 bytes
 pub slice_refused : (b : List ℕ) (offset count : ℕ) (e : SubtendrilError) → Slices b offset count (Err e) → (refusal_of e ≡ Count) × (8 < count)
 slice_refused b offset count e (inl x) = absurd x
 slice_refused b offset count e (inr y) = y.1
 
--- a rope that has room for the bytes is refused for memory alone
+-- if a rope isn't too long for the bytes, the only error is Memory
 pub growth_refused : (more : List ℕ) (parts : List Text) (old new : RopeText) (r : Refusal) → length old.bytes + length more ≤ MAX_TOTAL → Grows more parts old (Err r) new → RoomMay (length more) r
 growth_refused more parts old new r fits h = by h.0
   where
@@ -33,12 +33,12 @@ growth_refused more parts old new r fits h = by h.0
     by (inl (inr x)) = absurd x.1
     by (inr y) = y.1
 
--- bytes from a place in a piece on
+-- the bytes from an offset in a piece on
 pub drop_joined : (xs : List Text) (first from at : ℕ) → length (bytes_of_all (take first xs)) + from ≡ at → drop from (bytes_of_all (drop first xs)) ≡ drop at (bytes_of_all xs)
 drop_joined xs first from at e =
     sym (ap (λ n. drop n (bytes_of_all xs)) (sym e) ∙ sym (drop-drop from (length (bytes_of_all (take first xs))) (bytes_of_all xs)) ∙ ap (λ l. drop from (drop (length (bytes_of_all (take first xs))) l)) (joined_both xs first) ∙ ap (λ l. drop from l) (drop_at (bytes_of_all (take first xs)) (bytes_of_all (drop first xs)) (length (bytes_of_all (take first xs))) refl))
 
--- the part that is shared is the part that is asked for
+-- the slice that `share` returns is the slice that `sub_rope` returns
 pub sub_rope_from : (rope : RopeText) (first from offset count : ℕ) (result : Result RopeText Refusal) → rope.bytes ≡ bytes_of_all rope.pieces → length (bytes_of_all (take first rope.pieces)) + from ≡ offset → offset + count ≤ length rope.bytes → IsUtf8 (take count (drop offset rope.bytes)) → SharesPart rope.pieces first from count result → SubRope rope offset count result
 sub_rope_from rope first from offset count (Ok made) is e there valid h = (
   (there, (valid, tt)),
@@ -72,7 +72,7 @@ not_false false e = cc
 pub cut_at_end : (b : List ℕ) (at : ℕ) → at ≡ length b → IsCharBoundary b at
 cut_at_end b at e = (omega arith, λ h. absurd (omega arith))
 
--- what a call says of a refusal, where it was refused, and of an answer, where it wasn't
+-- the clause of a call on errors, if it returned an error, and the clause on Ok, if it didn't
 pub where_refused : {T E : Type 0} (r : Result T E) (P : Type 0) (b : Bool) → is_ok r ≡ not b → b ≡ true → OnErr r P → P
 where_refused (Ok x) P b e is h = absurd (true_not_false (e ∙ ap not is))
 where_refused (Err x) P b e is h = h
@@ -81,7 +81,7 @@ pub where_answered : {T E : Type 0} (r : Result T E) (P : Type 0) (b : Bool) →
 where_answered (Ok x) P b e is h = h
 where_answered (Err x) P b e is h = absurd (true_not_false (sym (e ∙ ap not is)))
 
--- no bytes are given anywhere
+-- a slice of no bytes, at any offset
 sub_rope_nothing : (rope made : RopeText) (offset : ℕ) → offset ≤ length rope.bytes → made.bytes ≡ [] → made.pieces ≡ [] → SubRope rope offset 0 (Ok made)
 sub_rope_nothing rope made offset there none no_pieces = (
   (omega arith, (IsUtf8-nil, tt)),

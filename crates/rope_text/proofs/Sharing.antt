@@ -1,4 +1,4 @@
--- A part of a rope that is made piece by piece.
+-- A slice of a rope, built piece by piece.
 use Rattle.std.proofs.Common.{◌≡◌, ℕ, ◌+◌, ◌-◌, ◌<◌, ◌≤◌, min, List, [], ◌∷◌, ◌++◌, length, map, take, drop, refl, sym, ap, ◌∙◌, subst, arith, append_assoc, append-nil, inl, inr}
 use Rattle.std.specs.Prelude.{IsUtf8, All}
 use Rattle.std.proofs.lemmas.Bool.{cases_lt}
@@ -14,8 +14,8 @@ use Rattle.rope_text.specs.Growth.{piece_of}
 use Rattle.rope_text.specs.Parts.{HasLongShare, shares_of}
 use Rattle.tendril_text.specs.Texts.{Text, Shares}
 
--- The part of so many bytes from a place in the piece `first` on is made: it has the bytes and pieces that are built, and
--- `left` bytes are missing, from the place `at` in the piece `index` on.
+-- The slice of `count` bytes from the offset `from` in the piece `first` on is built so far: it has the bytes `built`
+-- in these pieces, and `left` bytes are missing, from the offset `at` in the piece `index` on.
 pub record IsSharing (xs : List Text) (first from count index at left : ℕ) (built : List ℕ) (pieces : List Text) : Type 0 where
   pub most : left ≤ count
   pub within : at + left ≤ length (bytes_of_all (drop index xs))
@@ -26,7 +26,7 @@ pub record IsSharing (xs : List Text) (first from count index at left : ℕ) (bu
   pub shares : All Shares pieces
   pub cut_so : map (λ t. t.bytes) pieces ++ shares_of (drop index xs) at left ≡ shares_of (drop first xs) from count
 
--- a place in the bytes from a piece on, where there are any
+-- if bytes are missing, there is a piece to take them from
 pub in_pieces : (xs : List Text) (index at left : ℕ) → at + left ≤ length (bytes_of_all (drop index xs)) → 0 < left → index < length xs
 in_pieces xs index at left h some =
     elim (cases_lt index (length xs)) [ inl k ↦ k | inr past ↦ absurd (let e : length (bytes_of_all (drop index xs)) ≡ 0 = ap (λ l. length (bytes_of_all l)) (drop_all index xs past) in omega arith) ]
@@ -56,7 +56,7 @@ IsSharing-init xs first from count inside within u = record {
   cut_so = refl;
 }
 
--- so much is built by now
+-- how many bytes are built
 pub length_built : (xs : List Text) (first from count index at left : ℕ) (built : List ℕ) (pieces : List Text) → from + count ≤ length (bytes_of_all (drop first xs)) → IsSharing xs first from count index at left built pieces → length built + left ≡ count
 length_built xs first from count index at left built pieces h s =
     let rest = take left (drop at (bytes_of_all (drop index xs))) in
@@ -65,7 +65,7 @@ length_built xs first from count index at left built pieces h s =
     let c : length built + length rest ≡ length (take count (drop from (bytes_of_all (drop first xs)))) = sym (length-append built rest) ∙ ap length s.bytes in
     omega arith
 
--- one piece more
+-- one more piece
 pub IsSharing-more : (xs : List Text) (first from count index at left here : ℕ) (built : List ℕ) (part : Text) (pieces : List Text)
     → All IsPiece xs → 0 < left → here ≡ min left (length (piece_at xs index).bytes - at) → part.bytes ≡ take here (drop at (piece_at xs index).bytes) → Shares part
     → IsSharing xs first from count index at left built pieces → IsSharing xs first from count (index + 1) 0 (left - here) (built ++ part.bytes) (pieces ++ piece_of part)
@@ -97,14 +97,14 @@ IsSharing-more xs first from count index at left here built part pieces each som
           ∙ s.cut_so;
     }
 
--- nothing is missing
+-- no bytes are missing
 pub IsSharing-cut : (xs : List Text) (first from count index at : ℕ) (built : List ℕ) (pieces : List Text) → IsSharing xs first from count index at 0 built pieces → map (λ t. t.bytes) pieces ≡ shares_of (drop first xs) from count
 IsSharing-cut xs first from count index at built pieces s = sym (append-nil (map (λ t. t.bytes) pieces)) ∙ ap (λ l. map (λ t. t.bytes) pieces ++ l) (sym (shares_of_none (drop index xs) at)) ∙ s.cut_so
 
 pub IsSharing-all : (xs : List Text) (first from count index at : ℕ) (built : List ℕ) (pieces : List Text) → IsSharing xs first from count index at 0 built pieces → built ≡ take count (drop from (bytes_of_all (drop first xs)))
 IsSharing-all xs first from count index at built pieces s = sym (append-nil built) ∙ s.bytes
 
--- more than 8 bytes of a piece that are shared next
+-- more than 8 bytes of a piece are shared next
 pub long_share : (xs : List Text) (first from count index at left here : ℕ) (built : List ℕ) (pieces : List Text)
     → 0 < left → here ≡ min left (length (piece_at xs index).bytes - at) → 8 < here
     → IsSharing xs first from count index at left built pieces → HasLongShare xs (length (bytes_of_all (take first xs)) + from) count

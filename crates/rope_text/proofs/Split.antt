@@ -20,13 +20,13 @@ use Rattle.tendril_text.specs.Texts.{Text, Keeps, Shares}
 abbrev pub rope_of : List Text → RopeText
 rope_of xs = record { bytes = bytes_of_all xs; pieces = xs }
 
--- the pieces of a rope are parted in two, which both are those of ropes
+-- the pieces of a rope are split into those of two ropes
 pub record IsSplit (xs fronts rests : List Text) (s count total : ℕ) (front_ends rest_ends : List ℕ) : Type 0 where
   pub front : IsRope fronts s front_ends count
   pub rest : IsRope rests ((s + count) % 2 ^ 64) rest_ends (total - count)
   pub cut : IsCutAt count (rope_of xs) (rope_of fronts) (rope_of rests)
 
--- the bytes before a place in a piece, and those behind
+-- the bytes before an offset in a piece, and those after it
 before_place : (xs : List Text) (whole within : ℕ) → whole < length xs → within ≤ length (piece_at xs whole).bytes → take (length (bytes_of_all (take whole xs)) + within) (bytes_of_all xs) ≡ bytes_of_all (take whole xs) ++ take within (piece_at xs whole).bytes
 before_place xs whole within h k =
     let a = bytes_of_all (take whole xs) in
@@ -43,7 +43,7 @@ behind_place xs whole within h k =
     ap (λ l. drop (length a + within) l) (joined_both xs whole ∙ ap (λ l. a ++ l) (joined_drop_more xs whole h))
     ∙ drop-append-add a (p ++ q) within ∙ drop-append-le within p q k
 
--- between two pieces
+-- a cut between two pieces
 pub split_between : (xs : List Text) (s whole total count : ℕ) (ends : List ℕ) → whole ≤ length xs → length (bytes_of_all (take whole xs)) ≡ count → IsRope xs s ends total → IsSplit xs (take whole xs) (drop whole xs) s count total (take whole ends) (drop whole ends)
 split_between xs s whole total count ends h is r =
     let a = bytes_of_all (take whole xs) in
@@ -61,7 +61,7 @@ split_between xs s whole total count ends h is r =
       };
     }
 
--- within a piece
+-- a cut within a piece
 pub split_within : (xs : List Text) (s whole within total count : ℕ) (part t left : Text) (ends : List ℕ) → whole < length xs → 0 < within → within < length (piece_at xs whole).bytes → length (bytes_of_all (take whole xs)) + within ≡ count
     → IsUtf8 (take within (piece_at xs whole).bytes) → IsUtf8 (drop within (piece_at xs whole).bytes) → part.bytes ≡ take within (piece_at xs whole).bytes → Shares part → t ≡ piece_at xs whole → left.bytes ≡ drop within t.bytes → Keeps t left → IsRope xs s ends total
     → IsSplit xs (take whole xs ++ part ∷ []) (set (drop whole xs) 0 left) s count total (take whole ends ++ ((s + count) % 2 ^ 64) ∷ []) (drop whole ends)
@@ -114,7 +114,7 @@ split_within xs s whole within total count part t left ends h some inside is fro
       });
     }
 
--- more than 8 bytes of a piece stand before the place
+-- more than 8 bytes of a piece are before the cut
 pub long_front : (xs : List Text) (whole within count : ℕ) → whole < length xs → within < length (piece_at xs whole).bytes → length (bytes_of_all (take whole xs)) + within ≡ count → 8 < within → HasLongFront xs count
 long_front xs whole within count h inside is long = record {
   before = take whole xs;
@@ -125,7 +125,7 @@ long_front xs whole within count h inside is long = record {
   within = omega arith;
 }
 
--- both parts of the piece in which a rope may be cut are UTF-8
+-- both slices of a piece that is cut at a character boundary are UTF-8
 pub front_of_piece : (xs : List Text) (whole within count : ℕ) → All IsPiece xs → whole < length xs → within < length (piece_at xs whole).bytes → length (bytes_of_all (take whole xs)) + within ≡ count → IsCharBoundary (bytes_of_all xs) count → IsUtf8 (take within (piece_at xs whole).bytes) × IsUtf8 (drop within (piece_at xs whole).bytes)
 front_of_piece xs whole within count each h inside is cut =
     let p = (piece_at xs whole).bytes in
@@ -133,7 +133,7 @@ front_of_piece xs whole within count each h inside is cut =
     let here = (cut_in_piece xs whole within count h inside is).1 cut in
     (IsUtf8-take p within v here, IsUtf8-drop p within v here)
 
--- the piece that is first then
+-- the first piece after the cut
 pub first_left : (xs : List Text) (whole : ℕ) (t : Text) → whole < length xs → t ≡ get_or (drop whole xs) 0 t → t ≡ piece_at xs whole
 first_left xs whole t h e =
     let z : whole + 0 ≡ whole = omega arith in
@@ -146,13 +146,13 @@ cut_as count xs fronts rests zs ws rope e f is h =
     (subst (λ l. IsCutAt count (rope_of xs) (rope_of l) (rope_of ws)) (sym e)
     (subst (λ l. IsCutAt count (rope_of xs) (rope_of fronts) (rope_of l)) (sym f) h))
 
--- where the first bytes may be taken out, they are
+-- if the first bytes are there and UTF-8, `try_split_to` does what `split_to` does
 pub splits_off : (count : ℕ) (rope : RopeText) (result : Result RopeText Refusal) (new : RopeText) → count ≤ length rope.bytes → IsUtf8 (take count rope.bytes) → Outcome NoneMust (SplitMay rope.pieces count) (λ front rest. IsCutAt count rope front rest) rope result new → SplitsOff count rope result new
 splits_off count rope (Ok front) new there valid h = ((there, (valid, tt)), h.1)
 splits_off count rope (Err r) new there valid (inl x, same) = absurd x
 splits_off count rope (Err r) new there valid (inr y, same) = (inr ((there, (valid, tt)), y.1), same)
 
--- no bytes are taken out
+-- a split after no bytes
 splits_nothing : (rope made : RopeText) → made.bytes ≡ [] → made.pieces ≡ [] → SplitsOff 0 rope (Ok made) rope
 splits_nothing rope made none no_pieces = (
   (omega arith, (IsUtf8-nil, tt)),

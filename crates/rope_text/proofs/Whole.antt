@@ -29,7 +29,7 @@ whole rope (Err r) each is (inl (inl x)) = absurd (x.0 (omega arith))
 whole rope (Err r) each is (inl (inr x)) = absurd (all_valid (IsUtf8 (take (length rope.bytes) (drop 0 rope.bytes))) r (subst IsUtf8 (sym (take_all (length rope.bytes) rope.bytes (omega arith) ∙ is)) (joined_valid rope.pieces each)) x.1)
 whole rope (Err r) each is (inr y) = inr (tt, y.1)
 
--- the part that has all bytes is given
+-- the slice of all bytes is a clone
 pub sub_rope_whole : (rope : RopeText) (total : ℕ) (result : Result RopeText Refusal) → total ≡ length rope.bytes → All IsPiece rope.pieces → rope.bytes ≡ bytes_of_all rope.pieces → SubRope rope 0 total result → Gives NoneMust (PartMay rope.pieces 0 (length rope.bytes)) (IsCloneOf rope) result
 sub_rope_whole rope total result e each is h = whole rope result each is (subst (λ n. SubRope rope 0 n result) e h)
 
@@ -37,7 +37,7 @@ sub_rope_whole rope total result e each is h = whole rope result each is (subst 
 pub joined_pieces : (xs : List Text) (rope : RopeText) → record { bytes = bytes_of_all xs; pieces = xs } ≡ rope → rope.bytes ≡ bytes_of_all rope.pieces
 joined_pieces xs rope e = sym (ap (λ r. r.bytes) e) ∙ ap (λ r. bytes_of_all r.pieces) e
 
--- the bytes of one piece more, which is read there
+-- the bytes of one more piece, which is read at the index
 pub joined_read_more : (xs : List Text) (i : ℕ) (t : Text) → i < length xs → t ≡ get_or xs i t → bytes_of_all (take (i + 1) xs) ≡ bytes_of_all (take i xs) ++ t.bytes
 joined_read_more xs i t h e =
     ap bytes_of_all (take_more xs i no_text h) ∙ joined_push (take i xs) (piece_at xs i) ∙ ap (λ (u : Text). bytes_of_all (take i xs) ++ u.bytes) (sym (get_or_read xs i t h e no_text))

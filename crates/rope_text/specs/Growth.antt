@@ -7,20 +7,20 @@ use Rattle.rope_text.specs.declared.rope.TheConstants.{MAX_TOTAL}
 use Rattle.rope_text.specs.Ropes.{RopeText}
 use Rattle.tendril_text.specs.Texts.{Text}
 
--- the same answer, where a refusal hands nothing back
+-- the same result, but an error doesn't return the argument
 abbrev pub without_back : {R X : Type 0} → Result R (Refusal × X) → Result R Refusal
 without_back (Ok r) = Ok r
 without_back (Err e) = Err e.0
 
--- of a rope that would have so many bytes
+-- the required errors of a rope that would have `count` bytes
 abbrev pub TotalMust : ℕ → Option Refusal → Type 0
 TotalMust count must = First (count ≤ MAX_TOTAL) TooLong NoneMust must
 
--- no state rules out that memory is wanting for the list of pieces where so many bytes are put in
+-- Memory is possible if `count` bytes are added, at least one: the list of pieces may have to grow
 abbrev pub RoomMay : ℕ → Refusal → Type 0
 RoomMay count r = (r ≡ Memory) × (0 < count)
 
--- the pieces that a text of the bytes b is
+-- the list of the text, or the empty list if there are no bytes
 abbrev pub listed_unless_empty : List ℕ → Text → List Text
 listed_unless_empty [] t = []
 listed_unless_empty (x ∷ xs) t = t ∷ []
@@ -28,12 +28,12 @@ listed_unless_empty (x ∷ xs) t = t ∷ []
 abbrev pub piece_of : Text → List Text
 piece_of t = listed_unless_empty t.bytes t
 
--- a rope with more bytes and pieces behind it
+-- a rope with more bytes and pieces at its end
 pub record IsLonger (old : RopeText) (more : List ℕ) (parts : List Text) (new : RopeText) : Type 0 where
   pub bytes : new.bytes ≡ old.bytes ++ more
   pub pieces : new.pieces ≡ old.pieces ++ parts
 
--- bytes are put behind a rope, in these pieces
+-- bytes are appended to a rope, in these pieces
 abbrev pub Grows : List ℕ → List Text → RopeText → Result (Unit {0}) Refusal → RopeText → Type 0
 Grows more parts old result new =
     Outcome (TotalMust (length old.bytes + length more)) (RoomMay (length more))

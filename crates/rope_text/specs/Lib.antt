@@ -1,4 +1,4 @@
--- The words of the contracts on ropes.
+-- The definitions that contracts on ropes cite.
 pub mod Growth
 pub mod Parts
 pub mod Ropes

@@ -1,4 +1,4 @@
--- Parts of ropes.
+-- Slices and clones of ropes, and pops at their front.
 use Rattle.std.specs.Prelude.{
   ◌≡◌,
   ℕ,
@@ -27,7 +27,7 @@ use Rattle.rope_text.specs.Growth.{RoomMay, piece_of}
 use Rattle.rope_text.specs.Ropes.{RopeText, bytes_of_all}
 use Rattle.tendril_text.specs.Texts.{Text, Shares, Keeps}
 
--- a rope's pieces, of which the first has lost bytes at its front, or all of them
+-- the first piece of a rope has lost a prefix, or is removed
 pub record LosesFront (old new : List Text) : Type 0 where
   pub first : Text
   pub rest : List Text
@@ -36,7 +36,7 @@ pub record LosesFront (old new : List Text) : Type 0 where
   pub has : new ≡ piece_of left ++ rest
   pub keeps : Keeps first left
 
--- more than 8 bytes of one of the pieces stand in the part of so many bytes from the offset on
+-- more than 8 bytes of one piece are in the slice of `count` bytes from the offset on
 pub record HasLongShare (pieces : List Text) (offset count : ℕ) : Type 0 where
   pub before : List Text
   pub piece : Text
@@ -49,40 +49,39 @@ pub record HasLongShare (pieces : List Text) (offset count : ℕ) : Type 0 where
   pub begins : offset ≤ length (bytes_of_all before) + from
   pub ends : length (bytes_of_all before) + from + long ≤ offset + count
 
--- no state rules out that the count of a piece's bytes is full where more than 8 of them would be shared, or that
--- memory is wanting for the list of pieces
+-- Count is possible if more than 8 bytes of one piece would be shared, and Memory for the list of pieces
 abbrev pub PartMay : List Text → ℕ → ℕ → Refusal → Type 0
 PartMay pieces offset count r = ((r ≡ Count) × HasLongShare pieces offset count) ⊎ RoomMay count r
 
--- a list with some bytes before it, if there are any
+-- a list with these bytes as its new first item, if there are any
 abbrev pub with_some : List ℕ → List (List ℕ) → List (List ℕ)
 with_some [] others = others
 with_some (x ∷ xs) others = (x ∷ xs) ∷ others
 
--- what each piece has of the part of so many bytes from the offset on, for those that have some of it
+-- the bytes that each piece has of the slice of `count` bytes from the offset on, without pieces that have none
 abbrev pub shares_of : List Text → ℕ → ℕ → List (List ℕ)
 shares_of [] offset count = []
 shares_of (p ∷ pieces) offset count =
     with_some (take count (drop offset p.bytes))
     (shares_of pieces (offset - length p.bytes) (count - (length p.bytes - offset)))
 
--- a rope of the bytes b, cut as the list says, of which each piece shares its bytes
+-- a rope of the bytes b, cut into pieces as the list says; each piece shares its bytes
 pub record IsSharedRope (b : List ℕ) (cut : List (List ℕ)) (rope : RopeText) : Type 0 where
   pub bytes : rope.bytes ≡ b
   pub cut_so : map (λ t. t.bytes) rope.pieces ≡ cut
   pub shares : All Shares rope.pieces
 
--- the same rope, of which each piece shares its bytes
+-- a rope with the same pieces, each of which shares its bytes
 abbrev pub IsCloneOf : RopeText → RopeText → Type 0
 IsCloneOf rope made = IsSharedRope rope.bytes (map (λ t. t.bytes) rope.pieces) made
 
--- the part of so many bytes from the offset on is given, where it is there and UTF-8
+-- the slice of `count` bytes from the offset on is returned, if it is there and UTF-8
 abbrev pub SubRope : RopeText → ℕ → ℕ → Result RopeText Refusal → Type 0
 SubRope rope offset count result =
     Gives (SliceMust IsUtf8 rope.bytes offset count) (PartMay rope.pieces offset count)
     (IsSharedRope (take count (drop offset rope.bytes)) (shares_of rope.pieces offset count)) result
 
--- the part is given that begins at a place in a piece, and is there and UTF-8
+-- the slice of `count` bytes from an offset in a piece on is returned; it is there and UTF-8
 abbrev pub SharesPart : List Text → ℕ → ℕ → ℕ → Result RopeText Refusal → Type 0
 SharesPart pieces first from count result =
     Gives NoneMust (PartMay pieces (length (bytes_of_all (take first pieces)) + from) count)

@@ -1,4 +1,4 @@
--- A rope: texts in UTF-8, of which none is empty, one behind the other.
+-- A rope: texts in UTF-8, one after another, none of them empty.
 use Rattle.std.specs.Prelude.{
   ◌≡◌,
   ℕ,
@@ -23,7 +23,7 @@ use Rattle.std.specs.Cmp.Lexicographic.{pointwise}
 use Rattle.tendril_block.specs.declared.atomicity.TheConstants.{MAX_LEN}
 use Rattle.tendril_text.specs.Texts.{Text}
 
--- the bytes of texts, one behind the other
+-- the bytes of texts, one after another
 abbrev pub bytes_of_all : List Text → List ℕ
 bytes_of_all texts = flat_map (λ t. t.bytes) texts
 
@@ -38,7 +38,7 @@ pub record IsPiece (t : Text) : Type 0 where
   pub short : length t.bytes ≤ MAX_LEN
   pub valid : IsUtf8 t.bytes
 
--- where pieces end, counted from a start on, and past 2 ^ 64 from 0 again
+-- for each piece, the start plus the offset where it ends, modulo 2 ^ 64
 pub record AreEnds (pieces : List Text) (start : ℕ) (ends : List ℕ) : Type 0 where
   pub len : length ends ≡ length pieces
   pub at : (k : ℕ) → k < length pieces
@@ -51,7 +51,7 @@ pub record IsRope (pieces : List Text) (start : ℕ) (ends : List ℕ) (total : 
   pub fits : total < 2 ^ 64
   pub places : AreEnds pieces start ends
 
--- no text: what stands behind the last piece
+-- no text: what follows the last piece
 abbrev pub no_text : Text
 no_text = record { bytes = []; copied = 0 }
 

@@ -10,18 +10,18 @@ use Rattle.rope_text.specs.Growth.{IsLonger, RoomMay, TotalMust, piece_of}
 use Rattle.rope_text.specs.Ropes.{RopeText}
 use Rattle.tendril_stream.specs.Sinks.{Sent, Piece, Fault, IsSent, told_of}
 
--- a text is put behind the rope, and an error changes nothing
+-- a text is appended to the rope, and an error in the stream changes nothing
 abbrev pub TakesSent : RopeText → Sent → RopeText → Type 0
 TakesSent old (Piece t) new = IsLonger old t.bytes (piece_of t) new
 TakesSent old (Fault words) new = new ≡ old
 
--- a text is refused as a push of it, and nothing changes; no error is refused
+-- for a text, the errors of its push are returned, and nothing changes; for an error in the stream, none is
 abbrev pub RefusesSent : RopeText → Sent → Refusal → RopeText → Type 0
 RefusesSent old (Piece t) r new =
     Refused (TotalMust (length old.bytes + length t.bytes)) (RoomMay (length t.bytes)) r × (new ≡ old)
 RefusesSent old (Fault words) r new = ⊥
 
--- a rope has the characters that were told
+-- a rope has the characters that it was sent
 abbrev pub HasCharacters : RopeText → List Told → Type 0
 HasCharacters rope told = IsUtf8 rope.bytes × (chars rope.bytes ≡ characters told)
 

@@ -22,9 +22,9 @@ use tendril_text::{Atomicity, Tendril};
 
 /// Decodes pieces of bytes to a rope that shares them, with U+FFFD for each broken sequence.
 ///
-/// A sequence is broken as Unicode's maximal subparts say; characters cut between two pieces are completed. Returns
-/// `SinkRefused` if an allocation fails, or the rope would have more than 18446744073709551615 bytes, or `Count` if a piece's
-/// block has as many references as it can have.
+/// Each maximal subpart, as Unicode defines it, is one broken sequence; characters cut between two pieces are
+/// completed. Returns `SinkRefused` if an allocation fails or the rope would have more than 18446744073709551615 bytes,
+/// or `Count` if a piece's block has as many references as it can have.
 ///
 /// ```
 /// let pieces = [ByteTendril::from_slice(alloc, b"caf\xC3")?, ByteTendril::from_slice(alloc, b"\xA9\xFF")?];
@@ -47,10 +47,11 @@ pub fn decode_rope<A: Atomicity, I: IntoIterator<Item = Tendril<Bytes, A>>>(
 
 /// Reads to the end, and decodes the bytes to a rope, with U+FFFD for each broken sequence.
 ///
-/// Makes at most `max_reads` reads of at most 4096 bytes. Returns `Io` if a read fails, `TooManyReads` if the end wasn't
-/// reached within `max_reads` reads, `Memory` if a piece can't be allocated, and else what `decode_rope` returns. If reading
-/// itself stops, the decoder is returned with all that was read so far decoded, and reading may go on with it. If the decoder
-/// returns an error for a piece it is returned failed, and if it does for the end it is gone.
+/// Makes at most `max_reads` reads of at most 4096 bytes. Returns `Io` if a read fails, `TooManyReads` if the end
+/// wasn't reached within `max_reads` reads, `Memory` if a piece can't be allocated, or the errors of `decode_rope`. If
+/// reading stops between two reads, the decoder is returned: it has decoded all that was read, and can be passed to
+/// `read_decoded` to continue. If the decoder returns an error for a piece, it is returned and has failed; if it
+/// returns one at the end, it is dropped.
 ///
 /// ```
 /// let rope = read_rope::<NonAtomic, _>(alloc, &mut Counted::new(b"a\xFFb".as_slice()), 10)?;
@@ -78,8 +79,8 @@ pub fn read_rope<A: Atomicity, R: CountedRead>(
 
 /// Reads a file to its end, and decodes the bytes to a rope, with U+FFFD for each broken sequence.
 ///
-/// Returns `Io` with a new decoder if the file can't be opened, and else what `read_rope` returns: a directory is `Io` too,
-/// since no read of it succeeds.
+/// Returns `Io` with a new decoder if the file can't be opened, or the errors of `read_rope`: also `Io` for a
+/// directory, since no read of one succeeds.
 ///
 /// ```
 /// let stopped = rope_from_file::<NonAtomic, _>(&rt, alloc, "no/such/file", 10).err();

@@ -1,7 +1,8 @@
 //! Ropes.
 //!
-//! Contracts see a `Rope<A>` as its bytes and its pieces: the texts, none of them empty, that have these bytes. The pieces
-//! are part of its value: of the bytes alone no contract could say that a slice copies nothing, or how many pieces it has.
+//! Contracts see a `Rope<A>` as its bytes and its pieces: the texts, none of them empty, that have these bytes. The
+//! pieces are part of its value: from the bytes alone a contract couldn't say that a slice copies nothing, or how many
+//! pieces it has.
 ghost use Rattle.std.specs.Prelude.{◌≡◌, [], length};
 
 mod compare;
@@ -21,7 +22,7 @@ use std::marker::Model;
 use tendril_text::fmt::UTF8;
 use tendril_text::{Atomicity, NonAtomic, Tendril};
 
-/// The most bytes that a rope has.
+/// The greatest length of a rope, in bytes.
 pub const MAX_TOTAL: u64 = u64::MAX;
 
 /// A text in UTF-8 of at most 18446744073709551615 bytes, in pieces that share their bytes with other ropes and texts.
@@ -35,7 +36,7 @@ pub const MAX_TOTAL: u64 = u64::MAX;
 #[derive(Drop)]
 pub struct Rope<A: Atomicity = NonAtomic> {
     pieces: VecDeque<Tendril<UTF8, A>>,
-    // Where each piece ends, counted from `start` and modulo 2 ^ 64. A pop at the front changes the start, and no end.
+    // For each piece, `start` plus the offset where it ends, modulo 2 ^ 64. A pop changes the start, but no such sum.
     ends: VecDeque<u64>,
     start: u64,
     total: u64,

@@ -11,7 +11,7 @@ use tendril_text::fmt::UTF8;
 use tendril_text::{Atomicity, Tendril};
 
 impl<A: Atomicity> Rope<A> {
-    /// Whether the rope has no bytes, and so no pieces.
+    /// Returns whether the rope has no bytes, and so no pieces.
     ///
     /// ```
     /// let mut rope = Rope::new(alloc);

@@ -1,4 +1,4 @@
-//! Offsets in ropes, and the pieces that have them. They are found by where the pieces end.
+//! The search for the piece that has the byte at an offset, by the ends of the pieces.
 ghost use Rattle.std.specs.Prelude.{◌≡◌, ◌<◌, ◌≤◌, ◌+◌, ◌*◌, ◌^◌, ◌↔◌, length, take, drop, IsTrue};
 ghost use Rattle.std.specs.Str.{IsCharBoundary};
 ghost use Rattle.rope_text.specs.Ropes.{bytes_of_all, piece_at};
@@ -45,8 +45,8 @@ impl<A: Atomicity> Rope<A> {
         (first <= at) as usize + (second <= at) as usize + (third <= at) as usize
     }
 
-    // The index of a piece that begins no later than an offset, and that has this byte or is one of the two pieces before the one
-    // that does. Each round leaves a quarter of the pieces.
+    // The index of a piece that begins no later than an offset, and that has this byte or is one of the two pieces
+    // before the one that does. Each iteration leaves about a quarter of the pieces.
     fn near(&self, first: usize, at: u64) -> usize
         requires within { at < length self.now.bytes }
         requires start { length (bytes_of_all (take first self.now.pieces)) ≤ at }
@@ -108,7 +108,7 @@ impl<A: Atomicity> Rope<A> {
         self.locate_from(0, at)
     }
 
-    // What `locate` returns, where the piece isn't before `first`.
+    // Returns what `locate` does, if the piece isn't before `first`.
     pub(super) fn locate_from(&self, first: usize, at: u64) -> (usize, u32)
         requires within { at < length self.now.bytes }
         requires start { length (bytes_of_all (take first self.now.pieces)) ≤ at }
@@ -120,7 +120,7 @@ impl<A: Atomicity> Rope<A> {
         (index, (at - self.start_of(index)) as u32)
     }
 
-    // Whether a character ends after `count` bytes of a piece.
+    // Whether there is a character boundary after `count` bytes of a piece.
     pub(super) fn is_cut(&self, index: usize, count: u32) -> bool
         requires piece { 0 < count → index < length self.now.pieces }
         requires within { count ≤ length (piece_at self.now.pieces index).bytes }

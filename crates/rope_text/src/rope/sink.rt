@@ -38,7 +38,7 @@ impl<A: Atomicity> TendrilSink<Tendril<UTF8, A>> for Rope<A> {
     }
 }
 
-/// A rope that was empty has the characters that it was sent, without the marks.
+/// A rope that was empty has exactly the characters that it was sent; errors add none.
 impl<A: Atomicity> Tracks<Tendril<UTF8, A>> for Rope<A> {
     ghost use Rattle.rope_text.specs.Sink.{HasCharacters, goes_on_by};
 

@@ -44,7 +44,7 @@ impl<A: Atomicity> Rope<A> {
         self.split_to(whole, within, count)
     }
 
-    // Removes the first bytes, at the end of which a character ends: `whole` pieces, and `within` bytes of the next.
+    // Removes the first `count` bytes, up to a character boundary: `whole` pieces, and `within` bytes of the next.
     fn split_to(&mut self, whole: usize, within: u32, count: u64) -> Result<Self, Refusal>
         requires some { 0 < count }
         requires there { count ≤ length self.old.bytes }
