@@ -1,4 +1,4 @@
--- What standard error is told, and what stands written then.
+-- What is printed to standard error, and what is written then.
 use Rattle.std.specs.Prelude.{ℕ, List, [], ◌∷◌, ◌++◌, codes, Option}
 use Rattle.tendril_script.specs.Endings.{RunEnded}
 use Rattle.rope_cli.specs.RopeSessions.{RopeAnswers, no_cells}
@@ -7,11 +7,11 @@ use Rattle.rope_cli.specs.RopeSessions.{RopeAnswers, no_cells}
 abbrev pub rope_program_name : List ℕ
 rope_program_name = codes "rope"
 
--- what standard error is told of words that ask for nothing
+-- the line for words that ask for nothing
 abbrev pub rope_usage : List ℕ
 rope_usage = codes "usage: rope run" ++ 10 ∷ []
 
--- a refusal ended the program: its line went to standard error, and what was printed before stands
+-- an error ended the program: its line was printed to standard error, and what was written before stays
 abbrev pub RopesEnded : Option (List ℕ) → Option (List ℕ) → Option (List ℕ) → Option (List ℕ) → Option (List ℕ)
     → Type 0
 RopesEnded remaining before after told told' =

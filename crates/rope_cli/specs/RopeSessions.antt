@@ -17,15 +17,15 @@ use Rattle.tendril_script.specs.WhiteSpace.{class}
 abbrev pub no_cells : Cells
 no_cells = record { slots = []; ropes = [] }
 
--- the reply to a command: that of its step, or that memory was wanting before it, and nothing changed
+-- the reply to a command: that of its step, or Memory before the step, and nothing changed
 abbrev pub RopeReplies : Cells → RopeCommand → RopeReply → Cells → Type 0
 RopeReplies old command reply new =
     RopeStep class old command reply new ⊎ ((reply ≡ Plain (Refused Memory)) × (new ≡ old))
 
--- what a line prints: the reply to the command that it is, or `malformed`
+-- what a line prints: the reply to the command that it spells, or `malformed`
 abbrev pub RopeAnswers : Cells → List ℕ → List ℕ → Cells → Type 0
 RopeAnswers = CommandAnswers IsRopeLine RopeReplies rope_printed
 
--- a writer that tells its bytes has taken what is written for the script that a reader which tells its bytes has left
+-- the writer got what is written for the script that the reader had left, if their bytes are known
 abbrev pub RopesRan : Option (List ℕ) → Option (List ℕ) → Option (List ℕ) → Type 0
 RopesRan remaining before after = RanFrom RopeAnswers no_cells remaining before after

@@ -1,4 +1,4 @@
-//! What the lines of a script do: commands on one table of texts and ropes.
+//! Carries out the lines of a script: commands on one table of texts and ropes.
 ghost use Rattle.std.specs.Prelude.{◌≡◌};
 ghost use Rattle.rope_cli.specs.RopeSessions.{RopeReplies, no_cells};
 
@@ -10,14 +10,14 @@ use tendril_script::Lines;
 use tendril_text::NonAtomic;
 use tendril_text::block::Refusal;
 
-/// A table that lines change.
+/// The table that lines change.
 #[derive(Drop)]
 pub struct RopeLines {
     table: RopeTable<NonAtomic>,
 }
 
 impl RopeLines {
-    /// A table without slots and ropes. Takes no memory.
+    /// Creates the state with an empty table. Allocates nothing.
     #[tactic(auto, using(crate::proofs::RopeLemmas::none_of_both))]
     pub fn new(alloc: Global) -> Self
         ensures { result.table.cells ≡ no_cells }
@@ -27,7 +27,7 @@ impl RopeLines {
         }
     }
 
-    // The reply to one command. Room for the slot or the rope that it may make is reserved first.
+    // Returns the reply to one command, after reserving capacity for the slot or the rope that it may add.
     fn reply(&mut self, command: &RopeCommand) -> RopeReply
         ensures { RopeReplies self.old.table.cells command.now result self.new.table.cells }
     {

@@ -1,4 +1,4 @@
-//! The program `rope`: it runs commands on texts and ropes, a line each.
+//! The program `rope`: it runs commands on texts and ropes, one per line.
 #![tactic(auto)]
 
 mod lines;

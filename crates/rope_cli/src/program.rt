@@ -1,4 +1,4 @@
-//! The program over any reader and writers.
+//! The program, over any reader and writers.
 ghost use Rattle.std.specs.Prelude.{◌≡◌, ◌≤◌, ◌↔◌, ◌⊎◌, map};
 ghost use Rattle.std.specs.Io.KnownBytes.{IsAtEnd, Keeps};
 ghost use Rattle.tendril_script.specs.Words.{AskToRun};
@@ -44,8 +44,9 @@ impl Program for RopeLines {
     }
 }
 
-/// Runs the program with the arguments after its name, and returns its status. An argument that isn't UTF-8 is the empty
-/// word, which asks for nothing.
+/// Runs the program with the arguments after its name, and returns its status.
+///
+/// An argument that isn't UTF-8, or has more than 16 bytes, is the empty word, which asks for nothing.
 pub fn program_with_arguments<S: Env + AllocGlobal, R: Read, W: Write, E: Write>(
     system: &S,
     input: &mut R,
@@ -67,9 +68,9 @@ pub fn program_with_arguments<S: Env + AllocGlobal, R: Read, W: Write, E: Write>
 
 /// Runs what the words ask for, and returns the program's status.
 ///
-/// No word, or `run`: the lines of the input are run on one table, and the replies printed (status 0). A failed read or
-/// write, or no memory, prints `rope: refused N Name` to `err`, and what was printed before stays (status 1): in whole
-/// lines, unless a write failed. All other words print the usage to `err` (status 2).
+/// For no word, or `run`, it runs the lines of the input on one table and prints the replies (status 0). After a failed
+/// read, write or allocation it prints `rope: refused N Name` to `err` (status 1); the replies so far stay written, in
+/// whole lines unless a write failed. For other words it prints the usage to `err` (status 2).
 pub fn program<R: Read, W: Write, E: Write>(
     alloc: Global,
     words: &[&str],
@@ -80,11 +81,11 @@ pub fn program<R: Read, W: Write, E: Write>(
     ensures usage { (result ≡ 2) ↔ (AskToRun (map (λ word. word.now) words.now) → ⊥) }
     ensures status { result ≤ 2 }
 
-    // Where the reader and the writers tell their bytes, all that was asked is answered.
+    // For a reader and writers whose bytes are known: the replies to all lines are written.
     ensures ran { result ≡ 0 → RopesRan (R.remaining input.old) (W.contents out.old) (W.contents out.new) }
     ensures silent { result ≡ 0 → Keeps (E.contents err.old) (E.contents err.new) }
 
-    // Or an error is printed, and some first lines of the script are answered, in whole lines unless a write failed.
+    // Or an error is printed. The replies to the first lines are written, in whole lines unless a write failed.
     ensures refused { result ≡ 1 → RopesEnded (R.remaining input.old)
         (W.contents out.old) (W.contents out.new) (E.contents err.old) (E.contents err.new) }
 
@@ -92,7 +93,7 @@ pub fn program<R: Read, W: Write, E: Write>(
     ensures misused { result ≡ 2 → Keeps (W.contents out.old) (W.contents out.new) }
     ensures told { result ≡ 2 → AppendsFront (E.contents err.old) (E.contents err.new) rope_usage }
 
-    // No line is answered before the input's end.
+    // Nothing is written before the input's end.
     ensures reads_first { Keeps (W.contents out.old) (W.contents out.new) ⊎ IsAtEnd (R.remaining input.new) }
 {
     run_words(alloc, &mut RopeLines::new(alloc), words, input, out, err)

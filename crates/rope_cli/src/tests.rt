@@ -1,4 +1,4 @@
-//! What only the whole program shows: what its words ask for, and what it does where a read, a write or a flush fails.
+//! Tests of the whole program: what its words ask for, and what it does if a read, a write or a flush fails.
 
 mod arguments;
 
@@ -7,7 +7,7 @@ use std::alloc::Global;
 use std::io::{self, Error, ErrorKind, Read, Write};
 use std::test::Fail;
 
-/// What the program did: its status, and what it printed to standard output and to standard error.
+/// The program's status, and what it wrote to standard output and to standard error.
 type Ran<'a> = (u8, &'a [u8], &'a [u8]);
 
 const USAGE: Ran<'static> = (2, b"", b"usage: rope run\n");
@@ -32,7 +32,7 @@ fn run<R: Read>(
     check(row, (status, out.as_slice(), err.as_slice()), expected)
 }
 
-/// Words, what is read, and what has to come.
+/// Words, the input, and the expected result.
 const RUNS: [(&[&str], &[u8], Ran); 11] = [
     (&[], b"", (0, b"", b"")),
     (
@@ -46,7 +46,7 @@ const RUNS: [(&[&str], &[u8], Ran); 11] = [
     (&["run", "run"], b"rope\n", USAGE),
     (&["run", ""], b"rope\n", USAGE),
     (&["-h", "x", "y"], b"rope\n", USAGE),
-    // A command that is refused ends nothing.
+    // A command that returns an error doesn't end the run.
     (
         &[],
         b"new bytes\nrope\nrpush 0 0\nrjoin 0 7\nrtake 0\ntext 1\n",
@@ -109,7 +109,7 @@ fn a_reader_that_fails(rt: HostRuntime) -> Result<(), Fail> {
     Ok(())
 }
 
-/// A writer that takes so many bytes, and then fails. It can fail to be flushed, too.
+/// A writer that takes `most` bytes and then fails. Its flush may fail too.
 #[derive(Drop)]
 struct Fills {
     bytes: Vec<u8>,
@@ -136,7 +136,7 @@ impl Write for Fills {
     }
 }
 
-/// How many bytes a writer takes, whether it can be flushed, and what has to come.
+/// How many bytes a writer takes, whether its flush succeeds, and the expected result.
 const FILLS: [(usize, bool, Ran); 4] = [
     (0, true, (1, b"", b"rope: refused 9 Io\n")),
     (9, true, (1, b"rope 0\nle", b"rope: refused 9 Io\n")),

@@ -1,4 +1,4 @@
--- What a decoder over a sink that joins texts leaves to be written.
+-- What a decoder over a sink that joins texts has to write.
 use Rattle.std.proofs.Common.{◌≡◌, ℕ, ◌<◌, ◌≤◌, ◌⊎◌, Bool, true, false, List, [], ◌∷◌, ◌++◌, length, map, flat_map, Option, None, Some, refl, sym, ap, ap₂, subst, ◌∙◌, arith, append_assoc, append-nil, length-append, inl, inr, IsUtf8, chars, Result, Ok, Err, OnOk, OnErr, IfErr, ⊎_elim, true≢false}
 use Rattle.std.proofs.KnownBytes.{Appends-nil, Appends-trans}
 use Rattle.std.proofs.lemmas.List.Elements.{All-push}
@@ -22,7 +22,7 @@ use Rattle.tendril_stream.specs.Sinks.{Sent, Piece, Feeds, IsStop, told, told_of
 use Rattle.tendril_cli.specs.Decodings.{Decoded, DecodesAll, DecodeStops, IsReady, WritesText, WritesAll, WritesFrontOfText}
 use Rattle.tendril_script.specs.Writing.{AppendsFront}
 
--- a sink that adds the characters of what it is sent to those that it has
+-- a sink that appends the characters of what it is sent
 module _ {S : Type 0} (has : S → List ℕ) where
   abbrev pub Joins : S → Sent → S → Type 0
   Joins a e b = has b ≡ has a ++ characters (told_of e)
@@ -35,12 +35,12 @@ module _ {S : Type 0} (has : S → List ℕ) where
   fed : (piece : Text) (a b : S) (due : List Told) → Feeds Joins piece a due b → has b ≡ has a ++ characters due
   fed piece a b due h = joins a h.sent b h.calls ∙ ap (λ t. has a ++ characters t) h.tells
 
-  -- the written characters and those of the sink are what is due of b
+  -- the written characters and those of the sink are the decoding of b so far; `held` are the bytes that b leaves open
   pub record Stands (written : List ℕ) (sink : S) (held b : List ℕ) : Type 0 where
     pub tells : written ++ has sink ≡ characters (due_open b)
     pub keeps : held ≡ kept b
 
-  -- a sink that has nothing
+  -- an empty sink
   pub ready_stands : (these : List OneRead) (before now : Option (List ℕ)) (held unwritten : List ℕ) (failed : Bool) (sink : S) → IsReady these before now held failed unwritten → has sink ≡ chars unwritten → Stands (characters (due_open (given these))) sink held (given these)
   ready_stands these before now held unwritten failed sink ready is = record { tells = ap (λ l. characters (due_open (given these)) ++ l) (is ∙ ap chars ready.empty ∙ chars-nil) ∙ append-nil (characters (due_open (given these))); keeps = ready.keeps }
 
@@ -59,23 +59,23 @@ module _ {S : Type 0} (has : S → List ℕ) where
     h.2,
   )
 
--- what is due of the first bytes begins what is due of all
+-- the decoding of the first bytes is a prefix of the decoding of all
 pub due_front : (b l : List ℕ) → characters (due_open (b ++ l)) ≡ characters (due_open b) ++ characters (due_open (kept b ++ l))
 due_front b l = ap characters (due_open-append b l) ∙ characters-append (due_open b) (due_open (kept b ++ l))
 
--- of a refused call
+-- two facts of a call that returned an error, combined
 pub on_err : {T : Type 0} (result : Result T Refusal) (P : Refusal → Type 0) (A : Type 0) (Q : Refusal → Type 0) → ((r : Refusal) → P r → A → Q r) → IfErr result P → OnErr result A → IfErr result Q
 on_err (Ok x) P A Q f h k = tt
 on_err (Err r) P A Q f h k = f r h k
 
--- a text
+-- a text whose bytes, or a prefix of them, were written
 pub writes_text : (before after : Option (List ℕ)) (bytes : List ℕ) → IsUtf8 bytes → Appends before after bytes → WritesText (chars bytes) before after
 writes_text before after bytes u h = record { bytes = bytes; utf8 = u; spells = refl; appends = h }
 
 pub front_of_text : (before after : Option (List ℕ)) (bytes : List ℕ) → IsUtf8 bytes → AppendsFront before after bytes → WritesFrontOfText (chars bytes) before after
 front_of_text before after bytes u h = record { bytes = bytes; rest = []; utf8 = u; spells = append-nil (chars bytes); front = h }
 
--- one behind the other
+-- one text after the other
 pub writes_both : (a b c : Option (List ℕ)) (cs ds : List ℕ) → WritesText cs a b → WritesText ds b c → WritesText (cs ++ ds) a c
 writes_both a b c cs ds x y = record {
   bytes = x.bytes ++ y.bytes;
@@ -93,7 +93,7 @@ writes_then_front a b c cs ds x y = record {
   front = record { taken = x.bytes ++ y.front.taken; rest = y.front.rest; splits = ap (λ l. x.bytes ++ l) y.front.splits ∙ sym (append_assoc x.bytes y.front.taken y.front.rest); appends = Appends-trans a b c x.bytes y.front.taken x.appends y.front.appends };
 }
 
--- all that is due of the first bytes is a front of what is due of all
+-- the written decoding of the first bytes is a prefix of the decoding of all
 pub front_of_all : (before after : Option (List ℕ)) (b l : List ℕ) → WritesText (characters (due_open b)) before after → WritesFrontOfText (characters (due_open (b ++ l))) before after
 front_of_all before after b l w = record {
   bytes = w.bytes;
@@ -107,7 +107,7 @@ pub pushed : (r : Result (Unit {0}) Refusal) (old new more : List ℕ) → IsUtf
 pushed (Ok r) old new more u h = ap chars h ∙ chars-append old more u ∙ ap (λ l. chars old ++ l) (sym (characters-map (chars more)))
 pushed (Err e) old new more u h = tt
 
--- and of what is due of them and the end
+-- and of the decoding of the first bytes and the end
 pub front_of_end : (before after : Option (List ℕ)) (b : List ℕ) → WritesText (characters (due_open b)) before after → WritesFrontOfText (characters (due b)) before after
 front_of_end before after b w = record {
   bytes = w.bytes;
@@ -118,7 +118,7 @@ front_of_end before after b w = record {
   front = record { taken = w.bytes; rest = []; splits = sym (append-nil w.bytes); appends = w.appends };
 }
 
--- a decoder, and what one read into it comes to
+-- a decoder, and what one read does to it
 module _ {D S : Type 0} (inner : D → S) (held : D → List ℕ) (failed : D → Bool) (has : S → List ℕ) (refuses : S → Sent → Refusal → S → Type 0) (finish_refused : S → Refusal → Type 0) where
   abbrev pub DecoderTakes : D → Sent → D → Type 0
   DecoderTakes d e n = (failed d ≡ false) × (failed n ≡ false) × Decodes (Joins has) (inner d) (held d) e (inner n) (held n)
@@ -132,7 +132,7 @@ module _ {D S : Type 0} (inner : D → S) (held : D → List ℕ) (failed : D �
   quiet : (written b : List ℕ) (d n : D) → n ≡ d → failed d ≡ false → Stands has written (inner d) (held d) b → Stands has written (inner n) (held n) (b ++ []) × (failed n ≡ false)
   quiet written b d n same whole s = subst (λ e. Stands has written (inner e) (held e) (b ++ []) × (failed e ≡ false)) (sym same) (subst (Stands has written (inner d) (held d)) (sym (append-nil b)) s, whole)
 
-  -- it goes on
+  -- after the read, `Stands` still holds
   pub heard : (written b : List ℕ) (d n : D) (one : OneRead) → Hears DecoderTakes d one n → failed d ≡ false → Stands has written (inner d) (held d) b → Stands has written (inner n) (held n) (b ++ given_by one) × (failed n ≡ false)
   heard written b d n (Gave bytes) h whole s =
       (subst (λ l. Stands has written (inner n) (held n) (b ++ l)) h.1 (stands_on has written (inner d) (inner n) (held d) (held n) b h.0 s h.3.2), h.3.1)
@@ -140,17 +140,17 @@ module _ {D S : Type 0} (inner : D → S) (held : D → List ℕ) (failed : D �
   heard written b d n HasFailed h whole s = quiet written b d n h whole s
   heard written b d n CameToEnd h whole s = quiet written b d n h whole s
 
-  -- it refuses the end
+  -- the decoder returns an error at the end
   pub end_refused : (d : D) (r : Refusal) → DecoderEnds d r → failed d ≡ false → r ≡ SinkRefused
   end_refused d r (inl h) whole = absurd (true≢false (sym h.0 ∙ whole))
   end_refused d r (inr h) whole = ⊎_elim (λ v. ⊎_elim (λ k. absurd (omega (arith, long-some [] r k.0))) (λ k. k.refused.0) v.1.stop) (λ v. v.2) h.1
 
-  -- the read stops it
+  -- the read returns an error
   module _ {R : Type 0} (history : R → List OneRead) (remaining : R → Option (List ℕ)) (reader reader' : R) (max_reads : ℕ) (before now : Option (List ℕ)) (these : List OneRead) (on : All MayReadOn these) (some : length these < max_reads) (w : WritesAll these before now) where
     abbrev Stopped : Refusal → Type 0
     Stopped r = (more : List OneRead) × MakesReads history remaining reader more reader' × DecodeStops max_reads (these ++ more) (remaining reader') before now r
 
-    -- for want of memory
+    -- since there is no memory
     stops_memory : reader' ≡ reader → Stopped Memory
     stops_memory same = (
       [],
@@ -173,7 +173,7 @@ module _ {D S : Type 0} (inner : D → S) (held : D → List ℕ) (failed : D �
       ),
     )
 
-    -- or at the piece that it gave
+    -- at the piece that it gave
     stops_piece : (piece : Text) (mid new : S) (due : List Told) (r : Refusal) → 0 < length piece.bytes → MakesReads history remaining reader (Gave piece.bytes ∷ []) reader' → IsStop refuses piece mid due r new → Stopped r
     stops_piece piece mid new due r long makes (inl h) =
         subst Stopped (sym h.0.0) (
@@ -206,7 +206,7 @@ module _ {D S : Type 0} (inner : D → S) (held : D → List ℕ) (failed : D �
         (λ k. stops_piece h.0 k.1.mid (inner n) k.1.rest r h.1.0 h.2 k.1.stop)
         h.3.1
 
--- the last read came to the end
+-- the last read found the end
 
 pub given_end : (these : List OneRead) → given (these ++ CameToEnd ∷ []) ≡ given these
 given_end these = given-push these CameToEnd ∙ append-nil (given these)
@@ -233,7 +233,7 @@ ready_first known held unwritten failed h f u = record {
   empty = u;
 }
 
--- a reader that tells its bytes has given all of them when it has come to its end
+-- a reader at its end has given all its bytes, if these are known
 pub all_decoded : (input left before after : Option (List ℕ)) (read : List ℕ) → Consumes input left read → IsAtEnd left → WritesText (characters (due read)) before after → DecodesAll input before after
 all_decoded None left before after read gave end w = tt
 all_decoded (Some bytes) None before after read gave end w = absurd gave

@@ -1,4 +1,4 @@
--- What standard error is told, and what stands written then.
+-- What is printed to standard error, and what is written then.
 use Rattle.std.specs.Prelude.{ℕ, List, [], ◌∷◌, ◌++◌, codes, Option}
 use Rattle.tendril_script.specs.Endings.{RunEnded}
 use Rattle.tendril_cli.specs.Sessions.{Answers}
@@ -7,10 +7,10 @@ use Rattle.tendril_cli.specs.Sessions.{Answers}
 abbrev pub program_name : List ℕ
 program_name = codes "tendril"
 
--- what standard error is told of words that ask for nothing
+-- the line for words that ask for nothing
 abbrev pub usage : List ℕ
 usage = codes "usage: tendril run | tendril decode" ++ 10 ∷ []
 
--- a refusal ended the program: its line went to standard error, and what was printed before stands
+-- an error ended a run: its line was printed to standard error, and what was written before stays
 abbrev pub Ended : Option (List ℕ) → Option (List ℕ) → Option (List ℕ) → Option (List ℕ) → Option (List ℕ) → Type 0
 Ended remaining before after told told' = RunEnded Answers program_name [] remaining before after told told'

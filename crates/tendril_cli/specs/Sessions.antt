@@ -12,14 +12,14 @@ use Rattle.tendril_script.specs.Commands.{CommandAnswers}
 use Rattle.tendril_script.specs.Sessions.{RanFrom}
 use Rattle.tendril_script.specs.WhiteSpace.{class}
 
--- the reply to a command: that of its step, or that memory was wanting before it, and nothing changed
+-- the reply to a command: that of its step, or Memory before the step, and nothing changed
 abbrev pub Replies : List Cell → Command → Reply → List Cell → Type 0
 Replies old command reply new = Step class old command reply new ⊎ ((reply ≡ Refused Memory) × (new ≡ old))
 
--- what a line prints: the reply to the command that it is, or `malformed`
+-- what a line prints: the reply to the command that it spells, or `malformed`
 abbrev pub Answers : List Cell → List ℕ → List ℕ → List Cell → Type 0
 Answers = CommandAnswers IsLine Replies printed
 
--- a writer that tells its bytes has taken what is written for the script that a reader which tells its bytes has left
+-- the writer got what is written for the script that the reader had left, if their bytes are known
 abbrev pub Ran : Option (List ℕ) → Option (List ℕ) → Option (List ℕ) → Type 0
 Ran remaining before after = RanFrom Answers [] remaining before after

@@ -1,4 +1,4 @@
-//! Decoding of the input to the output.
+//! Decodes the input to the output.
 ghost use Rattle.std.specs.Prelude.{◌≡◌, ◌<◌, true, false, List, [], ◌∷◌, ◌++◌, ℕ, Option, All, length, IsUtf8, IfOk, IfErr, OnOk, OnErr};
 ghost use Rattle.std.specs.Io.KnownBytes.{Appends, IsAtEnd};
 ghost use Rattle.tendril_lossy.specs.Lossy.{characters, due};
@@ -14,11 +14,13 @@ use tendril_script::{flush, write_bytes};
 use tendril_stream::{CountedRead, TendrilSink, Utf8LossyDecoder, read_once};
 use tendril_text::block::Refusal;
 
-/// How many reads are made at most. Of a file or a pipe that fills each read that is 4 TB.
+/// The maximal number of reads: 4 TB, if each read gives 4096 bytes.
 const MOST_READS: u64 = 1_000_000_000;
 
-/// Decodes all that the input has, and writes the texts: those of one read before the next is made. A failed write is
-/// SinkRefused; where 1000000000 reads don't reach the end, the answer is TooManyReads.
+/// Decodes the whole input, and writes the text of each read before the next read.
+///
+/// Errors: Memory (none for a read), Io (a failed read), Count, SinkRefused (a failed write or flush, or no memory for
+/// the text), and TooManyReads if 1000000000 reads don't reach the end.
 pub fn decode<R: CountedRead, W: Write>(
     alloc: Global,
     reader: &mut R,
@@ -41,7 +43,7 @@ pub fn decode<R: CountedRead, W: Write>(
     Err(Refusal::TooManyReads)
 }
 
-// Makes one read, and writes what is decoded then. It answers whether the end came.
+// Makes one read, writes what is decoded from it, and returns whether the input is at its end.
 fn decode_read<R: CountedRead, W: Write>(
     alloc: Global,
     decoder: &mut Utf8LossyDecoder<Joined>,
@@ -69,7 +71,7 @@ fn decode_read<R: CountedRead, W: Write>(
     Ok(false)
 }
 
-// Ends the stream, and writes what is due of its end.
+// Ends the stream, and writes what the bytes that the decoder kept decode to.
 fn decode_end<W: Write>(decoder: Utf8LossyDecoder<Joined>, out: &mut W) -> Result<(), Refusal>
     ensures ok { (before : Option (List ℕ)) → (these : List OneRead)
         → IsReady these before (W.contents out.old) decoder.kept decoder.failed decoder.inner_sink
@@ -83,7 +85,7 @@ fn decode_end<W: Write>(decoder: Utf8LossyDecoder<Joined>, out: &mut W) -> Resul
     write_text(&text, out)
 }
 
-// Writes a text, and flushes.
+// Writes a text and flushes. The only error is SinkRefused.
 fn write_text<W: Write>(text: &Joined, out: &mut W) -> Result<(), Refusal>
     ensures utf8 { IsUtf8 text.now }
     ensures ok { OnOk result (Appends (W.contents out.old) (W.contents out.new) text.now) }

@@ -8,7 +8,7 @@ use tendril_stream::TendrilSink;
 use tendril_text::StrTendril;
 use tendril_text::block::Refusal;
 
-/// The texts that were sent, as one. A vector, since nobody shares it: a push onto it tests less than one onto a text.
+/// The texts that were sent, as one. It is a vector, since it is never shared: a push onto it needs fewer tests.
 #[derive(Drop)]
 pub struct Joined {
     text: Vec<u8>,
@@ -25,7 +25,7 @@ impl Model for Joined {
 }
 
 impl Joined {
-    /// No text was sent yet.
+    /// Creates the sink, without texts. Allocates nothing.
     pub fn new(alloc: Global) -> Self
         ensures { result ≡ [] }
     {
@@ -34,7 +34,7 @@ impl Joined {
         }
     }
 
-    /// The bytes of the texts.
+    /// Returns the bytes of the texts.
     pub fn as_bytes(&self) -> &[u8]
         ensures value { result.now ≡ self.now }
         ensures utf8 { IsUtf8 self.now }
@@ -42,7 +42,7 @@ impl Joined {
         self.text.as_slice()
     }
 
-    /// Drops the texts, and keeps the memory.
+    /// Removes the texts and keeps the capacity.
     pub fn clear(&mut self)
         ensures { self.new ≡ [] }
     {
@@ -89,8 +89,8 @@ impl TendrilSink<StrTendril> for Joined {
     }
 }
 
-// Appends bytes. One character of up to three bytes is what comes most between broken bytes, and is U+FFFD too: it is stored
-// byte by byte, since a call to copy it takes longer.
+// Appends bytes. One character of up to three bytes, as U+FFFD, is stored byte by byte: it is the most frequent text
+// in broken input, and a call that copies it takes longer.
 #[inline(always)]
 fn push_bytes(to: &mut Vec<u8>, bytes: &[u8]) -> Result<(), AllocError>
     ensures ok { OnOk result (to.new.items ≡ to.old.items ++ bytes.now) }

@@ -1,4 +1,4 @@
-//! What the lines of a script do: commands on one table of texts.
+//! Carries out the lines of a script: commands on one table of texts.
 ghost use Rattle.std.specs.Prelude.{◌≡◌, []};
 ghost use Rattle.tendril_cli.specs.Sessions.{Replies};
 
@@ -9,14 +9,14 @@ use tendril_script::Lines;
 use tendril_text::NonAtomic;
 use tendril_text::block::Refusal;
 
-/// A table that lines change.
+/// The table that lines change.
 #[derive(Drop)]
 pub struct TextLines {
     table: Table<NonAtomic>,
 }
 
 impl TextLines {
-    /// A table without slots. Takes no memory.
+    /// Creates the state with an empty table. Allocates nothing.
     pub fn new(alloc: Global) -> Self
         ensures { result.table.cells ≡ [] }
     {
@@ -25,7 +25,7 @@ impl TextLines {
         }
     }
 
-    // The reply to one command. Room for the slot that it may make is reserved first.
+    // Returns the reply to one command, after reserving capacity for the slot that it may add.
     fn reply(&mut self, command: &Command) -> Reply
         ensures { Replies self.old.table.cells command.now result self.new.table.cells }
     {

@@ -1,4 +1,4 @@
-//! The program `tendril`: it runs commands on texts, a line each, or decodes its input.
+//! The program `tendril`: it runs commands on texts, one per line, or decodes its input.
 #![tactic(auto)]
 
 mod decode;

@@ -1,4 +1,4 @@
-//! The program over any reader and writers.
+//! The program, over any reader and writers.
 ghost use Rattle.std.specs.Prelude.{◌≡◌, ◌≤◌, ◌↔◌, ◌⊎◌, map, IsTrue};
 ghost use Rattle.std.specs.Io.KnownBytes.{IsAtEnd, Keeps};
 ghost use Rattle.tendril_script.specs.Words.{AskToRun};
@@ -53,7 +53,7 @@ impl Program for TextLines {
     }
 }
 
-// Whether the words ask for a decoding: `decode`.
+// Whether the words ask to decode: the only word is `decode`.
 fn asks_to_decode(words: &[&str]) -> bool
     ensures { IsTrue result ↔ AskToDecode (map (λ word. word.now) words.now) }
 {
@@ -63,8 +63,9 @@ fn asks_to_decode(words: &[&str]) -> bool
     }
 }
 
-/// Runs the program with the arguments after its name, and returns its status. An argument that isn't UTF-8 is the empty
-/// word, which asks for nothing.
+/// Runs the program with the arguments after its name, and returns its status.
+///
+/// An argument that isn't UTF-8, or has more than 16 bytes, is the empty word, which asks for nothing.
 pub fn program_with_arguments<S: Env + AllocGlobal, R: Read, W: Write, E: Write>(
     system: &S,
     input: &mut R,
@@ -88,10 +89,10 @@ pub fn program_with_arguments<S: Env + AllocGlobal, R: Read, W: Write, E: Write>
 
 /// Runs what the words ask for, and returns the program's status.
 ///
-/// No word, or `run`: the lines of the input are run on one table, and the replies printed (status 0). A failed read or
-/// write, or no memory, prints `tendril: refused N Name` to `err`, and what was printed before stays (status 1): in whole
-/// lines, unless a write failed. `decode`: the input is decoded, and the texts written (status 0), or an error printed
-/// (status 1). All other words print the usage to `err` (status 2).
+/// For no word, or `run`, it runs the lines of the input on one table and prints the replies (status 0). After a failed
+/// read, write or allocation it prints `tendril: refused N Name` to `err` (status 1); the replies so far stay written,
+/// in whole lines unless a write failed. For `decode` it decodes the input and writes the text (status 0), or prints an
+/// error (status 1). For other words it prints the usage to `err` (status 2).
 #[tactic(auto, using(crate::proofs::WordLemmas::runs_only))]
 pub fn program<R: Read, W: Write, E: Write>(
     alloc: Global,
@@ -104,15 +105,15 @@ pub fn program<R: Read, W: Write, E: Write>(
         × (AskToDecode (map (λ word. word.now) words.now) → ⊥)) }
     ensures status { result ≤ 2 }
 
-    // Where the reader and the writers tell their bytes, all that was asked is answered.
+    // For a reader and writers whose bytes are known: what the words ask for is written.
     ensures ran { AskToRun (map (λ word. word.now) words.now) → result ≡ 0
         → Ran (R.remaining input.old) (W.contents out.old) (W.contents out.new) }
     ensures decoded { AskToDecode (map (λ word. word.now) words.now) → result ≡ 0
         → DecodesAll (R.remaining input.old) (W.contents out.old) (W.contents out.new) }
     ensures silent { result ≡ 0 → Keeps (E.contents err.old) (E.contents err.new) }
 
-    // Or an error is printed, and some first lines of the script are answered, in whole lines unless a write failed, or the
-    // first texts are written.
+    // Or an error is printed. The replies to the first lines are written, in whole lines unless a write failed; for
+    // `decode`, a prefix of the decoding.
     ensures refused { AskToRun (map (λ word. word.now) words.now) → result ≡ 1 → Ended (R.remaining input.old)
         (W.contents out.old) (W.contents out.new) (E.contents err.old) (E.contents err.new) }
     ensures stopped { AskToDecode (map (λ word. word.now) words.now) → result ≡ 1 → DecodingEnded most_reads (R.remaining input.old)
@@ -122,7 +123,7 @@ pub fn program<R: Read, W: Write, E: Write>(
     ensures misused { result ≡ 2 → Keeps (W.contents out.old) (W.contents out.new) }
     ensures told { result ≡ 2 → AppendsFront (E.contents err.old) (E.contents err.new) usage }
 
-    // No line is answered before the input's end.
+    // Nothing is written before the input's end.
     ensures reads_first { AskToRun (map (λ word. word.now) words.now)
         → Keeps (W.contents out.old) (W.contents out.new) ⊎ IsAtEnd (R.remaining input.new) }
 {

@@ -1,4 +1,4 @@
-//! The program on readers and writers that do what only they can: fail, give few bytes at a time, or fill up.
+//! The program on readers that fail or give few bytes at a time, and writers that fail or fill up.
 
 mod arguments;
 mod decoding;
@@ -11,7 +11,7 @@ use notes::Notes;
 use std::alloc::Global;
 use std::io::{Read, Write};
 
-/// What the program did.
+/// The program's status, and what it wrote to standard output and standard error.
 #[derive(Drop)]
 struct Seen {
     status: u8,
@@ -19,17 +19,17 @@ struct Seen {
     err: Vec<u8>,
 }
 
-/// Its status, and what it prints.
+/// The expected status, output and error output.
 type Expected<'a> = (u8, &'a [u8], &'a [u8]);
 
-/// Runs the program.
+/// Runs the program with a writer that takes everything.
 fn run_program<R: Read>(alloc: Global, words: &[&str], input: &mut R) -> Seen {
     let mut out = Vec::new(alloc);
     let (status, err) = run_with(alloc, words, input, &mut out);
     Seen { status, out, err }
 }
 
-/// Runs the program over any writer. What it returns, and prints as an error.
+/// Runs the program with any writer. Returns the status and the error output.
 fn run_with<R: Read, W: Write>(
     alloc: Global,
     words: &[&str],
@@ -41,7 +41,7 @@ fn run_with<R: Read, W: Write>(
     (status, err)
 }
 
-/// Notes what is otherwise than expected.
+/// Notes each difference from the expected.
 fn check(notes: &mut Notes, row: usize, seen: &Seen, (status, out, err): Expected) {
     notes.same(row, seen.status, status);
     notes.same(row, seen.out.as_slice(), out);

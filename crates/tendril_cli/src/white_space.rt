@@ -1,11 +1,11 @@
-//! The classifier of the program.
+//! The program's classifier.
 ghost use Rattle.std.specs.Prelude.{ℕ};
 ghost use Rattle.tendril_script.specs.WhiteSpace.{class};
 
 use tendril_run::Classifier;
 use tendril_script::class_of;
 
-/// White space, the 25 characters with Unicode's property White_Space, is class 0, and all else class 1.
+/// Class 0 for white space, which is 25 characters (Unicode's White_Space), else class 1.
 pub struct WhiteSpace;
 
 impl Classifier for WhiteSpace {

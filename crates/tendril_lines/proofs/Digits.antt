@@ -13,7 +13,7 @@ use Rattle.tendril_lines.specs.Words.{IsNumberUpTo, IsLongNumber, IsPlain}
 own : IsNumeralModel (AllDigits 10) (digits_value 10)
 own = numerals_by_value (AllDigits 10) tells_digits
 
--- what the bytes of a number are like
+-- the shape of a number's digits
 pub record HasShape (word : List ℕ) : Type 0 where
   pub nonempty : 0 < length word
   pub first : get_or word 0 0 ≢ 43
@@ -37,7 +37,7 @@ shape_decimal n small =
 pub shape_of : (n : ℕ) (word : List ℕ) → IsLongNumber n word → HasShape word
 shape_of n word h = rw h.1 (shape_decimal n (omega (arith, h.0)))
 
--- what is parsed is a number's word
+-- a word that is parsed to a number is its decimal digits
 pub number_parsed : {E : Type 0} (bits limit n : ℕ) (word : List ℕ) (r : Result ℕ E) → limit + 1 ≡ 2 ^ bits → limit < 2 ^ 64 → IsPlain word → ParsesUnsigned bits 10 word r → r ≡ Ok n → IsNumberUpTo limit n word
 number_parsed bits limit n word r is small plain parsed ok =
     let p : OkIff r (AllDigits 10 word × (0 < length word) × (digits_value 10 word < 2 ^ bits)) (digits_value 10 word) = parse_plain own bits word r parsed plain.0 in
@@ -56,7 +56,7 @@ pub as_option : {T E : Type 0} (P B : T → Type 0) (Q : E → Type 0) (A : Type
 as_option P B Q A (Ok x) found none h = found x h
 as_option P B Q A (Err e) found none h = none e h
 
--- of what a parse answers, the numbers are those of which the word is one
+-- a parse returns a number exactly if the word denotes it
 pub number_read : {E : Type 0} (bits limit n : ℕ) (word : List ℕ) (r : Result ℕ E) (result : Option ℕ) → limit + 1 ≡ 2 ^ bits → limit < 2 ^ 64 → IsPlain word → ParsesUnsigned bits 10 word r → result ≡ result_ok r → (result ≡ Some n) ↔ IsNumberUpTo limit n word
 number_read bits limit n word r result is small plain parsed value = (
   λ e. number_parsed bits limit n word r is small plain parsed (from_result_ok r n (sym value ∙ e)),

@@ -1,4 +1,4 @@
--- The words of the contracts on lines.
+-- The definitions that contracts on lines cite.
 pub mod Names
 pub mod Lines
 pub mod Printed

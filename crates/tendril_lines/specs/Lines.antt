@@ -1,4 +1,4 @@
--- Lines of commands: the verb of each command, and what the words after it stand for.
+-- Lines of commands: the verb of each command, and the values of the words after it.
 use Rattle.std.specs.Prelude.{ℕ, List, codes}
 use Rattle.tendril_lines.specs.Shapes.{AreVerbAndWords}
 use Rattle.tendril_lines.specs.Words.{words}
@@ -41,7 +41,7 @@ use Rattle.tendril_lines.specs.declared.shape.Value.TheVariants.{
 use Rattle.tendril_lines.specs.declared.shape.Values.{Values}
 use Rattle.tendril_lines.specs.declared.shape.Values.TheVariants.{One, Two, Three}
 
--- the verb of a command, and what the words after it stand for
+-- the verb of a command, and the values of the words after it
 abbrev pub words_of : Command → List ℕ × Values
 words_of (New kind) = (codes "new", One (Format kind))
 words_of (FromBytes kind b) = (codes "from", Two (Format kind) (Bytes b))
@@ -68,6 +68,6 @@ words_of (Drop slot) = (codes "drop", One (Slot slot))
 words_of (FromUnits us) = (codes "from16", One (Units16 us))
 words_of (Units slot) = (codes "units", One (Slot slot))
 
--- the line is the command's
+-- this is the line of the command
 abbrev pub IsLine : Command → List ℕ → Type 0
 IsLine command line = AreVerbAndWords (words_of command) (words line)

@@ -1,4 +1,4 @@
--- The names of formats and of comparisons, as lines have them.
+-- The names of formats and of comparisons in lines.
 use Rattle.std.specs.Prelude.{ℕ, List, codes}
 use Rattle.tendril_lines.specs.declared.command.Comparison.{Comparison}
 use Rattle.tendril_lines.specs.declared.command.Comparison.TheVariants.{Less, Equal, Greater, Differ}

@@ -1,4 +1,4 @@
--- What the words after a verb stand for.
+-- The kinds and the values of the words after a verb.
 use Rattle.std.specs.Prelude.{ℕ, ◌≡◌, List, [], ◌∷◌, map}
 use Rattle.tendril_lines.specs.Names.{kind_name}
 use Rattle.tendril_lines.specs.Words.{IsNumber, IsLongNumber, IsCharWord, IsHex, IsByteWord, IsUnits}
@@ -18,7 +18,7 @@ use Rattle.tendril_lines.specs.declared.shape.Values.TheVariants.{Empty, One, Tw
 use Rattle.tendril_lines.specs.declared.shape.Word.{Word}
 use Rattle.tendril_lines.specs.declared.shape.Word.TheVariants as kinds
 
--- the word stands for the value
+-- the word denotes the value
 abbrev pub IsWord : Value → List ℕ → Type 0
 IsWord (Slot n) word = IsNumber n word
 IsWord (Number n) word = IsNumber n word
@@ -29,7 +29,7 @@ IsWord (Bytes b) word = IsHex b word
 IsWord (Byte b) word = IsByteWord b word
 IsWord (Units16 us) word = IsUnits us word
 
--- the kind of word that stands for it
+-- the kind of word that denotes the value
 abbrev pub word_of : Value → Word
 word_of (Slot n) = kinds.Slot
 word_of (Number n) = kinds.Number
@@ -51,7 +51,7 @@ list_of (Three a b c) = a ∷ b ∷ c ∷ []
 abbrev pub shape_of : Values → List Word
 shape_of values = map word_of (list_of values)
 
--- one word each, and no more
+-- one word for each value, and no more
 abbrev pub AreWords : List Value → List (List ℕ) → Type 0
 AreWords [] [] = Unit {0}
 AreWords (x ∷ xs) (word ∷ rest) = IsWord x word × AreWords xs rest

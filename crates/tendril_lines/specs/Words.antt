@@ -5,7 +5,7 @@ use Rattle.std.specs.Fmt.{decimal}
 use Rattle.std.specs.List.{slice_split}
 use Rattle.hex.specs.Hex.{decode_of, encode_lower}
 
--- the words of a line: what stands between two spaces next to each other is a word too, an empty one
+-- the words of a line, split at each space: between two adjacent spaces is an empty word
 abbrev pub words : List ℕ → List (List ℕ)
 words line = slice_split (λ byte. byte == 32) line
 
@@ -21,7 +21,7 @@ IsNumber n word = IsNumberUpTo 4294967295 n word
 abbrev pub IsLongNumber : ℕ → List ℕ → Type 0
 IsLongNumber n word = IsNumberUpTo 18446744073709551615 n word
 
--- a word that begins with no plus sign, and with no zero but in `0`
+-- a word that doesn't begin with a plus sign, and begins with a zero only if it is one byte
 abbrev pub IsPlain : List ℕ → Type 0
 IsPlain word = (get_or word 0 0 ≢ 43) × (get_or word 0 0 ≡ 48 → length word ≡ 1)
 

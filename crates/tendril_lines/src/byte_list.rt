@@ -16,21 +16,21 @@ impl Model for ByteList {
 }
 
 impl ByteList {
-    /// The bytes of a vector. Takes no memory.
+    /// Wraps a vector of bytes. Allocates nothing.
     pub fn new(bytes: Vec<u8>) -> Self
         ensures { result ≡ bytes.items }
     {
         ByteList { bytes }
     }
 
-    /// The bytes.
+    /// Borrows the bytes.
     pub fn as_slice(&self) -> &[u8]
         ensures { result.now ≡ self.now }
     {
         self.bytes.as_slice()
     }
 
-    /// The vector of the bytes. Takes no memory.
+    /// Returns the vector of the bytes. Allocates nothing.
     pub fn into_vec(self) -> Vec<u8>
         ensures { result.items ≡ self }
     {

@@ -1,4 +1,4 @@
-//! What a table is asked, and what it answers.
+//! Commands on a table, and their replies.
 
 use crate::byte_list::ByteList;
 use crate::unit_list::UnitList;
@@ -24,69 +24,69 @@ pub enum Comparison {
     Differ,
 }
 
-/// What is asked of a table. Slots are named by their numbers, from 0.
+/// A command on a table. Slots are numbered from 0.
 #[derive(Debug, Drop)]
 pub enum Command {
-    /// A new slot with the empty text.
+    /// Adds a slot with the empty text.
     New(Kind),
-    /// A new slot with these bytes.
+    /// Adds a slot with these bytes.
     FromBytes(Kind, ByteList),
-    /// The bytes at the end of the slot's text.
+    /// Pushes the bytes onto the slot's text.
     PushBytes(usize, ByteList),
-    /// The text of the second slot at the end of the first slot's text, in the one format that both have.
+    /// Pushes the text of the second slot onto the first slot's text, if both have the same format.
     PushTendril(usize, usize),
-    /// The character at the end of the slot's text, where its format has it.
+    /// Pushes the character onto the slot's text, if its format has it.
     PushChar(usize, char),
-    /// So many zeros at the end of the slot's bytes.
+    /// Pushes a number of zeros onto the slot's bytes.
     PushZeros(usize, u32),
-    /// A new slot with the slice of the text from the offset on, of this length.
+    /// Adds a slot with a slice of the text: the offset, and the number of bytes.
     Slice(usize, u32, u32),
-    /// So many bytes are dropped from the front of the slot's text.
+    /// Drops a number of bytes from the front of the slot's text.
     PopFront(usize, u32),
-    /// So many bytes are dropped from the back of the slot's text.
+    /// Drops a number of bytes from the back of the slot's text.
     PopBack(usize, u32),
-    /// The first character is taken out of the slot's text.
+    /// Pops the first character of the slot's text.
     PopChar(usize),
-    /// A new slot with the longest run of characters of one class at the front of the slot's text, which loses them.
+    /// Moves the longest prefix of the slot's text with characters of one class to a new slot.
     PopRun(usize),
-    /// A new slot with the same text.
+    /// Adds a slot with the same text.
     Clone(usize),
-    /// The slot's text becomes empty.
+    /// Clears the slot's text.
     Clear(usize),
-    /// Spare capacity in the slot's text, for a number of bytes.
+    /// Reserves spare capacity in the slot's text, for a number of bytes.
     Reserve(usize, u32),
-    /// The slot's bytes in another format, where they are valid in it.
+    /// Changes the format of the slot's bytes to another, if they are valid in it.
     Reinterpret(usize, Kind),
-    /// The slot's bytes in a format of which theirs is a part.
+    /// Changes the format of the slot's bytes to a larger one.
     ToSuperset(usize, Kind),
-    /// The slot's bytes in a part of their format, where they are valid in it.
+    /// Changes the format of the slot's bytes to a smaller one, if they are valid in it.
     ToSubset(usize, Kind),
-    /// The byte at the index of the slot's bytes becomes this one.
+    /// Sets the byte at an index of the slot's bytes.
     WriteByte(usize, u32, u8),
-    /// How the texts of two slots compare, in the one format that both have.
+    /// Compares the texts of two slots, if both have the same format.
     Compare(usize, usize),
-    /// The slot's bytes.
+    /// Returns the slot's format and bytes.
     Text(usize),
-    /// A clone of the slot's text is made sendable and taken back, and takes the slot. No thread is started.
+    /// Replaces the slot's text by a clone that was made sendable and taken back. No thread is started.
     ThroughSend(usize),
-    /// The slot is gone for good. Its number isn't used again.
+    /// Drops the slot. Its number isn't used again.
     Drop(usize),
-    /// A new slot with the text of these 16-bit units, in WTF-8.
+    /// Adds a slot with the text of these 16-bit units, in WTF-8.
     FromUnits(UnitList),
-    /// The 16-bit units of the slot's text, which is in WTF-8.
+    /// Returns the 16-bit units of the slot's text, which is in WTF-8.
     Units(usize),
 }
 
-/// What is answered to a command.
+/// The reply to a command.
 #[derive(Debug, Drop)]
 pub enum Reply {
-    /// It is done.
+    /// The command is done.
     Done,
-    /// It is done, and the text is in the new slot of this number.
+    /// The command is done, and its text is in the new slot of this number.
     Made(usize),
-    /// The character, `None` where the text is empty.
+    /// The character, or `None` if the text is empty.
     Char(Option<char>),
-    /// The new slot with the run, and the run's class, `None` where the text is empty.
+    /// The new slot with the run, and the run's class, or `None` if the text is empty.
     Run(Option<(usize, u32)>),
     /// How two texts compare.
     Compared(Comparison),
@@ -94,6 +94,6 @@ pub enum Reply {
     Text(Kind, ByteList),
     /// The units of the text.
     Units(UnitList),
-    /// It is refused, and nothing has changed.
+    /// The command's error. Nothing has changed.
     Refused(Refusal),
 }

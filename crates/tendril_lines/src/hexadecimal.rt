@@ -6,7 +6,9 @@ use crate::byte_list::ByteList;
 use hex::FromHexError;
 use std::alloc::{AllocError, Global};
 
-/// Bytes in hexadecimal, two digits each in either case, or a dash for none.
+/// Reads a word of bytes: two hexadecimal digits each, in either case, or a dash for none.
+///
+/// Returns `None` for other words. The only error is a failed allocation.
 #[tactic(auto, unfolding(crate::specs::Words::IsHex))]
 pub fn bytes(alloc: Global, word: &[u8]) -> Result<Option<ByteList>, AllocError>
     ensures { IfOk result (λ found. (b : List ℕ) → (found ≡ Some b) ↔ IsHex b word.now) }
@@ -22,7 +24,7 @@ pub fn bytes(alloc: Global, word: &[u8]) -> Result<Option<ByteList>, AllocError>
     }
 }
 
-/// One byte, by its two digits.
+/// Reads a word of one byte: two hexadecimal digits, in either case. Returns `None` for other words.
 #[tactic(auto, unfolding(crate::specs::Words::IsByteWord))]
 pub fn byte(alloc: Global, word: &[u8]) -> Result<Option<u8>, AllocError>
     ensures { IfOk result (λ found. (b : ℕ) → (found ≡ Some b) ↔ IsByteWord b word.now) }
@@ -36,7 +38,7 @@ pub fn byte(alloc: Global, word: &[u8]) -> Result<Option<u8>, AllocError>
     }
 }
 
-/// The word of bytes: two digits each in lower case, or a dash for none.
+/// Returns the word of bytes: two digits each in lower case, or a dash for none.
 pub fn hex_of(alloc: Global, bytes: &[u8]) -> Result<String, AllocError>
     ensures { IfOk result (λ text. string_bytes text ≡ hex_text bytes.now) }
 {

@@ -1,6 +1,6 @@
-//! What is asked of a table of texts and what is answered, and the lines in which both are written.
+//! Commands on a table of texts and their replies, and the lines of both.
 //!
-//! What a command does stands above, in `tendril_run`.
+//! `tendril_run` carries out the commands.
 #![tactic(auto)]
 
 mod byte_list;

@@ -13,13 +13,15 @@ use crate::unit_list::UnitList;
 use std::alloc::Global;
 use tendril_block::Refusal;
 
-/// The command of a line without its line feed, or `None` where no command has this line.
+/// Returns the command of a line, given without its line feed, or `None` if it is no command's line.
 ///
-/// The words of a line are parted by one space each. A slot, an offset or a length is a decimal number up to
+/// The words of a line are separated by one space each. A slot, an offset or a length is a decimal number up to
 /// 4294967295 without leading zeros; bytes are hexadecimal digits in either case, or `-` for none:
 /// `new F`, `from F H`, `push S H`, `join S S`, `char S C`, `zeros S N`, `slice S O L`, `front S N`, `back S N`,
 /// `pop S`, `run S`, `clone S`, `clear S`, `reserve S N`, `as S F`, `up S F`, `down S F`, `set S I H` (one byte),
 /// `cmp S S`, `text S`, `send S`, `drop S`, `from16 U` (four digits a 16-bit unit, or `-`), `units S`.
+///
+/// The only error is `Memory`.
 pub fn parse_line(alloc: Global, line: &[u8]) -> Result<Option<Command>, Refusal>
     ensures found { IfOk result (λ found. (c : _) → (found ≡ Some c) ↔ IsLine c line.now) }
     ensures refusal { IfErr result (λ r. r ≡ Refusal.Memory) }
@@ -46,7 +48,7 @@ impl LineCommand for Command {
     }
 }
 
-// What the words after a verb may stand for.
+// The kinds of the words after a verb.
 fn shape(verb: &[u8]) -> Option<&'static [Word]>
     ensures { (c : _) → verb.now ≡ (words_of c).0
         → IsSomeAnd result (λ shape. shape.now ≡ shape_of (words_of c).1) }

@@ -14,22 +14,22 @@ pub trait LineCommand: Sized + Drop {
     ghost use Rattle.tendril_lines.specs.Shapes.{Spells, shape_of};
     ghost use Rattle.tendril_lines.specs.declared.shape.Values.{Values};
 
-    /// The verb of a command, and what the words after it stand for.
+    /// The verb of a command, and the values of the words after it.
     ghost spelling: { Self → List ℕ × Values };
 
-    /// What the words after a verb may stand for, where a command has the verb.
+    /// Returns the kinds of the words after a verb, if a command has the verb.
     fn shape(verb: &[u8]) -> Option<&'static [Word]>
         ensures { (c : Self) → verb.now ≡ (spelling c).0 → IsSomeAnd result (λ shape. shape.now ≡ shape_of (spelling c).1) };
 
-    /// The command of a verb and what the words after it stand for, where there is one.
+    /// Returns the command of a verb and the values of the words after it, if there is one.
     fn from_values(verb: &[u8], values: Values) -> Option<Self>
         ensures { (c : Self) → (result ≡ Some c) ↔ Spells (spelling c) verb.now values };
 }
 
-/// The command of a line without its line feed, or `None` where no command has this line. The words of a line are parted by
-/// one space each.
+/// Returns the command of a line, given without its line feed, or `None` if it is no command's line.
 ///
-/// Allocates for the words of the line, once, and for what the command carries. Returns Memory only.
+/// The words of a line are separated by one space each. Allocates the list of words, once, and the bytes or units of
+/// the command. The only error is `Memory`.
 pub fn parse<C: LineCommand>(alloc: Global, line: &[u8]) -> Result<Option<C>, Refusal>
     ensures found { IfOk result (λ found. (c : C) → (found ≡ Some c) ↔ AreVerbAndWords (C.spelling c) (words line.now)) }
     ensures refusal { IfErr result (λ r. r ≡ Refusal.Memory) }

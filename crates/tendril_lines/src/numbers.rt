@@ -2,7 +2,7 @@
 ghost use Rattle.std.specs.Prelude.{◌≡◌, ◌↔◌, ℕ, Some, MatchOption};
 ghost use Rattle.tendril_lines.specs.Words.{IsNumber, IsLongNumber, IsPlain, IsCharWord};
 
-/// A number without leading zeros, up to 4294967295.
+/// Reads a decimal number up to 4294967295, without leading zeros. Returns `None` for other words.
 pub fn number(word: &[u8]) -> Option<u32>
     ensures { (n : ℕ) → (result ≡ Some n) ↔ IsNumber n word.now }
 {
@@ -10,7 +10,7 @@ pub fn number(word: &[u8]) -> Option<u32>
     text.parse::<u32>().ok()
 }
 
-/// A number without leading zeros, up to 18446744073709551615.
+/// Reads a decimal number up to 18446744073709551615, without leading zeros. Returns `None` for other words.
 pub fn long_number(word: &[u8]) -> Option<u64>
     ensures { (n : ℕ) → (result ≡ Some n) ↔ IsLongNumber n word.now }
 {
@@ -18,14 +18,14 @@ pub fn long_number(word: &[u8]) -> Option<u64>
     text.parse::<u64>().ok()
 }
 
-/// A character, by the number of its scalar value.
+/// Reads a character: the decimal number of its scalar value. Returns `None` for other words.
 pub fn scalar(word: &[u8]) -> Option<char>
     ensures { (c : ℕ) → (result ≡ Some c) ↔ IsCharWord c word.now }
 {
     char::from_u32(number(word)?)
 }
 
-// The text of a word, where that may be a number's.
+// The text of a word, unless it is empty, begins with a plus sign or an unneeded zero, or isn't UTF-8.
 fn plain(word: &[u8]) -> Option<&str>
     ensures { MatchOption result ((n : ℕ) → IsLongNumber n word.now → ⊥)
         (λ text. (text.now ≡ word.now) × IsPlain word.now) }

@@ -10,9 +10,9 @@ use crate::unit_list::hex_of_units;
 use std::alloc::{AllocError, Global};
 use tendril_block::Refusal;
 
-/// A reply's line, without its line feed: `ok`, `slot N`, `char C`, `run N K`, `none`, `less`, `equal`, `greater`,
-/// `differ`, a format's name with the bytes in lower-case digits or `-`, `units` with the units so, or
-/// `refused N Name`.
+/// Returns a reply's line, without its line feed: `ok`, `slot N`, `char C`, `run N K`, `none`, `less`, `equal`,
+/// `greater`, `differ`, a format's name with the bytes in lower-case digits or `-`, `units` with the units in such
+/// digits, or `refused N Name`. The only error is `Memory`.
 pub fn print_reply(alloc: Global, reply: &Reply) -> Result<String, Refusal>
     ensures printed { IfOk result (λ text. string_bytes text ≡ printed reply.now) }
     ensures refusal { IfErr result (λ r. r ≡ Refusal.Memory) }

@@ -1,4 +1,4 @@
-//! What the words after a verb stand for.
+//! The kinds and the values of the words after a verb.
 ghost use Rattle.std.specs.Prelude.{◌≡◌, ◌↔◌, [], ◌∷◌, map, Some, IfOk};
 ghost use Rattle.tendril_lines.specs.Names.{kind_name};
 ghost use Rattle.tendril_lines.specs.Shapes.{AreWords, IsWord, list_of, shape_of, word_of};
@@ -10,7 +10,7 @@ use crate::numbers::{long_number, number, scalar};
 use crate::unit_list::{UnitList, units};
 use std::alloc::{AllocError, Global};
 
-/// What a word may stand for.
+/// A kind of word.
 #[derive(Clone, Copy, Debug, PartialEq, Eq)]
 pub enum Word {
     /// A slot or a rope: its number, up to 4294967295.
@@ -31,7 +31,7 @@ pub enum Word {
     Units16,
 }
 
-/// What a word stands for.
+/// The value of a word.
 #[derive(Debug, Drop)]
 pub enum Value {
     Slot(usize),
@@ -44,7 +44,7 @@ pub enum Value {
     Units16(UnitList),
 }
 
-/// What the words after a verb stand for. No command has more than three.
+/// The values of the words after a verb. No command has more than three.
 #[derive(Debug, Drop)]
 pub enum Values {
     Empty,
@@ -53,7 +53,7 @@ pub enum Values {
     Three(Value, Value, Value),
 }
 
-/// What the words stand for where they have this shape: one word for each place, and no more.
+/// Reads the values of words that have this shape: one word of each kind, and no more. Returns `None` for other words.
 pub(crate) fn read_values(
     alloc: Global,
     shape: &[Word],
@@ -124,7 +124,7 @@ fn read_three(
     Ok(Some(Values::Three(first, second, third)))
 }
 
-// What one word stands for.
+// The value of one word.
 fn read_value(alloc: Global, kind: Word, word: &[u8]) -> Result<Option<Value>, AllocError>
     ensures { IfOk result (λ found. (v : _) → (found ≡ Some v) ↔ (word_of v ≡ kind) × IsWord v word.now) }
 {

@@ -19,21 +19,21 @@ impl Model for UnitList {
 }
 
 impl UnitList {
-    /// The units of a vector. Takes no memory.
+    /// Wraps a vector of units. Allocates nothing.
     pub fn new(units: Vec<u16>) -> Self
         ensures { result ≡ units.items }
     {
         UnitList { units }
     }
 
-    /// The units.
+    /// Borrows the units.
     pub fn as_slice(&self) -> &[u16]
         ensures { result.now ≡ self.now }
     {
         self.units.as_slice()
     }
 
-    /// The vector of the units. Takes no memory.
+    /// Returns the vector of the units. Allocates nothing.
     pub fn into_vec(self) -> Vec<u16>
         ensures { result.items ≡ self }
     {
@@ -42,7 +42,9 @@ impl UnitList {
     }
 }
 
-/// Units in hexadecimal, four digits each in either case, the high ones first, or a dash for none.
+/// Reads a word of units: four hexadecimal digits each, in either case, the high ones first, or a dash for none.
+///
+/// Returns `None` for other words. The only error is a failed allocation.
 #[tactic(auto, unfolding(crate::specs::Words::IsUnits))]
 pub fn units(alloc: Global, word: &[u8]) -> Result<Option<UnitList>, AllocError>
     ensures { IfOk result (λ found. (us : List ℕ) → (found ≡ Some us) ↔ IsUnits us word.now) }
@@ -53,7 +55,7 @@ pub fn units(alloc: Global, word: &[u8]) -> Result<Option<UnitList>, AllocError>
     }
 }
 
-/// The word of units: four digits each in lower case, the high ones first, or a dash for none.
+/// Returns the word of units: four digits each in lower case, the high ones first, or a dash for none.
 pub fn hex_of_units(alloc: Global, units: &[u16]) -> Result<String, AllocError>
     ensures { IfOk result (λ text. string_bytes text ≡ hex_text (big_endian units.now)) }
 {

@@ -11,8 +11,7 @@ use Rattle.tendril_block.specs.declared.refusal.Refusal.TheVariants.{Count}
 use Rattle.tendril_fmt.specs.Chars.{encodings}
 use Rattle.tendril_run.specs.Characters.{first_of, first_run, run_bytes, IsFirstRun, FirstRunMay, TakesFirstRun}
 
--- a classifier that stays as it is and answers each character by its class parts a text after the longest front of the
--- first one's class
+-- a classifier that doesn't change, and returns the class of each character, splits a text after its first run
 module _ {F : Type 0} (step : F → ℕ → ℕ → F → Type 0) (class : ℕ → ℕ) (classify : F) (tells : (c r : ℕ) (f : F) → step classify c r f → (f ≡ classify) × (r ≡ class c)) where
   stays : (f : F) (c r : ℕ) (f' : F) → f ≡ classify → step f c r f' → (f' ≡ classify) × (r ≡ class c)
   stays f c r f' is asked = tells c r f' (subst (λ f. step f c r f') is asked)
@@ -57,7 +56,7 @@ module _ {F : Type 0} (step : F → ℕ → ℕ → F → Type 0) (class : ℕ �
         let count : length (run_bytes encoding class (chars text)) ≡ h.end = ap length (sym front) ∙ length-take-le h.end text h.run.within in
         ((full, subst (λ n. 8 < n) (sym count) h.long), (full, subst (λ n. 8 < length (drop n text)) (sym count) (omega (arith, h.long_rest, length-drop h.end text))))
 
-    -- a text is asked for its first run
+    -- what `pop_front_char_run` of such a classifier returns and leaves is the first run and the remainder
     pub taken_run : {T B : Type 0} (bytes : B → List ℕ) (view : T → B) (old new : B) (result : Result (Option (T × ℕ)) Refusal)
         → IfOk result (λ found. IfSome found (λ run. IsRun step (λ x y. x == y) valid chars classify run.1 (bytes old) (bytes (view run.0)) (bytes new)))
         → IfOk result (λ found. IfNone found ((bytes old ≡ []) × (new ≡ old)))

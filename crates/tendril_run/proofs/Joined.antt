@@ -6,7 +6,7 @@ use Rattle.tendril_run.specs.OneCell.{join_rule}
 use Rattle.tendril_run.specs.Rules.{with_effect, Changes}
 use Rattle.tendril_run.specs.Steps.{TableJoined}
 
--- a push of one cell onto another that was taken out of the table for it
+-- a push of one cell onto another, which was out of the table meanwhile, is a push in the table
 pub joined_apart : {R S : Type 0} (f : S → Cell) (items : List S) (cells : List Cell) (to from : ℕ) (old more meanwhile new : S) (result : Result R Refusal)
     → map f items ≡ cells → to < length cells → from < length cells → to ≢ from
     → old ≡ get_or items to old → more ≡ get_or (set items to meanwhile) from more

@@ -4,7 +4,7 @@ use Rattle.std.specs.Option.{IfSome, IfNone}
 use Rattle.tendril_fmt.specs.Chars.{encodings, AreTextsOf}
 use Rattle.tendril_run.specs.Cells.{IsText}
 
--- a text without its first character is a text
+-- a text without its first character is valid and not too long
 module _ (valid : List ℕ → Type 0) (chars : List ℕ → List ℕ) (encoding : ℕ → List ℕ) (spell : (b : List ℕ) → valid b → b ≡ encodings encoding (chars b)) (cut : (b cs ds : List ℕ) → valid b → chars b ≡ cs ++ ds → AreTextsOf valid chars encoding cs ds) where
   pub rest_kept : {B : Type 0} (bytes : B → List ℕ) (old new : B) (found : Option ℕ)
       → IfSome found (λ c. chars (bytes old) ≡ c ∷ chars (bytes new)) → IfSome found (λ c. bytes old ≡ encoding c ++ bytes new) → IfNone found ((bytes old ≡ []) × (new ≡ old))

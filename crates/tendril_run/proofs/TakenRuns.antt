@@ -10,7 +10,7 @@ use Rattle.tendril_lines.specs.declared.command.Command.TheVariants.{PopRun}
 use Rattle.tendril_lines.specs.declared.command.Reply.TheVariants.{Run}
 
 module _ (class : ℕ → ℕ) (cells : List Cell) (slot : ℕ) (old new : Cell) (mid : List Cell) (one : OneChanged cells slot old new mid) where
-  -- an empty cell has no run
+  -- an empty cell has no run, and nothing changes
   pub none_taken : (pop_run_rule class old).must None → (char_of old ≡ None) × (new ≡ old) → CommandOutcome class cells (PopRun slot) (Ok (Run None)) mid
   none_taken must h = (
     subst (λ cell. (pop_run_rule class cell).must None) (sym one.here) must,
@@ -18,7 +18,7 @@ module _ (class : ℕ → ℕ) (cells : List Cell) (slot : ℕ) (old new : Cell)
         (sym (ap char_of one.here ∙ h.0)) (refl, one.kept h.1),
   )
 
-  -- the run of a cell is added to its table
+  -- the first run of a cell is added to its table
   pub run_taken : (k number : ℕ) (run : Cell) (after : List Cell) → (pop_run_rule class old).must None → IsRunOf class old k run new → number ≡ length mid → after ≡ mid ++ run ∷ [] → CommandOutcome class cells (PopRun slot) (Ok (Run (Some (number, k)))) after
   run_taken k number run after must (c, first, of_class, is_run, is_rest) at added =
       let here : (cell : Cell → Cell) → cell old ≡ cell (cell_at cells slot) = λ cell. ap cell (sym one.here) in
@@ -30,6 +30,6 @@ module _ (class : ℕ → ℕ) (cells : List Cell) (slot : ℕ) (old new : Cell)
             (ap₂ (λ n k. Run (Some (n, k))) place of_class, added ∙ ap₂ (λ cells run. cells ++ run ∷ []) rest (is_run ∙ here (run_of class))),
       )
 
-  -- a refused run changes nothing
+  -- an error of the pop changes nothing
   pub run_refused : (r : Refusal) → (pop_run_rule class old).must (Some r) ⊎ ((pop_run_rule class old).must None × (pop_run_rule class old).may r) → new ≡ old → CommandOutcome class cells (PopRun slot) (Err r) mid
   run_refused r h same = (subst (λ cell. (pop_run_rule class cell).must (Some r) ⊎ ((pop_run_rule class cell).must None × (pop_run_rule class cell).may r)) (sym one.here) h, one.kept same)

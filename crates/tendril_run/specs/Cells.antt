@@ -11,7 +11,7 @@ pub data Cell : Type 0 where
   gone : Cell
   text : Kind → List ℕ → Cell
 
--- a table: its cells, and how many more it has room for
+-- a table: its cells, and how many more slots it has capacity for
 pub record Board : Type 0 where
   pub cells : List Cell
   pub room : ℕ
@@ -24,19 +24,19 @@ valid_in Utf8 b = IsUtf8 b
 valid_in Wtf8 b = IsWtf8 b
 valid_in Latin1 b = AreBytes b
 
--- two valid lists as one
+-- the join of two valid lists
 abbrev pub join_in : Kind → List ℕ → List ℕ → List ℕ
 join_in Wtf8 l r = wtf8_join l r
 join_in kind l r = l ++ r
 
--- the texts of the first format are all texts of the second
+-- each text that is valid in the first format is valid in the second
 abbrev pub IsPartOf : Kind → Kind → Type 0
 IsPartOf Ascii Utf8 = Unit {0}
 IsPartOf Ascii Latin1 = Unit {0}
 IsPartOf Utf8 Wtf8 = Unit {0}
 IsPartOf part whole = ⊥
 
--- the cell of a number, gone past the end
+-- the cell with this number, gone past the end
 abbrev pub cell_at : List Cell → ℕ → Cell
 cell_at cells slot = get_or cells slot gone
 

@@ -1,4 +1,4 @@
--- How two cells compare, and what is answered to that.
+-- Comparisons of two cells, and their replies.
 use Rattle.std.specs.Prelude.{ℕ, ◌≡◌, List, nat_eq, if◌then◌else◌}
 use Rattle.std.specs.Cmp.Lexicographic.{pointwise, slice_cmp}
 use Rattle.std.specs.Ordering.{nat_cmp}
@@ -15,19 +15,19 @@ use Rattle.tendril_lines.specs.declared.command.Kind.TheVariants.{Bytes, Utf8}
 use Rattle.tendril_lines.specs.declared.command.Reply.{Reply}
 use Rattle.tendril_lines.specs.declared.command.Reply.TheVariants.{Compared}
 
--- an order, as it is answered
+-- the reply for an order
 abbrev pub in_order : Ordering → Comparison
 in_order ordering.Less = Less
 in_order ordering.Equal = Equal
 in_order ordering.Greater = Greater
 
--- how two texts of a format compare: by the order of their bytes, or, where the format has none, whether they are equal
+-- the comparison of two texts of a format: the order of their bytes, or only whether they are equal
 abbrev pub comparison_in : Kind → List ℕ → List ℕ → Comparison
 comparison_in Bytes b y = in_order (slice_cmp nat_cmp b y)
 comparison_in Utf8 b y = in_order (slice_cmp nat_cmp b y)
 comparison_in kind b y = if pointwise nat_eq b y then Equal else Differ
 
--- the rule of the reply that tells how two cells compare
+-- the rule of the reply that compares two cells
 abbrev pub compare_rule : Cell → Cell → Rule Reply
 compare_rule cell other =
     on_told (λ kind b. on_told (λ format y.

@@ -8,7 +8,7 @@ use Rattle.tendril_run.specs.declared.change.ByteEdit.TheVariants.{PushZeros, Wr
 use Rattle.tendril_run.specs.declared.change.Edit.{Edit}
 use Rattle.tendril_run.specs.declared.change.Edit.TheVariants.{PopFront, PopBack, Clear, Reserve}
 
--- the rule of an edit of the text b, which leaves a text
+-- the rule of an edit of the text b, which leaves it valid
 abbrev pub edit_rule : (List ℕ → Type 0) → Edit → List ℕ → Rule (List ℕ)
 edit_rule valid (PopFront count) b = rule_with (PopMust valid b count (drop count b)) NoneMay (drop count b)
 edit_rule valid (PopBack count) b =
@@ -16,7 +16,7 @@ edit_rule valid (PopBack count) b =
 edit_rule valid Clear b = always []
 edit_rule valid (Reserve more) b = rule_with (LengthMust (length b + more)) (MemoryMay (length b + more)) b
 
--- the rule of an edit of the bytes b, which may leave any
+-- the rule of an edit of the bytes b, which may leave any bytes
 abbrev pub byte_edit_rule : ByteEdit → List ℕ → Rule (List ℕ)
 byte_edit_rule (PushZeros count) b =
     rule_with (LengthMust (length b + count)) (MemoryMay (length b + count)) (b ++ replicate count 0)

@@ -1,4 +1,4 @@
--- The words of the contracts on tables.
+-- The definitions that contracts on tables cite.
 pub mod Cells
 pub mod CellOf
 pub mod Rules

@@ -36,36 +36,36 @@ use Rattle.tendril_lines.specs.declared.command.Kind.TheVariants.{Bytes, Wtf8}
 use Rattle.tendril_lines.specs.declared.command.Reply.{Reply}
 use Rattle.tendril_lines.specs.declared.command.Reply.TheVariants.{Text, Units, Refused}
 
--- the rule of what asks for a cell's text; a cell that is gone refuses it, so that the effect there never comes
+-- the rule of a call that needs a cell's text; if the cell is gone, NoSuchSlot is required and the effect never holds
 abbrev pub on_text : {E : Type 0} → E → (Kind → List ℕ → Rule E) → Cell → Rule E
 on_text never inner gone = no_slot never
 on_text never inner (text kind b) = inner kind b
 
--- the rule of what makes another text of a cell's text, in the same format
+-- the rule of a call that changes a cell's text, in the same format
 abbrev pub on_bytes : (Kind → List ℕ → Rule (List ℕ)) → Cell → Rule Cell
 on_bytes inner cell = on_text gone (λ kind b. with_effect (text kind) (inner kind b)) cell
 
--- the rule of what makes another text of a cell's characters, where its format has them
+-- the rule of a call that changes a cell's text by its characters, if its format has them
 abbrev pub on_chars : (Kind → List ℕ → Rule (List ℕ)) → Cell → Rule Cell
 on_chars inner cell = on_bytes (λ kind b. first (HasChars kind) WrongFormat (inner kind b)) cell
 
--- the rule of a reply that tells of a cell's text
+-- the rule of a reply that depends on a cell's text
 abbrev pub on_told : (Kind → List ℕ → Rule Reply) → Cell → Rule Reply
 on_told inner cell = on_text (Refused NoSuchSlot) inner cell
 
--- no state rules out that memory is wanting for what is told, however little
+-- Memory is permitted where a reply copies a text, of whatever length
 abbrev pub ToldMay : Refusal → Type 0
 ToldMay r = r ≡ Memory
 
--- the refusals that no state rules out where so many bytes are made sendable and taken back
+-- the errors that are permitted where a text of n bytes is made sendable and converted back
 abbrev pub SendMay : ℕ → Refusal → Type 0
 SendMay n r = MemoryMay n r ⊎ CountMay n r
 
--- the rule of a new cell with the text z, of whose length the refusals are said
+-- the rule of a new cell with the text z; `must` takes its length
 abbrev pub made_rule : Kind → (ℕ → Option Refusal → Type 0) → List ℕ → Rule Cell
 made_rule kind must z = with_effect (text kind) (grown must z)
 
--- the rule of a part of a cell
+-- the rule of a slice of a cell
 abbrev pub part_rule : ℕ → ℕ → Cell → Rule Cell
 part_rule offset count cell =
     on_bytes (λ kind b.
@@ -84,7 +84,7 @@ abbrev pub push_char_rule : ℕ → Cell → Rule Cell
 push_char_rule c cell =
     on_chars (λ kind b. grown (CharMust (IsCharIn kind) c) (join_in kind b (encoding_in kind c))) cell
 
--- the rule of a push of another cell's text onto a cell: where both are one slot, it is shared first
+-- the rule of a push of another cell's text onto a cell: if both are one slot, it is shared first
 abbrev pub join_rule : ℕ → ℕ → Cell → Cell → Rule Cell
 join_rule to from other cell =
     on_bytes (λ kind b. on_text b (λ format y.
@@ -98,37 +98,37 @@ abbrev pub char_of : Cell → Option ℕ
 char_of gone = None
 char_of (text kind b) = first_of (chars_in kind b)
 
--- the rule of a pop of a cell's first character, which leaves the rest
+-- the rule of a pop of a cell's first character
 abbrev pub pop_char_rule : Cell → Rule Cell
 pop_char_rule cell = on_chars (λ kind b. always (without_first (encoding_in kind) (chars_in kind b) b)) cell
 
--- the run at the front of a cell
+-- the first run of a cell
 abbrev pub run_of : (ℕ → ℕ) → Cell → Cell
 run_of class gone = gone
 run_of class (text kind b) = text kind (run_bytes (encoding_in kind) class (chars_in kind b))
 
--- the rule of a pop of that run, which leaves the rest
+-- the rule of a pop of the first run
 abbrev pub pop_run_rule : (ℕ → ℕ) → Cell → Rule Cell
 pop_run_rule class cell =
     on_chars (λ kind b. rule_with NoneMust (FirstRunMay (encoding_in kind) class (chars_in kind b) b)
     (drop (length (run_bytes (encoding_in kind) class (chars_in kind b))) b)) cell
 
--- a cell is parted into the run at its front, whose class is k, and the rest
+-- a cell is split into its first run, whose class is k, and the remainder
 abbrev pub IsRunOf : (ℕ → ℕ) → Cell → ℕ → Cell → Cell → Type 0
 IsRunOf class cell k run rest =
     (c : ℕ) × (char_of cell ≡ Some c) × (k ≡ class c) × (run ≡ run_of class cell)
     × (rest ≡ (pop_run_rule class cell).effect)
 
--- the rule of the reply that tells a cell's text
+-- the rule of the reply that is a cell's text
 abbrev pub text_rule : Cell → Rule Reply
 text_rule cell = on_told (λ kind b. rule_with NoneMust ToldMay (Text kind b)) cell
 
--- the rule of the reply that tells a cell's units
+-- the rule of the reply that is a cell's units
 abbrev pub units_rule : Cell → Rule Reply
 units_rule cell =
     on_told (λ kind b. first (kind ≡ Wtf8) WrongFormat (rule_with NoneMust ToldMay (Units (units b)))) cell
 
--- the rule of a conversion of a text, which leaves its bytes in another format
+-- the rule of a conversion of a text to another format, with the same bytes
 abbrev pub conversion_rule : Conversion → Kind → List ℕ → Rule Cell
 conversion_rule (Reinterpret other) kind b = rule_with (ValidMust (valid_in other) b) NoneMay (text other b)
 conversion_rule (ToSuperset other) kind b = first (IsPartOf kind other) WrongFormat (always (text other b))
@@ -145,7 +145,7 @@ change_rule (change.Convert conversion) cell = on_text gone (conversion_rule con
 change_rule change.ThroughSend cell = on_bytes (λ kind b. rule_with NoneMust (SendMay (length b)) b) cell
 change_rule change.Drop cell = on_text gone (λ kind b. always gone) cell
 
--- a slot of this cell changes its format, or is handed back with what refuses that
+-- a slot with this cell is converted, or returned unchanged with the error
 pub record Converts {S : Type 0} (cell_of : S → Cell) (cell : Cell) (conversion : Conversion)
     (result : Result S (Refusal × S)) : Type 0 where
   pub outcome : let by = change_rule (change.Convert conversion) cell in

@@ -1,4 +1,4 @@
--- What each command does to a table, and what it replies.
+-- What each command does to a table, and the reply to it.
 use Rattle.std.specs.Prelude.{ℕ, ◌≡◌, List, [], ◌∷◌, ◌++◌, length, slice_set, None, Some, MatchOption, Result}
 use Rattle.tendril_block.specs.Outcomes.{LengthMust, BytesMust}
 use Rattle.tendril_block.specs.declared.refusal.Refusal.{Refusal}
@@ -55,7 +55,7 @@ use Rattle.tendril_lines.specs.declared.command.Command.TheVariants.{
 use Rattle.tendril_lines.specs.declared.command.Reply.{Reply}
 use Rattle.tendril_lines.specs.declared.command.Reply.TheVariants as reply
 
--- what a command answers, and the cells that it leaves
+-- a command's reply, and the cells that it leaves
 abbrev pub Effect : Type 1
 Effect = Reply → List Cell → Type 0
 
@@ -63,11 +63,11 @@ Effect = Reply → List Cell → Type 0
 abbrev pub AddsCell : List Cell → Cell → Effect
 AddsCell old cell answer new = (answer ≡ reply.Made (length old)) × (new ≡ old ++ cell ∷ [])
 
--- one cell becomes another, and what is said is answered
+-- one cell is replaced by another, and the reply is `said`
 abbrev pub LeavesCell : List Cell → ℕ → Reply → Cell → Effect
 LeavesCell old slot said cell answer new = (answer ≡ said) × (new ≡ slice_set old slot cell)
 
--- the run at the front of a cell moves into a new last cell, and its place and class are answered, where there is one
+-- the first run of a cell moves into a new last cell, and the reply has its number and class; None if there is no run
 abbrev pub TakesRun : (ℕ → ℕ) → List Cell → ℕ → Cell → Effect
 TakesRun class old slot rest answer new =
     MatchOption (char_of (cell_at old slot))
@@ -75,22 +75,22 @@ TakesRun class old slot rest answer new =
     (λ c. (answer ≡ reply.Run (Some (length old, class c)))
     × (new ≡ slice_set old slot rest ++ run_of class (cell_at old slot) ∷ []))
 
--- what is said is answered, and nothing changes
+-- the reply is `said`, and nothing changes
 abbrev pub OnlySays : List Cell → Reply → Effect
 OnlySays old said answer new = (answer ≡ said) × (new ≡ old)
 
--- the rule of a cell at a place of a table, where it becomes another, and that is done
+-- the rule of a change of one cell of a table, with the reply Done
 abbrev pub at_slot : ℕ → (Cell → Rule Cell) → List Cell → Rule Effect
 at_slot slot by old = with_effect (LeavesCell old slot reply.Done) (by (cell_at old slot))
 
--- the text of one cell is put at the end of another's
+-- the text of one cell is appended to another's
 abbrev pub TableJoined : {R : Type 0} → ℕ → ℕ → List Cell → Result R Refusal → List Cell → Type 0
 TableJoined to from old result new =
     Changes (λ cells. with_effect (slice_set cells to) (join_rule to from (cell_at cells from) (cell_at cells to)))
     old result new
 
--- The rule of a command, from the cells before it: which refusal must come, which may, and what it answers and leaves
--- where none does. `class` sorts characters.
+-- The rule of a command, for the cells before it: the required error, the permitted ones, and else the reply and the
+-- new cells. `class` sorts characters.
 abbrev pub rule_of : (ℕ → ℕ) → Command → List Cell → Rule Effect
 rule_of class (New kind) old = with_effect (AddsCell old) (always (text kind []))
 rule_of class (FromBytes kind y) old =
@@ -123,10 +123,10 @@ rule_of class (Drop slot) old = at_slot slot (change_rule change.Drop) old
 rule_of class (FromUnits us) old = with_effect (AddsCell old) (made_rule format.Wtf8 LengthMust (wtf8 us))
 rule_of class (Units slot) old = with_effect (OnlySays old) (units_rule (cell_at old slot))
 
--- one command by its rule, from the cells before it to its answer and the cells after it
+-- by its rule, a command leads from the cells before it to its result and the cells after it
 abbrev pub CommandOutcome : (ℕ → ℕ) → List Cell → Command → Result Reply Refusal → List Cell → Type 0
 CommandOutcome class old command result new = Follows (rule_of class command) old result new
 
--- the same by its reply, which says whether it is refused
+-- `CommandOutcome` by the reply, which is `Refused` for an error
 abbrev pub Step : (ℕ → ℕ) → List Cell → Command → Reply → List Cell → Type 0
 Step class old command answer new = CommandOutcome class old command (answer_of answer) new

@@ -1,4 +1,4 @@
-//! What a command changes in the one text that it names, and how its bytes are changed.
+//! Changes of the one text that a command names.
 ghost use Rattle.std.specs.Prelude.{◌≤◌, length};
 ghost use Rattle.tendril_run.specs.Cells.{IsText};
 ghost use Rattle.tendril_run.specs.Edits.{edit_rule, byte_edit_rule};
@@ -29,7 +29,7 @@ pub(crate) enum Edit {
     Reserve(u32),
 }
 
-/// A change of what only a text of bytes may become, any byte.
+/// A change that only a text in the format `Bytes` allows, since any bytes are valid there.
 #[derive(Clone, Copy)]
 pub(crate) enum ByteEdit {
     PushZeros(u32),
@@ -61,7 +61,7 @@ pub(crate) fn apply_edit<F: Format, A: Atomicity>(
     Ok(())
 }
 
-/// Changes the bytes of a text of bytes.
+/// Changes the bytes of a text in the format `Bytes`.
 pub(crate) fn apply_byte_edit<A: Atomicity>(
     text: &mut Tendril<Bytes, A>,
     edit: ByteEdit,

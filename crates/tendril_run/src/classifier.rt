@@ -6,7 +6,7 @@ pub trait Classifier {
     /// The class of a character.
     ghost class: { Self → ℕ → ℕ };
 
-    /// The class of a character: the same one each time that it is asked.
+    /// Returns the class of a character, which is the same at each call.
     fn class_of(&self, character: char) -> u32
         ensures { result ≡ class self.now character };
 }

@@ -1,7 +1,6 @@
-//! What is called before each command.
+//! Gates: code that runs before each command of a job.
 
-/// Is called before each command of a worker, with the command's place in its list. It may wait or count, and has no say
-/// in what the command does.
+/// Is called before each command of a job, with the command's index. It may wait or count; it can't change the result.
 pub trait Gate {
     fn before(&self, command: usize);
 }

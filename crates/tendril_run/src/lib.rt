@@ -1,7 +1,7 @@
-//! Commands over tables of texts, in one thread or in many.
+//! Commands on tables of texts, in one thread or in many.
 //!
-//! A table is seen by contracts as a list of independent cells. What its texts share is never seen: each command
-//! changes the cell that it names, or adds one, and leaves all others.
+//! In contracts a table is a list of independent cells, though its texts may share blocks. A command changes the cell
+//! that it names, adds one, or both; all others stay as they are.
 #![tactic(auto)]
 
 mod change;

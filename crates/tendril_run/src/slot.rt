@@ -1,4 +1,4 @@
-//! One slot of a table. The format is picked here, once for each call; `text` is generic in it.
+//! One slot of a table. Each call here matches on the format once; the functions in `text` are generic over it.
 ghost use Rattle.std.specs.Prelude.{◌≡◌, []};
 ghost use Rattle.tendril_run.specs.CellOf.{cell_of};
 ghost use Rattle.tendril_run.specs.Cells.{IsCell, text as text_cell, valid_in};
@@ -16,7 +16,7 @@ use tendril_text::block::Refusal;
 use tendril_text::fmt::{ASCII, Bytes, Latin1, UTF8, WTF8};
 use tendril_text::{Atomicity, Tendril};
 
-/// A text in one of the formats, or nothing any more.
+/// A text in one of the formats, or `Gone` after it was dropped.
 #[derive(Drop)]
 pub enum Slot<A: Atomicity> {
     Bytes(Tendril<Bytes, A>),
@@ -27,7 +27,7 @@ pub enum Slot<A: Atomicity> {
     Gone,
 }
 
-// The same for the text of each format.
+// Evaluates `$body` for the text, whatever its format is, and `$gone` for a dropped slot.
 macro_rules! on_text {
     ($slot:expr, $kind:ident, $text:ident => $body:expr, $gone:expr) => {
         match $slot {
@@ -56,7 +56,7 @@ macro_rules! on_text {
     };
 }
 
-// The same as `on_text`, for what gives a text of the same format.
+// Like `on_text`, where `$body` returns a text of the same format.
 macro_rules! like_text {
     ($slot:expr, $text:ident => $body:expr, $gone:expr) => {
         match $slot {
@@ -70,7 +70,7 @@ macro_rules! like_text {
     };
 }
 
-// Below the macros, which `change` uses too.
+// After the macros, since `change` uses them.
 mod change;
 mod convert;
 
@@ -108,7 +108,7 @@ impl<A: Atomicity> Slot<A> {
         Ok(Slot::Wtf8(Tendril::<WTF8, A>::from_units(alloc, units.as_slice())?))
     }
 
-    /// A text tells where it is read that it is valid. Costs nothing.
+    /// Reads the text, which gives the prover that it is valid. Costs nothing.
     pub(crate) fn read(&self)
         ensures { IsCell (cell_of self.now) }
     {
@@ -122,14 +122,14 @@ impl<A: Atomicity> Slot<A> {
         )
     }
 
-    /// A part of the text.
+    /// A slice of the text.
     pub(crate) fn slice(&self, offset: u32, count: u32) -> Result<Self, Refusal>
         ensures { GivesBy (part_rule offset count (cell_of self.now)) cell_of result }
     {
         like_text!(self, text => text.try_subtendril(offset, count), Err(Refusal::NoSuchSlot))
     }
 
-    /// The same text once more.
+    /// A clone of the text.
     pub(crate) fn clone(&self) -> Result<Self, Refusal>
         ensures { GivesBy (clone_rule (cell_of self.now)) cell_of result }
     {
@@ -158,7 +158,7 @@ impl<A: Atomicity> Slot<A> {
         on_text!(self, kind, text => Ok((kind, text::bytes(alloc, text)?)), Err(Refusal::NoSuchSlot))
     }
 
-    /// The units of the text, where it is in WTF-8.
+    /// The units of the text, if it is in WTF-8.
     pub(crate) fn units(&self) -> Result<UnitList, Refusal>
         ensures { GivesBy (units_rule (cell_of self.now)) (λ us. reply.Units us) result }
     {

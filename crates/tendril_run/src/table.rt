@@ -17,7 +17,7 @@ use tendril_lines::{Command, Reply};
 use tendril_text::Atomicity;
 use tendril_text::block::Refusal;
 
-/// Slots that are numbered from 0, each with a text or gone.
+/// Slots, numbered from 0, each with a text or `Gone`.
 #[derive(Drop)]
 pub struct Table<A: Atomicity> {
     slots: Vec<Slot<A>>,
@@ -38,7 +38,7 @@ impl<A: Atomicity> Model for Table<A> {
 }
 
 impl<A: Atomicity> Table<A> {
-    /// A table without slots. Takes no memory.
+    /// Creates a table without slots. Allocates nothing.
     pub fn new(alloc: Global) -> Self
         ensures { result.cells ≡ [] }
     {
@@ -48,18 +48,18 @@ impl<A: Atomicity> Table<A> {
         }
     }
 
-    /// Puts a slot at the end, in amortized constant time.
+    /// Appends a slot, in amortized constant time. The only error is Memory, returned with the slot.
     pub fn push(&mut self, slot: Slot<A>) -> Result<(), (Refusal, Slot<A>)>
         ensures ok { OnOk result (self.new.cells ≡ self.old.cells ++ cell_of slot ∷ []) }
         ensures err { OnErr result (self.new.cells ≡ self.old.cells) }
         ensures refusal { IfErr result (λ e. e.0 ≡ Refusal.Memory) }
         ensures back { IfErr result (λ e. e.1 ≡ slot) }
 
-        // Where there is room, it is used, and the push isn't refused.
+        // With spare capacity the push succeeds.
         ensures room { self.old.room ≤ self.new.room + 1 }
         ensures succeeds { 1 ≤ self.old.room → IsOk result }
     {
-        // A slot may come from anywhere.
+        // The slot may come from any code: reading it gives the prover that its text is valid.
         slot.read();
         match self.slots.push(slot) {
             Ok(()) => Ok(()),
@@ -67,7 +67,7 @@ impl<A: Atomicity> Table<A> {
         }
     }
 
-    /// How many slots there are, the ones that are gone too.
+    /// Returns the number of slots, those that are `Gone` too.
     pub fn len(&self) -> usize
         ensures count { result ≡ length self.now.cells }
         ensures valid { All IsCell self.now.cells }
@@ -75,7 +75,7 @@ impl<A: Atomicity> Table<A> {
         self.slots.len()
     }
 
-    /// The slot of a number.
+    /// Returns the slot with this number, or None past the end.
     pub fn slot(&self, index: usize) -> Option<&Slot<A>>
         ensures { MatchOption result (length self.now.cells ≤ index)
             (λ s. (index < length self.now.cells) × (cell_of s.now ≡ cell_at self.now.cells index)) }
@@ -83,14 +83,14 @@ impl<A: Atomicity> Table<A> {
         self.slots.get(index)
     }
 
-    /// How many more slots can be made without memory for the table.
+    /// Returns how many more slots the table has capacity for.
     pub fn room(&self) -> usize
         ensures { result ≡ self.now.room }
     {
         self.slots.capacity() - self.slots.len()
     }
 
-    /// Makes capacity for `count` more slots.
+    /// Reserves capacity for `more` slots. The only error is Memory.
     pub fn reserve_slots(&mut self, more: usize) -> Result<(), Refusal>
         ensures ok { OnOk result (more ≤ self.new.room) }
         ensures cells { self.new.cells ≡ self.old.cells }
@@ -102,7 +102,7 @@ impl<A: Atomicity> Table<A> {
         Ok(())
     }
 
-    /// Carries out one command, where there is room for the slot that it may make.
+    /// Carries out one command and returns its reply. The table must have capacity for one more slot.
     pub fn step<C: Classifier>(&mut self, command: &Command, classifier: &C) -> Reply
         requires { 1 ≤ self.old.room }
         ensures step { Step (C.class classifier.now) self.old.cells command.now result self.new.cells }

@@ -54,7 +54,7 @@ pub(crate) fn push_char<F: CharFormat, A: Atomicity>(
     text.try_push_char(character)
 }
 
-/// Takes the first character out of the text.
+/// Removes the first character of the text and returns it.
 pub(crate) fn pop_char<F: CharFormat, A: Atomicity>(text: &mut Tendril<F, A>) -> Option<char>
     ensures first { result ≡ first_of (F.chars text.old.bytes) }
     ensures rest { text.new.bytes ≡ without_first F.encoding (F.chars text.old.bytes) text.old.bytes }
@@ -63,7 +63,7 @@ pub(crate) fn pop_char<F: CharFormat, A: Atomicity>(text: &mut Tendril<F, A>) ->
     text.pop_front_char()
 }
 
-/// Takes the longest run of characters of one class out of the front of the text, with the class.
+/// Removes the longest prefix of characters of one class, and returns it with the class.
 pub(crate) fn pop_run<F: CharFormat, A: Atomicity, C: Classifier>(
     text: &mut Tendril<F, A>,
     classifier: &C,
@@ -87,7 +87,7 @@ pub(crate) fn join<F: Format, A: Atomicity>(
     text.push_tendril(more)
 }
 
-/// Puts the text at its own end. It is shared for that, where the result isn't too long.
+/// Appends the text to itself, by a clone. Checks first that the result isn't too long.
 pub(crate) fn join_self<F: Format, A: Atomicity>(text: &mut Tendril<F, A>) -> Result<(), Refusal>
     ensures done { Changes (λ b. let joined = F.join b b in
         rule_with (LengthMust (length joined)) (λ r. MemoryMay (length joined) r ⊎ CountMay (length b) r) joined)
@@ -101,7 +101,7 @@ pub(crate) fn join_self<F: Format, A: Atomicity>(text: &mut Tendril<F, A>) -> Re
     join(text, &copy)
 }
 
-// Whether the text, joined to itself, is too long for a text.
+// Whether the text, appended to itself, is longer than `MAX_LEN`.
 fn is_twice_too_long<F: Format, A: Atomicity>(text: &Tendril<F, A>) -> bool
     ensures { IsTrue result ↔ (MAX_LEN < length (F.join text.now.bytes text.now.bytes)) }
 {
@@ -112,7 +112,7 @@ fn is_twice_too_long<F: Format, A: Atomicity>(text: &Tendril<F, A>) -> bool
     left + fixup.insert_len as usize + right > MAX_LEN as usize
 }
 
-/// How two texts compare whose format has an order.
+/// The comparison of two texts whose format has an order.
 pub(crate) fn ordered(order: Ordering) -> Comparison
     ensures { result ≡ in_order order }
 {
@@ -123,7 +123,7 @@ pub(crate) fn ordered(order: Ordering) -> Comparison
     }
 }
 
-/// How two texts compare whose format has none.
+/// The comparison of two texts whose format has none.
 pub(crate) fn equal<F: Format, A: Atomicity>(
     text: &Tendril<F, A>,
     other: &Tendril<F, A>,
@@ -137,7 +137,7 @@ pub(crate) fn equal<F: Format, A: Atomicity>(
     }
 }
 
-/// The text in another format, or back where it isn't valid there.
+/// The text in another format, or unchanged if it isn't valid there.
 pub(crate) fn reinterpreted<F: Format, A: Atomicity>(
     text: Tendril<F, A>,
     kind: Kind,
@@ -154,7 +154,7 @@ pub(crate) fn reinterpreted<F: Format, A: Atomicity>(
     }
 }
 
-/// Makes a clone of the text sendable, takes it back, and puts it in the text's place.
+/// Makes a clone of the text sendable, converts it back, and replaces the text by it.
 pub(crate) fn through_send<F: Format, A: Atomicity>(text: &mut Tendril<F, A>) -> Result<(), Refusal>
     ensures done { Changes (λ b. rule_with NoneMust (SendMay (length b)) b) text.old.bytes result text.new.bytes }
     ensures kept { IsText F.valid text.old.bytes → IsText F.valid text.new.bytes }

@@ -15,7 +15,7 @@ use tendril_lines::{Command, Reply};
 use tendril_text::Atomic;
 use tendril_text::block::Refusal;
 
-/// What one worker does: commands on a table of its own, whose texts may share blocks with those of others.
+/// The job of one worker: commands on its own table, whose texts may share blocks with those of other tables.
 #[derive(Drop)]
 pub struct Job<C, G> {
     pub table: Table<Atomic>,
@@ -29,16 +29,16 @@ pub struct Job<C, G> {
 pub enum Outcome {
     /// The table after all commands, and one reply each.
     Done(Table<Atomic>, Vec<Reply>),
-    /// There was no memory for the replies or the slots. The table is as it was.
+    /// There was no memory for the replies or the slots. The table is as before.
     Refused(Table<Atomic>, Refusal),
-    /// No thread could be started. The table is gone.
+    /// No thread could be started. The table was dropped.
     NotStarted,
 }
 
-// What a worker hands back.
+// What a worker returns.
 type Ending = (Table<Atomic>, Result<Vec<Reply>, Refusal>);
 
-// The worker's promise: its ending is that of this job.
+// The worker's promise: it returns the ending of this job.
 #[derive(Drop)]
 struct EndingOf<C, G>(Snapshot<Job<C, G>>);
 
@@ -47,13 +47,14 @@ impl<C: Classifier, G> Promise<Ending> for EndingOf<C, G> {
         Worked (λ v. v.items) (C.class job.class) job.table.cells job.commands.items r.0.cells r.1 };
 }
 
-// None where no thread could be started.
+// None if no thread could be started.
 type Worker<C, G> = Option<PromisedHandle<Ending, EndingOf<C, G>>>;
 
-/// Runs each job in a thread of its own, and answers how they ended, in the order of the jobs.
+/// Runs each job in its own thread, and returns the outcomes in the order of the jobs.
 ///
-/// Room for the threads' handles and the outcomes is made before the first thread is started, so that memory is refused
-/// then, and the jobs come back, or for one job alone. All threads are started before the first is waited for.
+/// Capacity for the threads' handles and the outcomes is reserved before the first thread is started. If that fails,
+/// `run_tables` returns Memory with the jobs. Later errors are outcomes of single jobs. All threads are started before
+/// the first is joined.
 pub fn run_tables<
     R: Threads,
     C: Classifier + Send + Drop + 'static,
@@ -114,7 +115,7 @@ fn work<C: Classifier + Drop, G: Gate + Drop>(job: Job<C, G>) -> Ending
     (table, replies)
 }
 
-// How each worker ended: NotStarted only where none was started.
+// The outcome of each worker: NotStarted only if its thread wasn't started.
 fn join_all<R: Threads, C: Classifier, G>(
     rt: &R,
     workers: Vec<Worker<C, G>>,

@@ -1,10 +1,10 @@
--- Lines that are commands: what they print.
+-- Lines that are commands, and what they print.
 use Rattle.std.specs.Prelude.{ℕ, ◌≡◌, ◌⊎◌, List, codes}
 
--- Over any commands and replies: `IsOf` says which lines are a command's, `Gives` what a command does and what it is
--- replied, and `text_of` is what a reply prints.
+-- Over any commands and replies: `IsOf` says which lines spell a command, `Gives` what a command does and its reply,
+-- and `text_of` is the text of a reply.
 module _ {S C R : Type 0} (IsOf : C → List ℕ → Type 0) (Gives : S → C → R → S → Type 0) (text_of : R → List ℕ) where
-  -- a line that is a command's prints the reply to it
+  -- a line that spells a command prints the reply to it
   pub record IsAnswered (old : S) (line text : List ℕ) (new : S) : Type 0 where
     pub command : C
     pub reply : R

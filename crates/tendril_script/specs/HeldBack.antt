@@ -1,26 +1,26 @@
--- What is printed for lines, of which a part is held back and the rest has gone to the writer.
+-- What lines print: a suffix of it is held back, the prefix was written.
 use Rattle.std.specs.Prelude.{ℕ, ◌≡◌, List, [], ◌++◌, take, get_or, Option}
 use Rattle.std.specs.Io.KnownBytes.{Appends}
 use Rattle.tendril_block.specs.declared.refusal.Refusal.{Refusal}
 use Rattle.tendril_block.specs.declared.refusal.Refusal.TheVariants.{Memory, Io}
 use Rattle.tendril_script.specs.Sessions.{LineStops, Session}
 
--- bytes went behind what was held back; a writer that tells its bytes has taken a front of it all, and the rest is left
+-- `bytes` follow what was held back; a writer whose bytes are known got a prefix of it all, and `left` is the remainder
 pub record Passes (before after : Option (List ℕ)) (held bytes left : List ℕ) : Type 0 where
   pub taken : List ℕ
   pub appends : Appends before after taken
   pub splits : held ++ bytes ≡ taken ++ left
 
 module _ {S : Type 0} (answers : S → List ℕ → List ℕ → S → Type 0) where
-  -- what lines print went that way
+  -- lines print bytes that are held back or written in this way
   pub record PrintsLines (old : S) (lines : List (List ℕ)) (new : S) (before after : Option (List ℕ))
       (held left : List ℕ) : Type 0 where
     pub bytes : List ℕ
     pub session : Session answers old lines bytes new
     pub passes : Passes before after held bytes left
 
-  -- Or only some first ones. Want of memory, for the line behind them, leaves what they print held back, and after a
-  -- failed write nothing is.
+  -- After an error only the first `count` lines have printed. On Memory, for the line after them, what they print is
+  -- written or held back. On Io nothing is held back.
   abbrev pub PrintsSome : S → List (List ℕ) → S → Option (List ℕ) → Option (List ℕ) → List ℕ → List ℕ → Refusal → Type 0
   PrintsSome old lines new before after held left Memory =
       (count : ℕ) × ((mid : S) × (PrintsLines old (take count lines) mid before after held left

@@ -1,4 +1,4 @@
--- The words of the contracts of what runs a script.
+-- The definitions that contracts on running a script cite.
 pub mod Commands
 pub mod Endings
 pub mod HeldBack

@@ -16,7 +16,7 @@ module _ {S : Type 0} (answers : S → List ℕ → List ℕ → S → Type 0) w
   LinePrints old (byte ∷ line) bytes new =
       (text : List ℕ) × (answers old (byte ∷ line) text new × (bytes ≡ text ++ 10 ∷ []))
 
-  -- what a line leaves for which memory is refused: it has changed nothing, or was carried out, and its text is lost
+  -- what a line leaves that returned Memory: it has changed nothing, or was carried out and its text is lost
   abbrev pub LineStops : S → List ℕ → S → Type 0
   LineStops old line new = (new ≡ old) ⊎ ((text : List ℕ) × answers old line text new)
 
@@ -28,26 +28,26 @@ module _ {S : Type 0} (answers : S → List ℕ → List ℕ → S → Type 0) w
       × ((first : List ℕ)
       × ((rest : List ℕ) × (LinePrints old line first mid × (Session mid lines rest new × (bytes ≡ first ++ rest)))))
 
-  -- a writer that tells its bytes has taken what is written for a line
+  -- a writer whose bytes are known got what is written for a line
   pub record WritesLine (old : S) (line : List ℕ) (new : S) (before after : Option (List ℕ)) : Type 0 where
     pub bytes : List ℕ
     pub writes : LinePrints old line bytes new
     pub appends : Appends before after bytes
 
-  -- and what is written for lines
+  -- a writer whose bytes are known got what is written for lines
   pub record WritesLines (old : S) (lines : List (List ℕ)) (new : S) (before after : Option (List ℕ)) : Type 0 where
     pub bytes : List ℕ
     pub session : Session old lines bytes new
     pub appends : Appends before after bytes
 
-  -- and for lines, whatever state they lead to
+  -- `WritesLines`, to any new state
   abbrev pub WritesFrom : S → List (List ℕ) → Option (List ℕ) → Option (List ℕ) → Type 0
   WritesFrom old lines before after = (new : S) × WritesLines old lines new before after
 
-  -- and for what a reader that tells its bytes has left: as a script, it leads to this state
+  -- `WritesLines` for the script that is left in a reader, if its remaining bytes are known
   abbrev pub RanTo : S → S → Option (List ℕ) → Option (List ℕ) → Option (List ℕ) → Type 0
   RanTo old new remaining before after = IfSome remaining (λ script. WritesLines old (lines script) new before after)
 
-  -- or to any
+  -- `RanTo`, to any new state
   abbrev pub RanFrom : S → Option (List ℕ) → Option (List ℕ) → Option (List ℕ) → Type 0
   RanFrom old remaining before after = IfSome remaining (λ script. WritesFrom old (lines script) before after)

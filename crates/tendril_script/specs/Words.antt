@@ -1,4 +1,4 @@
--- What a program's words ask it for.
+-- What a program's words ask for.
 use Rattle.std.specs.Prelude.{ℕ, ◌≡◌, List, [], ◌∷◌, codes}
 
 -- the words that ask for a run: none, or `run`

@@ -1,21 +1,21 @@
--- What a write leaves, and the line of a refusal.
+-- What a failed write leaves, and the line of an error.
 use Rattle.std.specs.Prelude.{ℕ, ◌≡◌, List, [], ◌∷◌, ◌++◌, codes, Option}
 use Rattle.std.specs.Fmt.{decimal}
 use Rattle.std.specs.Io.KnownBytes.{Appends}
 use Rattle.tendril_block.specs.Refusals.{number_of, name_of}
 use Rattle.tendril_block.specs.declared.refusal.Refusal.{Refusal}
 
--- a writer that tells its bytes has taken a front of these: what a failed write leaves
+-- what a failed write leaves: a writer whose bytes are known got a prefix of these bytes
 pub record AppendsFront (before after : Option (List ℕ)) (bytes : List ℕ) : Type 0 where
   pub taken : List ℕ
   pub rest : List ℕ
   pub splits : bytes ≡ taken ++ rest
   pub appends : Appends before after taken
 
--- what stands behind a program's name in the line of a refusal
+-- what follows a program's name in the line of an error
 abbrev pub refused_line : Refusal → List ℕ
 refused_line refusal = codes ": refused " ++ decimal (number_of refusal) ++ codes " " ++ name_of refusal ++ 10 ∷ []
 
--- what a program of this name tells standard error of a refusal that ends it
+-- the line that a program with this name prints for an error that ends it
 abbrev pub complaint : List ℕ → Refusal → List ℕ
 complaint program refusal = program ++ refused_line refusal

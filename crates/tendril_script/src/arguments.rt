@@ -1,4 +1,4 @@
-//! The words that a program is started with.
+//! The arguments of a program, as words.
 ghost use Rattle.std.specs.Prelude.{◌≡◌, ◌↔◌, [], IfErr, IsTrue, IsUtf8, map};
 ghost use Rattle.tendril_script.specs.Words.{AskToRun};
 
@@ -8,11 +8,13 @@ use std::rt::Env;
 use std::str;
 use tendril_block::Refusal;
 
-// No word that a program knows has more bytes.
+// The words that programs know have at most this many bytes.
 const LONGEST: usize = 16;
 
-/// A program's words, the arguments behind its name. A word that isn't UTF-8, or has more than 16 bytes, is handed over
-/// as the empty word, which asks for nothing. The name isn't read, so it may be any bytes.
+/// Returns a program's words: the arguments after its name. The only error is Memory.
+///
+/// An argument that isn't UTF-8, or has more than 16 bytes, becomes the empty word, which asks for nothing. The name
+/// isn't read, so it may be any bytes.
 pub fn words_of<S: Env + AllocGlobal>(system: &S) -> Result<Vec<String>, Refusal>
     ensures { IfErr result (λ r. r ≡ Refusal.Memory) }
 {
@@ -26,7 +28,7 @@ pub fn words_of<S: Env + AllocGlobal>(system: &S) -> Result<Vec<String>, Refusal
     Ok(words)
 }
 
-// The word at a place, or None behind the last one.
+// The word at this index, or None after the last one.
 fn word_at<S: Env + AllocGlobal>(system: &S, place: usize) -> Result<Option<String>, AllocError> {
     let mut bytes = [0; LONGEST];
     let word = match system.arg(place, &mut bytes) {
@@ -37,7 +39,7 @@ fn word_at<S: Env + AllocGlobal>(system: &S, place: usize) -> Result<Option<Stri
     Ok(Some(String::from_str(system.alloc(), word)?))
 }
 
-// Bytes as text, which is empty where they aren't UTF-8.
+// Bytes as text, empty if they aren't UTF-8.
 fn text_of(bytes: &[u8]) -> &str
     ensures utf8 { IsUtf8 bytes.now → result.now ≡ bytes.now }
     ensures other { (IsUtf8 bytes.now → ⊥) → result.now ≡ [] }
@@ -45,7 +47,7 @@ fn text_of(bytes: &[u8]) -> &str
     str::from_utf8(bytes).unwrap_or("")
 }
 
-/// Whether the words ask for a run: none, or `run`.
+/// Returns whether the words ask for a run: there is none, or only `run`.
 pub fn asks_to_run(words: &[&str]) -> bool
     ensures { IsTrue result ↔ AskToRun (map (λ word. word.now) words.now) }
 {

@@ -1,4 +1,4 @@
-//! Reading a script, and running it.
+//! Reads a script and runs it.
 ghost use Rattle.std.specs.Prelude.{◌≡◌, ◌⊎◌, IfSome, IfOk, IfErr, OnOk};
 ghost use Rattle.std.specs.Io.KnownBytes.{IsAtEnd, Keeps};
 ghost use Rattle.tendril_script.specs.Endings.{EndsProgram, RunStops};
@@ -11,7 +11,7 @@ use std::alloc::Global;
 use std::io::{Read, Write};
 use tendril_block::Refusal;
 
-/// Reads a script to its end, and runs its lines, as `run_script` does.
+/// Reads a script to its end, then runs its lines as `run_script` does. A failed read is Memory or Io.
 #[tactic(auto, using(crate::proofs::EndingLemmas::stops_of))]
 pub fn run_input<L: Lines, R: Read, W: Write>(
     alloc: Global,

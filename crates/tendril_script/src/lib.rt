@@ -1,8 +1,7 @@
-//! The loop of a program that carries out a script, a line at a time, and prints what each line answers.
+//! The loop of a program that carries out a script line by line, and prints the answer to each line.
 //!
-//! What a line does is the program's own, behind `Lines`. What all such programs share is here: reading, the lines one
-//! after another, printing in chunks, what stands where memory, a read or a write is refused, and the line that tells
-//! it.
+//! Each program has its own `Lines`, which carries out a line. What all of them share is here: reading, splitting into
+//! lines, writing in chunks, what is written before a failed allocation, read or write, and the error's line.
 #![tactic(auto)]
 
 mod arguments;

@@ -1,24 +1,26 @@
-//! What lines do.
+//! Lines of a script.
 
 use std::alloc::Global;
 use tendril_block::Refusal;
 
-/// What carries out the lines of a script, one after another.
+/// A program's state, which carries out the lines of a script one after another.
 pub trait Lines {
     ghost use Rattle.std.specs.Prelude.{◌≡◌, ℕ, List, IfOk, IfErr, OnErr, string_bytes};
     ghost use Rattle.tendril_script.specs.Sessions.{LineStops};
 
-    /// What lines read and change.
+    /// The state that lines read and change, for contracts.
     ghost State: { Type 0 };
 
-    /// What that is now.
+    /// The current state.
     ghost state: { Self → State };
 
-    /// What a line prints, from the state before it to the state behind it.
+    /// `answers old line text new`: from the state `old` the line prints `text` and leads to the state `new`.
     ghost answers: { State → List ℕ → List ℕ → State → Type 0 };
 
-    /// Carries out a line that isn't empty, and answers what it prints, without a line feed. The allocator is for that
-    /// text. A line that is refused has changed nothing, or was carried out, and only its text is lost.
+    /// Carries out a line, which isn't empty, and returns the text that it prints, without a line feed.
+    ///
+    /// `alloc` is for that text. The only error is Memory: then the line changed nothing, or was carried out and its
+    /// text is lost.
     fn answer(&mut self, alloc: Global, line: &[u8]) -> Result<String, Refusal>
         ensures ok { IfOk result (λ text. answers (state self.old) line.now (string_bytes text) (state self.new)) }
         ensures refusal { IfErr result (λ r. r ≡ Refusal.Memory) }

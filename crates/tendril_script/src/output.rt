@@ -1,4 +1,4 @@
-//! Writing that says what a failed write has written.
+//! Writes whose contracts say what a failed write has written.
 ghost use Rattle.std.specs.Prelude.{◌≡◌, OnOk, OnErr, IfErr};
 ghost use Rattle.std.specs.Io.KnownBytes.{Appends, Keeps};
 ghost use Rattle.tendril_script.specs.Writing.{AppendsFront};
@@ -6,8 +6,10 @@ ghost use Rattle.tendril_script.specs.Writing.{AppendsFront};
 use std::io::{ErrorKind, Write};
 use tendril_block::Refusal;
 
-/// Writes all bytes, and tries an interrupted write again. A failed write is Io, whatever its error, and the writer has
-/// taken a front of the bytes then, which std's `write_all` leaves open.
+/// Writes all bytes, and repeats an interrupted write.
+///
+/// The only error is Io, for any failed write; the writer then has a prefix of the bytes, which std's `write_all`
+/// doesn't specify.
 pub fn write_bytes<W: Write>(out: &mut W, bytes: &[u8]) -> Result<(), Refusal>
     ensures ok { OnOk result (Appends (W.contents out.old) (W.contents out.new) bytes.now) }
     ensures err { OnErr result (AppendsFront (W.contents out.old) (W.contents out.new) bytes.now) }
@@ -31,7 +33,7 @@ pub fn write_bytes<W: Write>(out: &mut W, bytes: &[u8]) -> Result<(), Refusal>
     Err(Refusal::Io)
 }
 
-/// Flushes a writer. A failed flush is Io.
+/// Flushes a writer. The only error is Io.
 pub fn flush<W: Write>(out: &mut W) -> Result<(), Refusal>
     ensures same { Keeps (W.contents out.old) (W.contents out.new) }
     ensures refusal { IfErr result (λ r. r ≡ Refusal.Io) }

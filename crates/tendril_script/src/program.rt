@@ -1,4 +1,4 @@
-//! A program: what its words ask for, its status, and what it prints when it fails.
+//! Programs: what their words ask for, their status, and what they print on errors.
 ghost use Rattle.std.specs.Prelude.{◌≡◌, ◌≤◌, ◌↔◌, ◌⊎◌, ℕ, List, IfErr, OnOk, map};
 ghost use Rattle.std.specs.Io.KnownBytes.{IsAtEnd, Keeps};
 ghost use Rattle.tendril_script.specs.Endings.{EndedBy, RunEnded};
@@ -20,35 +20,35 @@ const DONE: u8 = 0;
 
 const MISUSED: u8 = 2;
 
-/// A program: its name, its usage, what it does for words of its own, and what the lines of a script do.
+/// A program: its name, its usage, what it does for words of its own, and how it carries out the lines of a script.
 pub trait Program: Lines {
     ghost use Rattle.std.specs.Prelude.{◌≡◌, ℕ, List, Option, None, IfSome, IfErr, OnOk, map};
     ghost use Rattle.tendril_block.specs.declared.refusal.Refusal.{Refusal};
 
-    /// Its name.
+    /// The program's name.
     ghost name: { List ℕ };
 
-    /// Its usage.
+    /// The program's usage line.
     ghost usage: { List ℕ };
 
-    /// The words of its own.
+    /// Which words are the program's own.
     ghost asks: { List (List ℕ) → Type 0 };
 
-    /// What it does for them: of the bytes that the reader has left, and those that the writer has before and after.
+    /// What the program does for its own words: the reader's remaining bytes, and the writer's bytes before and after.
     ghost serves: { Option (List ℕ) → Option (List ℕ) → Option (List ℕ) → Type 0 };
 
-    /// What an error leaves of that.
+    /// What an error leaves of `serves`.
     ghost stops: { Option (List ℕ) → Option (List ℕ) → Option (List ℕ) → Refusal → Type 0 };
 
-    /// The program's name, with which its lines on standard error begin.
+    /// Returns the program's name, with which its lines on standard error begin.
     fn name() -> &'static str
         ensures { result.now ≡ name };
 
-    /// The line that is printed for words that ask for nothing.
+    /// Returns the line that is printed for words that ask for nothing.
     fn usage() -> &'static str
         ensures { result.now ≡ usage };
 
-    /// Does what words of the program's own ask for. Returns None for other words, and then reads and writes nothing.
+    /// Does what the program's own words ask for. For other words, reads and writes nothing and returns None.
     fn serve<R: Read, W: Write>(
         alloc: Global,
         words: &[&str],
@@ -119,13 +119,13 @@ pub fn run_words<P: Program, R: Read, W: Write, E: Write>(
     out: &mut W,
     err: &mut E,
 ) -> u8
-    // The words are of the program's own, or they aren't.
+    // The words are the program's own, or they aren't.
     ensures decides { P.asks (map (λ word. word.now) words.now) ⊎ (P.asks (map (λ word. word.now) words.now) → ⊥) }
     ensures usage { (result ≡ 2) ↔ ((AskToRun (map (λ word. word.now) words.now) → ⊥)
         × (P.asks (map (λ word. word.now) words.now) → ⊥)) }
     ensures status { result ≤ 2 }
 
-    // What was asked is done.
+    // What the words ask for is done.
     ensures ran { (P.asks (map (λ word. word.now) words.now) → ⊥) → result ≡ 0
         → RanFrom P.answers (P.state program.old) (R.remaining input.old) (W.contents out.old) (W.contents out.new) }
     ensures served { P.asks (map (λ word. word.now) words.now) → result ≡ 0
@@ -144,7 +144,7 @@ pub fn run_words<P: Program, R: Read, W: Write, E: Write>(
     ensures misused { result ≡ 2 → Keeps (W.contents out.old) (W.contents out.new) }
     ensures told { result ≡ 2 → AppendsFront (E.contents err.old) (E.contents err.new) P.usage }
 
-    // No line is carried out before the input's end.
+    // Nothing is written before the input's end.
     ensures reads_first { (P.asks (map (λ word. word.now) words.now) → ⊥)
         → Keeps (W.contents out.old) (W.contents out.new) ⊎ IsAtEnd (R.remaining input.new) }
 {
@@ -157,7 +157,7 @@ pub fn run_words<P: Program, R: Read, W: Write, E: Write>(
     misuse(P::usage(), err)
 }
 
-// The status of a program of this name that came to this end. An error is printed.
+// The status for this result of a program. An error is printed.
 fn status_of<E: Write>(program: &str, ended: Result<(), Refusal>, err: &mut E) -> u8
     ensures done { OnOk ended ((result ≡ 0) × Keeps (E.contents err.old) (E.contents err.new)) }
     ensures refused { IfErr ended (λ r. (result ≡ 1)
@@ -169,7 +169,7 @@ fn status_of<E: Write>(program: &str, ended: Result<(), Refusal>, err: &mut E) -
     }
 }
 
-// Prints the usage, and returns the status of words that ask for nothing. What can't be printed is left out.
+// Prints the usage, and returns the status for words that ask for nothing. A failed write of it is ignored.
 fn misuse<E: Write>(usage: &str, err: &mut E) -> u8
     ensures status { result ≡ 2 }
     ensures told { AppendsFront (E.contents err.old) (E.contents err.new) usage.now }

@@ -1,4 +1,4 @@
-//! The refusals that end a program.
+//! Errors that end a program.
 ghost use Rattle.std.specs.Prelude.{◌≡◌, ◌≢◌};
 ghost use Rattle.std.specs.IoError.{error_kind};
 ghost use Rattle.tendril_script.specs.Writing.{AppendsFront, complaint, refused_line};
@@ -9,7 +9,7 @@ use tendril_block::Refusal;
 
 const REFUSED: u8 = 1;
 
-/// The refusal that a failed read is: of memory, or of the read.
+/// Returns the error for a failed read: Memory if its kind is OutOfMemory, else Io.
 pub fn refusal_of(error: &Error) -> Refusal
     ensures memory { error_kind error.now ≡ ErrorKind.OutOfMemory → result ≡ Refusal.Memory }
     ensures io { error_kind error.now ≢ ErrorKind.OutOfMemory → result ≡ Refusal.Io }
@@ -20,8 +20,9 @@ pub fn refusal_of(error: &Error) -> Refusal
     }
 }
 
-/// Prints a refusal that ends the program of this name, and answers its status. What can't be printed is left out. It
-/// asks for no memory, which may be wanting.
+/// Prints the line of an error that ends the program with this name, and returns status 1.
+///
+/// A failed write of the line is ignored. Nothing is allocated, since memory may have run out.
 pub fn refuse<E: Write>(program: &str, refusal: Refusal, err: &mut E) -> u8
     ensures status { result ≡ 1 }
     ensures told { AppendsFront (E.contents err.old) (E.contents err.new) (complaint program.now refusal) }
@@ -37,7 +38,7 @@ fn write_complaint<E: Write>(program: &str, refusal: Refusal, err: &mut E) -> Re
     write_bytes(err, refused_text(refusal).as_bytes())
 }
 
-// What stands behind the name in a refusal's line.
+// What follows the name in an error's line.
 fn refused_text(refusal: Refusal) -> &'static str
     ensures { result.now ≡ refused_line refusal }
 {

@@ -1,4 +1,4 @@
-//! A script: its lines one by one.
+//! Runs a script line by line.
 ghost use Rattle.std.specs.Prelude.{◌≡◌, Some, IfOk, IfErr, OnOk, OnErr, [], ◌∷◌, ◌++◌, map};
 ghost use Rattle.std.specs.Io.KnownBytes.{Appends};
 ghost use Rattle.tendril_script.specs.Endings.{RunStops};
@@ -12,15 +12,15 @@ use std::alloc::{AllocError, Global};
 use std::io::Write;
 use tendril_block::Refusal;
 
-// How many bytes are held back before they are written.
+// Output is written when at least this many bytes are held back.
 const CHUNK: usize = 8192;
 
 const NEWLINE: u8 = b'\n';
 
 /// Runs the lines of a script, and writes one line for each that isn't empty, in chunks.
 ///
-/// It stops at the first refusal of memory or of a write. What was printed before a refusal of memory is written then
-/// too, in whole lines; where a write fails, that is the refusal.
+/// It stops at the first failed allocation or write. After a failed allocation it writes what the lines before printed,
+/// in whole lines, and returns Memory. It returns Io for a failed write, also for one after a failed allocation.
 pub fn run_script<L: Lines, W: Write>(
     alloc: Global,
     runner: &mut L,
@@ -49,7 +49,7 @@ fn split_lines(alloc: Global, script: &[u8]) -> Result<Vec<&[u8]>, AllocError>
     script.split(|byte| *byte == NEWLINE).collect(alloc)
 }
 
-// Runs lines, and writes what they print, but for the last of it.
+// Runs lines, and writes what they print, except what is still held back at the end.
 fn run_lines<L: Lines, W: Write>(
     alloc: Global,
     runner: &mut L,
@@ -71,7 +71,7 @@ fn run_lines<L: Lines, W: Write>(
     Ok(())
 }
 
-// Writes what is held back, where it is a chunk.
+// Writes what is held back, if it is at least a chunk.
 fn write_chunk<W: Write>(held: &mut Vec<u8>, out: &mut W) -> Result<(), Refusal>
     ensures ok { OnOk result (Passes (W.contents out.old) (W.contents out.new) held.old.items [] held.new.items) }
     ensures err { OnErr result (AppendsFront (W.contents out.old) (W.contents out.new) held.old.items) }
@@ -84,7 +84,7 @@ fn write_chunk<W: Write>(held: &mut Vec<u8>, out: &mut W) -> Result<(), Refusal>
     write_held(held, out)
 }
 
-// Writes what is held back. After a failed write nothing is held, since a part of it may have been written.
+// Writes what is held back. After a failed write nothing is held back: a prefix of it may have been written.
 fn write_held<W: Write>(held: &mut Vec<u8>, out: &mut W) -> Result<(), Refusal>
     ensures ok { OnOk result (Appends (W.contents out.old) (W.contents out.new) held.old.items) }
     ensures err { OnErr result (AppendsFront (W.contents out.old) (W.contents out.new) held.old.items) }
@@ -96,7 +96,7 @@ fn write_held<W: Write>(held: &mut Vec<u8>, out: &mut W) -> Result<(), Refusal>
     written
 }
 
-// Runs one line, and puts what it prints behind what is held back.
+// Runs one line, and appends what it prints to what is held back.
 fn run_line<L: Lines>(
     alloc: Global,
     runner: &mut L,
@@ -117,7 +117,7 @@ fn run_line<L: Lines>(
     Ok(())
 }
 
-// Puts a text and a line feed behind what is held back, or nothing.
+// Appends a text and a line feed to what is held back; on Memory, appends nothing.
 fn append_line(held: &mut Vec<u8>, text: &[u8]) -> Result<(), Refusal>
     ensures ok { OnOk result (held.new.items ≡ held.old.items ++ (text.now ++ NEWLINE ∷ [])) }
     ensures err { OnErr result (held.new.items ≡ held.old.items) }

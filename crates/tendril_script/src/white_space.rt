@@ -2,8 +2,7 @@
 ghost use Rattle.std.specs.Prelude.{◌≡◌};
 ghost use Rattle.tendril_script.specs.WhiteSpace.{class};
 
-/// The class of a character: 0 for white space, the 25 characters with Unicode's property White_Space, and 1 for all
-/// else.
+/// Returns the class of a character: 0 for white space, which is 25 characters (Unicode's White_Space), else 1.
 pub fn class_of(character: char) -> u32
     ensures { result ≡ class character }
 {

@@ -1,4 +1,4 @@
-//! The words that the program gets of the arguments that it is started with.
+//! The words that the program reads from its arguments.
 
 use super::{Ran, USAGE, check};
 use crate::program::program_with_arguments;
@@ -7,7 +7,7 @@ use std::env::FillError;
 use std::rt::Env;
 use std::test::Fail;
 
-/// A program's name and its arguments, with a space between each two.
+/// A program's name and its arguments, separated by spaces.
 #[derive(Drop)]
 struct Arguments<'a>(&'a [u8]);
 

@@ -5,7 +5,7 @@ use std::io;
 use std::io::{ErrorKind, Read};
 use std::test::Fail;
 
-// The first two are the worked row of the program that decodes.
+// Input and output. The first two rows are the worked example of `decode`.
 const DECODED: [(&[u8], &[u8]); 7] = [
     (b"foo\xffbar", b"foo\xef\xbf\xbdbar"),
     (b"", b""),
@@ -27,7 +27,7 @@ fn decode_program(rt: HostRuntime) -> Result<(), Fail> {
     notes.end()
 }
 
-// A read gives 4096 bytes.
+// The text is longer than one read, which gives at most 4096 bytes.
 #[test]
 fn a_text_of_many_reads(rt: HostRuntime) -> Result<(), Fail> {
     let mut notes = Notes::new();

@@ -1,4 +1,4 @@
-//! Readers and writers that fail: what was written before stays written, and the program says why it ended.
+//! Readers and writers that fail: what was written before stays, and the program prints the error.
 
 use super::{Expected, Notes, Seen, check, repeat, run_program, run_with};
 use std::alloc::Global;
@@ -24,7 +24,7 @@ impl Read for Breaks<'_> {
     }
 }
 
-// No line is carried out before the input's end. What was decoded before is written.
+// `run` carries out no line before the input's end. `decode` writes what was decoded before the failed read.
 const BREAKS: [(&str, &[u8], ErrorKind, Expected<'static>); 4] = [
     (
         "run",
@@ -63,8 +63,8 @@ fn a_reader_that_fails(rt: HostRuntime) -> Result<(), Fail> {
     notes.end()
 }
 
-/// A writer that takes a few bytes at a time, and fails once it has taken `most`. Each write is interrupted once, and each
-/// flush is counted.
+/// A writer that takes a few bytes at a time, and fails after `most` bytes. It interrupts each write once, and counts
+/// flushes.
 #[derive(Drop)]
 struct Fills {
     bytes: Vec<u8>,
@@ -128,7 +128,7 @@ fn run_over(alloc: Global, word: &str, mut input: &[u8], mut writer: Fills) -> (
     )
 }
 
-/// A word, a piece of input and what is printed for it, both `count` times, and what a failed write prints as an error.
+/// A word, a piece of input and what is printed for it (both repeated `COUNT` times), and the line of a failed write.
 type Written = (&'static str, &'static [u8], &'static [u8], &'static [u8]);
 
 const COUNT: usize = 5000;
@@ -147,7 +147,7 @@ const DECODE: Written = (
     b"tendril: refused 10 SinkRefused\n",
 );
 
-// What comes where a writer takes at most `most` bytes of all.
+// The output of a writer that takes at most `most` bytes is that prefix of `all`.
 fn check_write(notes: &mut Notes, most: usize, seen: &Seen, all: &[u8], error: &[u8]) {
     match all.get(..most) {
         Some(written) if most < all.len() => check(notes, most, seen, (1, written, error)),
@@ -155,7 +155,7 @@ fn check_write(notes: &mut Notes, most: usize, seen: &Seen, all: &[u8], error: &
     }
 }
 
-// The writer fails once it has taken some bytes: at its first write, at a later one, and in the middle of a chunk.
+// The writer fails at its first write, at a later one, and in the middle of a chunk.
 fn check_writes(
     alloc: Global,
     (word, piece, printed, error): Written,
@@ -199,8 +199,8 @@ fn a_writer_of_decoded_texts_that_fails(rt: HostRuntime) -> Result<(), Fail> {
     check_writes(rt.alloc(), DECODE, &fills)
 }
 
-// A word, what is read, what is written, and how often it is flushed: once after a script, and after each read that is
-// decoded, of which the last gives nothing.
+// A word, the input, the output, and the number of flushes: one after a script; one after each read that is decoded and
+// one at the end.
 const FLUSHES: [(&str, &[u8], &[u8], usize); 5] = [
     ("run", b"", b"", 1),
     ("run", b"new bytes\ntext 0\n", b"slot 0\nbytes -\n", 1),

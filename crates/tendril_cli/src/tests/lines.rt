@@ -1,5 +1,5 @@
-//! Scripts: what is skipped, what is malformed, and how spaces are classified. The session of the README is the program's
-//! stored run.
+//! Scripts: what is skipped, what is malformed, and how spaces are classified. The README's session is tested by the
+//! files `stdin` and `stdout`.
 
 use super::{Expected, Notes, check, repeat, run_program};
 use std::test::Fail;

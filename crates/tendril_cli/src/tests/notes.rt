@@ -1,12 +1,12 @@
-//! What a test saw otherwise than expected. A test that notes it and goes on has no way out but its end.
+//! Notes of differences from the expected. A test that notes one continues, and fails at its end.
 
 use std::fmt::{Debug, Display, InlineText};
 use std::test::Fail;
 
-/// The longest note, in bytes. What is longer is cut.
+/// The maximal length of a note, in bytes. Longer ones are cut.
 const LONGEST: usize = 400;
 
-/// The first value that wasn't the expected one. It can't be dropped, so a test has to end by it.
+/// The first difference from the expected. It can't be dropped, so a test has to call `end`.
 pub(super) struct Notes {
     first: Option<InlineText<LONGEST>>,
 }
@@ -16,21 +16,21 @@ impl Notes {
         Notes { first: None }
     }
 
-    /// Notes a value that isn't the expected one.
+    /// Notes a value that differs from the expected one.
     pub(super) fn same<T: PartialEq + Debug + Drop>(&mut self, row: usize, found: T, expected: T) {
         if found != expected {
             self.add(format_args!("row {row}: {found:?} came in place of {expected:?}"));
         }
     }
 
-    /// Notes what doesn't hold.
+    /// Notes a statement that doesn't hold.
     pub(super) fn holds(&mut self, row: usize, holds: bool, what: &str) {
         if !holds {
             self.add(format_args!("row {row}: not so: {what}"));
         }
     }
 
-    /// Fails if anything was noted, with the first of it.
+    /// Fails with the first note, if there is one.
     pub(super) fn end(self) -> Result<(), Fail> {
         let Notes { first } = self;
         match first {

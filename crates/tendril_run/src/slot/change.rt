@@ -1,4 +1,4 @@
-//! Slots whose text changes, or that are gone.
+//! Changes of a slot's text.
 ghost use Rattle.std.specs.Prelude.{◌≡◌, ℕ, MatchOption, None};
 ghost use Rattle.tendril_run.specs.CellOf.{cell_of};
 ghost use Rattle.tendril_run.specs.Cells.{IsCell};
@@ -13,7 +13,7 @@ use tendril_lines::{ByteList, Kind};
 use tendril_text::Atomicity;
 use tendril_text::block::Refusal;
 
-// The same as `on_text`, where the format has characters.
+// Like `on_text`, for the formats that have characters.
 macro_rules! on_characters {
     ($slot:expr, $text:ident => $body:expr) => {
         match $slot {
@@ -58,7 +58,7 @@ impl<A: Atomicity> Slot<A> {
         on_characters!(self, text => text::push_char(text, character))
     }
 
-    /// Takes the first character out of the text.
+    /// Removes the first character of the text and returns it.
     pub(crate) fn pop_char(&mut self) -> Result<Option<char>, Refusal>
         ensures popped { Follows
             (λ cell. with_effect (λ rest first new. (first ≡ char_of cell) × (new ≡ rest)) (pop_char_rule cell))
@@ -68,7 +68,7 @@ impl<A: Atomicity> Slot<A> {
         on_characters!(self, text => Ok(text::pop_char(text)))
     }
 
-    /// Takes the longest run of characters of one class out of the front of the text, with the class.
+    /// Removes the longest prefix of characters of one class, and returns it with the class.
     pub(crate) fn pop_run<C: Classifier>(
         &mut self,
         classifier: &C,
@@ -131,7 +131,7 @@ impl<A: Atomicity> Slot<A> {
         on_text!(self, _kind, text => apply_edit(text, edit), Err(Refusal::NoSuchSlot))
     }
 
-    // Changes the bytes of a text of bytes.
+    // Changes the bytes of a text in the format `Bytes`.
     fn edit_bytes(&mut self, edit: ByteEdit) -> Result<(), Refusal>
         ensures changed { Changes (change_rule (Change.EditBytes edit)) (cell_of self.old) result (cell_of self.new) }
         ensures kept { IsCell (cell_of self.old) → IsCell (cell_of self.new) }
@@ -143,7 +143,7 @@ impl<A: Atomicity> Slot<A> {
         }
     }
 
-    // Makes a clone of the text sendable, takes it back, and puts it in the text's place.
+    // Makes a clone of the text sendable, converts it back, and replaces the text by it.
     fn through_send(&mut self) -> Result<(), Refusal>
         ensures changed { Changes (change_rule Change.ThroughSend) (cell_of self.old) result (cell_of self.new) }
         ensures kept { IsCell (cell_of self.old) → IsCell (cell_of self.new) }
@@ -151,7 +151,7 @@ impl<A: Atomicity> Slot<A> {
         on_text!(self, _kind, text => text::through_send(text), Err(Refusal::NoSuchSlot))
     }
 
-    // The slot is gone.
+    // Drops the text.
     fn drop_text(&mut self) -> Result<(), Refusal>
         ensures changed { Changes (change_rule Change.Drop) (cell_of self.old) result (cell_of self.new) }
         ensures kept { IsCell (cell_of self.old) → IsCell (cell_of self.new) }

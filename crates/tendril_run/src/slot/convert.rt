@@ -1,4 +1,4 @@
-//! Slots whose text changes its format.
+//! Conversions of a slot's text to another format.
 ghost use Rattle.tendril_run.specs.CellOf.{cell_of};
 ghost use Rattle.tendril_run.specs.Cells.{IsCell};
 ghost use Rattle.tendril_run.specs.OneCell.{change_rule, Converts};
@@ -31,7 +31,7 @@ impl<A: Atomicity> Slot<A> {
         }
     }
 
-    // The text in another format, or back with the refusal.
+    // The text in another format, or the error with the text.
     fn converted(self, conversion: Conversion) -> Result<Self, (Refusal, Self)>
         ensures { Converts cell_of (cell_of self) conversion result }
     {

@@ -11,10 +11,10 @@ use tendril_lines::{Command, Reply};
 use tendril_text::Atomicity;
 use tendril_text::block::Refusal;
 
-/// Carries out commands in order and answers one reply a command.
+/// Carries out commands in order and returns one reply per command.
 ///
-/// Room for all replies and slots is made before the first command, so that memory is refused either then, and nothing
-/// is changed, or by a reply.
+/// Capacity for all replies and slots is reserved before the first command. If that fails, `run` returns Memory and
+/// changes nothing. If an allocation fails later, the reply to its command says so.
 pub fn run<A: Atomicity, C: Classifier>(
     table: &mut Table<A>,
     commands: &[Command],
@@ -27,12 +27,12 @@ pub fn run<A: Atomicity, C: Classifier>(
     ensures err { OnErr result (table.new.cells ≡ table.old.cells) }
 {
     let replies = run_behind(table, commands, classifier, &Open);
-    // The table keeps that each cell is valid.
+    // Borrowing the slots gives the prover the table's invariant: each cell is valid.
     let _ = &table.slots;
     replies
 }
 
-/// The same, where the gate is called before each command.
+/// Like `run`, and calls the gate before each command.
 pub(crate) fn run_behind<A: Atomicity, C: Classifier, G: Gate>(
     table: &mut Table<A>,
     commands: &[Command],

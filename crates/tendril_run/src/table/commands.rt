@@ -19,7 +19,7 @@ use tendril_text::Atomicity;
 use tendril_text::block::Refusal;
 
 impl<A: Atomicity> Table<A> {
-    /// Carries out one command, where there is room for the slot that it may make.
+    /// Carries out one command. The table must have capacity for one more slot.
     pub(super) fn carry_out<C: Classifier>(
         &mut self,
         command: &Command,
@@ -63,7 +63,7 @@ impl<A: Atomicity> Table<A> {
         }
     }
 
-    // Puts a slot at the end, where there is room and it could be made.
+    // Appends the slot and replies its number, or returns the error that prevented its creation.
     fn add_made(&mut self, made: Result<Slot<A>, Refusal>) -> Result<Reply, Refusal>
         requires { 1 ≤ self.old.room }
         ensures added { MatchResult made
@@ -75,7 +75,7 @@ impl<A: Atomicity> Table<A> {
         Ok(Reply::Made(self.add(made?)))
     }
 
-    // Puts a slot at the end, where there is room, and answers its number.
+    // Appends a slot, for which there is capacity, and returns its number.
     fn add(&mut self, slot: Slot<A>) -> usize
         requires { 1 ≤ self.old.room }
         ensures number { result ≡ length self.old.cells }
@@ -153,7 +153,7 @@ impl<A: Atomicity> Table<A> {
         }
     }
 
-    // The slot is taken out of the table while another is read.
+    // Appends the text of slot `from` to that of slot `to`, which is out of the table meanwhile.
     fn join_other(&mut self, to: usize, from: usize) -> Result<(), Refusal>
         requires to { to < length self.old.cells }
         requires from { from < length self.old.cells }
@@ -167,7 +167,7 @@ impl<A: Atomicity> Table<A> {
         joined
     }
 
-    // One slot changes, where it is there.
+    // Changes one slot. A number past the end is NoSuchSlot.
     fn change(&mut self, slot: usize, change: Change) -> Result<Reply, Refusal>
         ensures changed { Follows (at_slot slot (change_rule change)) self.old.cells result self.new.cells }
         ensures plain { IsNoRefusal result }
@@ -180,7 +180,7 @@ impl<A: Atomicity> Table<A> {
         Ok(Reply::Done)
     }
 
-    // The slot of a number, which has to be there.
+    // The slot with this number, or NoSuchSlot past the end.
     fn there(&self, slot: usize) -> Result<&Slot<A>, Refusal>
         ensures { MatchResult result (λ s. cell_of s.now ≡ cell_at self.now.cells slot)
             (λ r. (r ≡ Refusal.NoSuchSlot) × (cell_at self.now.cells slot ≡ gone)) }

@@ -4,7 +4,7 @@ use Rattle.std.proofs.KnownBytes.{Appends-kept, Appends-trans}
 use Rattle.tendril_script.proofs.output.write_bytes.Goals as goal
 use Rattle.tendril_script.proofs.output.write_bytes.Goals.{in-Ok, in-Err+else-ne}
 
--- n more bytes are taken
+-- n more bytes are written
 moves_front : (all taken rest : List ℕ) (n : ℕ) → all ≡ taken ++ rest → all ≡ (taken ++ take n rest) ++ take (length rest - n) (drop n rest)
 moves_front all taken rest n e =
     e ∙ ap (λ l. taken ++ l) (sym (take-append-drop n rest)) ∙ sym (append_assoc taken (take n rest) (drop n rest)) ∙ ap (λ l. (taken ++ take n rest) ++ l) (sym (take_rest rest n))

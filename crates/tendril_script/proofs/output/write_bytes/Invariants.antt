@@ -1,4 +1,4 @@
--- what is gone from `rest` was taken
+-- the bytes that are no longer in `rest` were written
 use Rattle.std.proofs.Common.{◌≡◌, ℕ, List, ◌++◌}
 use Rattle.std.specs.Io.KnownBytes.{Appends}
 use Rattle.tendril_script.proofs.output.write_bytes.Given as goal
