@@ -1,4 +1,4 @@
--- Texts that were pushed to, and their characters.
+-- The characters of texts after pushes.
 use Rattle.std.proofs.Common.{◌≡◌, ◌∙◌, ℕ, List, [], ◌∷◌, ◌++◌, map, flat_map, refl, sym, ap, Option, Some, None, Result, Ok, Err, IsUtf8, append-nil, append_assoc}
 use Rattle.std.specs.Prelude.{MatchOption, chars, OnOk, encode_utf8}
 use Rattle.std.proofs.lemmas.Str.{chars-append, IsUtf8-encode, chars_from_encodes}
@@ -9,7 +9,7 @@ use Rattle.tendril.specs.Decoding.{PopsText, bytes_of}
 use Rattle.tendril.specs.Lossy.{IsOpen, Item, Keep, Bad, Cut, lossy, closed_of, characters, due_open, kept, cut_bytes}
 use Rattle.tendril.specs.Ending.TheVariants.{Whole, Broken, Open}
 
--- r is what `IncompleteUtf8::new` answers
+-- r is what `IncompleteUtf8::new` returns for xs
 abbrev pub Takes : List ℕ → Option (List ℕ) → Type 0
 Takes xs r = MatchOption r (IsOpen xs → ⊥) (λ k. IsOpen xs × (k ≡ xs))
 
@@ -28,11 +28,11 @@ tell_front : (cs : List ℕ) (items : List Item) → characters (flat_map closed
 tell_front [] items = refl
 tell_front (c ∷ cs) items = ap (λ l. c ∷ l) (tell_front cs items)
 
--- what is due of bytes that begin with a text
+-- the decoding of bytes that begin with a text
 pub due_front : (bs cs : List ℕ) (items : List Item) → lossy bs ≡ map Keep cs ++ items → characters (due_open bs) ≡ cs ++ characters (flat_map closed_of items)
 due_front bs cs items e = ap (λ l. characters (flat_map closed_of l)) e ∙ tell_front cs items
 
--- what is due of bytes of which a text was popped
+-- the decoding of bytes from which a text was popped
 
 pub pops_whole : (old new : Text) (part : Option Text) → PopsText old part Whole new → (characters (due_open old.bytes) ≡ chars (bytes_of part)) × (kept old.bytes ≡ [])
 pops_whole old new part h =
@@ -52,7 +52,7 @@ pops_broken old new part k h =
     let items : lossy old.bytes ≡ map Keep cs ++ Bad k ∷ lossy new.bytes = h.items ∙ ap (λ l. map Keep cs ++ l) h.leaves.0 in
     (due_front old.bytes cs (Bad k ∷ lossy new.bytes) items, ap cut_bytes items ∙ cut_after cs (Bad k ∷ lossy new.bytes))
 
--- the pushes of a turn, one after another
+-- the pushes of one iteration
 pub turn : (now mid new cs more all due : List ℕ) → mid ≡ now ++ cs → new ≡ mid ++ 0xFFFD ∷ [] → due ≡ cs ++ 0xFFFD ∷ more → now ++ due ≡ all → new ++ more ≡ all
 turn now mid new cs more all due p q d so =
     ap (λ l. l ++ more) (q ∙ ap (λ l. l ++ 0xFFFD ∷ []) p) ∙ append_assoc (now ++ cs) (0xFFFD ∷ []) more ∙ append_assoc now cs (0xFFFD ∷ more) ∙ ap (λ l. now ++ l) (sym d) ∙ so

@@ -1,4 +1,4 @@
--- Decoding that goes on after kept bytes.
+-- Decoding after kept bytes.
 use Rattle.std.proofs.Common.{◌≡◌, ◌∙◌, ℕ, List, [], ◌∷◌, ◌++◌, map, refl, sym, ap, Result, Ok, Err, append_assoc}
 use Rattle.std.specs.Prelude.{chars, MatchResult}
 use Rattle.tendril.specs.Completions.{CompletesTo, BreaksAt}

@@ -1,15 +1,15 @@
--- Whether a stream was broken.
+-- Whether a stream had an error.
 use Rattle.std.proofs.Common.{◌≡◌, Bool, true, false, List, [], ◌∷◌, ◌++◌, map, ℕ, refl, sym, ◌∙◌}
 use Rattle.std.specs.Str.{chars}
 use Rattle.tendril.specs.Lossy.{Told, Char, Mark}
 use Rattle.tendril.specs.Sinks.{Sent, Piece, Fault, told_of}
 
--- after a text, and after an error
+-- the sink's value after a text, and after an error
 abbrev pub is_broken : Bool → Sent → Bool
 is_broken was (Piece t) = was
 is_broken was (Fault words) = true
 
--- whether a mark was told
+-- whether the decoding has an error
 abbrev pub is_marked : List Told → Bool
 is_marked [] = false
 is_marked (Char c ∷ told) = is_marked told

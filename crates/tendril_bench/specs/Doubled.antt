@@ -1,4 +1,4 @@
--- ASCII with each byte written twice, and the laws that it owes.
+-- ASCII with each byte twice, and the laws of this format.
 use Rattle.std.proofs.Common.{◌≡◌, ℕ, ◌<◌, List, [], ◌∷◌, ◌++◌, refl, sym, ap, subst, ◌∙◌, arith}
 use Rattle.std.specs.List.{All, AllByRecursion}
 use Rattle.std.proofs.lemmas.List.Concat.{flat_map-append}
@@ -11,7 +11,7 @@ use Rattle.tendril.specs.Fmt.Chars.{encodings, AreTextsOf}
 abbrev pub twice : ℕ → List ℕ
 twice c = c ∷ c ∷ []
 
--- characters of ASCII
+-- the list is characters of ASCII
 abbrev pub AreAscii : List ℕ → Type 0
 AreAscii cs = AllByRecursion (λ c. c < 128) cs
 
@@ -19,7 +19,7 @@ AreAscii cs = AllByRecursion (λ c. c < 128) cs
 abbrev pub IsDoubled : List ℕ → Type 0
 IsDoubled bytes = (cs : List ℕ) × AreAscii cs × (encodings twice cs ≡ bytes)
 
--- each other byte
+-- every other byte, from the first
 abbrev pub firsts : List ℕ → List ℕ
 firsts [] = []
 firsts (a ∷ []) = []
@@ -56,7 +56,7 @@ AreBytes-doubled bytes w = subst AreBytes w.2 (AreBytes-encodings w.0 w.1)
 pub IsDoubled-twice : (c : ℕ) → c < 128 → IsDoubled (twice c)
 IsDoubled-twice c h = (c ∷ [], (h, tt), refl)
 
--- the characters that were doubled
+-- `firsts` gives the characters that were doubled
 pub firsts-encodings : (cs : List ℕ) → firsts (encodings twice cs) ≡ cs
 firsts-encodings [] = refl
 firsts-encodings (c ∷ cs) = ap (λ l. c ∷ l) (firsts-encodings cs)

@@ -1,9 +1,9 @@
--- Bytes two by two.
+-- Lists of an even number of bytes.
 use Rattle.std.proofs.Common.{◌≡◌, ℕ, ◌%◌, List, [], ◌++◌, length, refl, arith, length-append}
 use Rattle.tendril.specs.Fmt.Bytes.{AreBytes}
 use Rattle.tendril.specs.Fmt.Proved.Bytes.{AreBytes-nil, AreBytes-append}
 
--- bytes, and their number is even
+-- bytes whose number is even
 abbrev pub IsPaired : List ℕ → Type 0
 IsPaired bytes = AreBytes bytes × (length bytes % 2 ≡ 0)
 

@@ -1,4 +1,4 @@
-//! A sink of a user's own, which says whether a stream was broken.
+//! A sink of your own: whether a stream had an error.
 ghost use Rattle.std.specs.Prelude.{◌≡◌, List, None, flat_map, IfOk};
 ghost use Rattle.std.specs.Iterator.{IsFiniteIterable, YieldsThen};
 ghost use Rattle.tendril.specs.Texts.{Text};
@@ -11,7 +11,7 @@ use tendril::block::Refusal;
 use tendril::stream::{TendrilSink, Tracks, decode_pieces_into};
 use tendril::{ByteTendril, StrTendril};
 
-/// Whether an error was sent.
+/// A sink that stores whether an error was sent to it.
 #[derive(Drop)]
 pub struct Breaks {
     pub broken: bool,
@@ -54,7 +54,7 @@ impl Tracks<StrTendril> for Breaks {
     ghost goes_on = { λ told a e b is_sent was call. marked_after told a.broken b.broken e was call };
 }
 
-/// Whether pieces, one behind the other, aren't UTF-8.
+/// Returns whether the concatenated pieces aren't UTF-8.
 pub fn is_broken<I: IntoIterator<Item = ByteTendril>>(
     alloc: Global,
     pieces: I,

@@ -1,11 +1,11 @@
-//! Code that is generic in the format: it is proved once, from the trait alone, for every format.
+//! Code that is generic over the format: it is proved once, from the trait alone, for every format.
 ghost use Rattle.std.specs.Prelude.{◌≡◌, ◌≤◌, ◌∷◌, ◌++◌, ℕ, List, length, take, IfSome, IfNone};
 ghost use Rattle.std.specs.List.{AllByRecursion};
 ghost use Rattle.tendril_bench.specs.Digits.{IsDigit};
 
 use tendril::fmt::{CharFormat, Format};
 
-/// The first `len` bytes of a text, if they are a text of the format.
+/// Returns the first `len` bytes of a text, if they are valid in its format.
 pub fn front<F: Format>(text: &[u8], len: usize) -> Option<&[u8]>
     requires valid { F.valid text.now }
     requires within { len ≤ length text.now }
@@ -20,14 +20,14 @@ pub fn front<F: Format>(text: &[u8], len: usize) -> Option<&[u8]>
     }
 }
 
-/// A text in two: the digits that it begins with, and the rest.
+/// Splits a text after its longest prefix of digits.
 pub fn leading_digits<F: CharFormat>(text: &[u8]) -> (&[u8], &[u8])
     requires { F.valid text.now }
     ensures texts { F.valid result.0.now × F.valid result.1.now }
     ensures whole { text.now ≡ result.0.now ++ result.1.now }
     ensures characters { F.chars text.now ≡ F.chars result.0.now ++ F.chars result.1.now }
 
-    // the first part is the longest front of digits
+    // the first slice is the longest prefix of digits
     ensures digits { AllByRecursion IsDigit (F.chars result.0.now) }
     ensures longest { (c : ℕ) (cs : List ℕ) → F.chars result.1.now ≡ c ∷ cs → ¬ (IsDigit c) }
 {

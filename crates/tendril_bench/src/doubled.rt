@@ -1,8 +1,8 @@
-//! A format of characters as a user writes one.
+//! A format of your own, whose texts are characters.
 
 use tendril::fmt::{CharFormat, Encoded, Fixup, Format};
 
-/// ASCII with each byte written twice.
+/// The format of ASCII with each byte twice.
 #[derive(Clone, Copy, Debug, Default)]
 pub struct Doubled;
 

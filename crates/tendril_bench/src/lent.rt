@@ -1,4 +1,4 @@
-//! Reading into a sink that is lent.
+//! Reads into a borrowed sink.
 ghost use Rattle.std.specs.Prelude.{List, IfOk, IfErr};
 ghost use Rattle.tendril.specs.Readings.{MakesReads, ReadStops, Receives};
 ghost use Rattle.tendril.specs.Reads.{OneRead};
@@ -9,7 +9,7 @@ use tendril::ByteTendril;
 use tendril::block::Refusal;
 use tendril::stream::{CountedRead, TendrilSink, read_once};
 
-/// Reads to the end or so many times, and answers whether the end came. The sink accepted what was read.
+/// Reads into a sink, to the end or `max_reads` times, and returns whether it found the end.
 pub fn read_up_to<S: TendrilSink<ByteTendril>, R: CountedRead>(
     alloc: Global,
     sink: &mut S,

@@ -1,5 +1,5 @@
-//! What users write, proved by the contracts of `tendril` alone: two formats of a user's own and code that is generic in the
-//! format; callers of texts and streams; a sink of a user's own; and a text that is changed in another thread.
+//! Code as users write it, proved from the contracts of `tendril` alone: two formats and code that is generic over the
+//! format; callers of texts and streams; a sink; and a text that another thread changes.
 #![tactic(auto)]
 
 pub mod broken;

@@ -6,7 +6,7 @@ use std::alloc::Global;
 use tendril::StrTendril;
 use tendril::block::Refusal;
 
-/// The lines of a text without their line endings, as Rust's `str::lines` gives them. Long ones share the text's bytes.
+/// Returns the lines of a text without their line endings, as Rust's `str::lines`. Long ones share the text's block.
 pub fn split_lines(alloc: Global, text: StrTendril) -> Result<Vec<StrTendril>, Refusal>
     ensures { IfOk result (λ lines. AreLines (map (λ line. line.bytes) lines.items) text.bytes) }
 {

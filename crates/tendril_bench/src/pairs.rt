@@ -1,8 +1,8 @@
-//! A format as a user writes one.
+//! A format of your own.
 
 use tendril::fmt::{Fixup, Format};
 
-/// An even number of bytes, of any kind.
+/// The format of any bytes whose number is even.
 #[derive(Clone, Copy, Debug, Default)]
 pub struct Pairs;
 

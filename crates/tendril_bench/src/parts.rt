@@ -1,11 +1,11 @@
-//! A text in parts: the bytes of a set by themselves, and what lies between them.
+//! Splits a text into parts: each byte of a set, and the texts between them.
 ghost use Rattle.std.specs.Prelude.{◌≡◌, ◌<◌, ◌++◌, [], length, flat_map, IfOk, IfSome, IfNone, OnSome};
 
 use std::alloc::Global;
 use tendril::block::Refusal;
 use tendril::{ByteSet, StrTendril};
 
-/// The parts of a text, in order. Long ones share its bytes.
+/// Returns the parts of a text, in order. Long ones share its block.
 pub fn parts(alloc: Global, mut text: StrTendril, set: &ByteSet) -> Result<Vec<StrTendril>, Refusal>
     ensures { IfOk result (λ parts. flat_map (λ part. part.bytes) parts.items ≡ text.bytes) }
 {
@@ -16,7 +16,7 @@ pub fn parts(alloc: Global, mut text: StrTendril, set: &ByteSet) -> Result<Vec<S
     Ok(parts)
 }
 
-/// Takes the next part out of a text, or answers `None` where the text is empty.
+/// Removes and returns the next part of a text, or returns None if the text is empty.
 pub fn next_part(
     alloc: Global,
     text: &mut StrTendril,

@@ -1,4 +1,4 @@
-//! Pieces that are decoded onto a text.
+//! Decodes a piece onto a text.
 ghost use Rattle.std.specs.Prelude.{◌≡◌, ◌⊎◌, ◌++◌, ◌∷◌, [], chars, MatchOption, IfOk, IfErr, OnOk};
 ghost use Rattle.tendril.specs.Decoding.{bytes_of};
 ghost use Rattle.tendril.specs.Lossy.{characters, due_open, kept};
@@ -7,7 +7,7 @@ use tendril::block::Refusal;
 use tendril::lossy::{Ending, laws};
 use tendril::{ByteTendril, IncompleteUtf8, StrTendril};
 
-/// Decodes a piece onto a text, and answers what is to be kept of it.
+/// Decodes a piece onto a text, and returns the incomplete character at its end, if there is one.
 pub fn push_decoded(
     text: &mut StrTendril,
     mut piece: ByteTendril,

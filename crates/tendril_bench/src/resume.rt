@@ -1,4 +1,4 @@
-//! Pieces after bytes that were kept.
+//! Decodes a piece after bytes that were kept.
 ghost use Rattle.tendril_bench.specs.Decoded.{spelled};
 ghost use Rattle.std.specs.Prelude.{◌≡◌, ◌++◌, chars, OnOk};
 ghost use Rattle.tendril.specs.Lossy.{characters, due_open, kept};
@@ -9,7 +9,7 @@ use tendril::fmt::Encoded;
 use tendril::lossy::{ShortText, laws};
 use tendril::{ByteTendril, IncompleteUtf8, StrTendril};
 
-/// Completes what was held from a piece, decodes the rest onto the text, and holds what is to be kept then.
+/// Completes `held` from a piece, decodes the remainder onto the text, and stores the incomplete end of it in `held`.
 pub fn resume(
     held: &mut IncompleteUtf8,
     text: &mut StrTendril,

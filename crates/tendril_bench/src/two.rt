@@ -1,4 +1,4 @@
-//! Two pieces, of which the first may end within a character.
+//! Decodes two pieces, of which the first may end inside a character.
 ghost use Rattle.std.specs.Prelude.{◌≡◌, ◌++◌, IfOk};
 ghost use Rattle.tendril.specs.Lossy.{due};
 ghost use Rattle.tendril.specs.Events.{sent};
@@ -9,7 +9,7 @@ use tendril::block::Refusal;
 use tendril::stream::{Accumulate, Event, TendrilSink, Utf8LossyDecoder, laws};
 use tendril::{ByteTendril, NonAtomic};
 
-/// The texts and errors of two pieces.
+/// Returns the texts and errors of two pieces.
 pub fn decode_two(
     alloc: Global,
     first: ByteTendril,

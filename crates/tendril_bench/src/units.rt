@@ -1,4 +1,4 @@
-//! 16-bit units through a text in WTF-8.
+//! 16-bit units and texts in WTF-8.
 ghost use Rattle.std.specs.Prelude.{◌≡◌, ◌++◌, ◌||◌, IfOk, count_by};
 ghost use Rattle.std.specs.Char.Utf16.{is_high_surrogate, is_low_surrogate};
 ghost use Rattle.tendril.specs.Fmt.Wtf8.{units as units_of};
@@ -8,7 +8,7 @@ use tendril::Tendril;
 use tendril::block::Refusal;
 use tendril::fmt::{WTF8, Wtf8Units, laws};
 
-/// The units of two lists, one behind the other, by way of a text.
+/// Returns the units of two lists, joined in a text.
 pub fn joined_units(alloc: Global, left: &[u16], right: &[u16]) -> Result<Vec<u16>, Refusal>
     ensures { IfOk result (λ units. units.items ≡ left.now ++ right.now) }
 {
@@ -19,7 +19,7 @@ pub fn joined_units(alloc: Global, left: &[u16], right: &[u16]) -> Result<Vec<u1
     text.to_units()
 }
 
-/// How many of a text's units are surrogates, in pairs or alone.
+/// Returns how many of a text's units are surrogates, in pairs or alone.
 pub fn surrogates(text: &Tendril<WTF8>) -> usize
     ensures { result ≡ count_by (λ u. is_high_surrogate u || is_low_surrogate u) (units_of text.now.bytes) }
 {

@@ -1,4 +1,4 @@
-//! A reader's bytes in a text.
+//! Reads all of a reader into a text.
 ghost use Rattle.std.specs.Prelude.{◌≡◌, ℕ, List, Some, IfOk};
 
 use std::alloc::Global;
@@ -6,10 +6,10 @@ use tendril::ByteTendril;
 use tendril::block::Refusal;
 use tendril::stream::{CountedRead, ReadExt};
 
-/// How many reads are made at most.
+/// The maximal number of reads.
 const MOST: u64 = 1000;
 
-/// All that the reader has, up to its end.
+/// Returns all bytes of the reader, up to its end.
 pub fn read_all<R: CountedRead>(alloc: Global, reader: &mut R) -> Result<ByteTendril, Refusal>
     ensures { IfOk result (λ text. (bytes : List ℕ) → R.remaining reader.old ≡ Some bytes → text.bytes ≡ bytes) }
 {

@@ -1,4 +1,4 @@
-//! A text that is changed in another thread.
+//! Changes a text in another thread.
 ghost use Rattle.std.specs.Prelude.{◌≡◌, ◌++◌, IfOk, codes};
 
 use std::snapshot::Snapshot;
@@ -8,7 +8,7 @@ use tendril::block::Refusal;
 use tendril::fmt::UTF8;
 use tendril::{SendTendril, StrTendril, Tendril};
 
-/// The text with an exclamation mark at its end, which a thread of its own has put there.
+/// Returns the text with an exclamation mark, which another thread appends.
 pub fn louder_in_a_worker<R: Threads>(rt: &R, text: StrTendril) -> Result<StrTendril, Refusal>
     ensures { IfOk result (λ louder. louder.bytes ≡ text.bytes ++ codes "!") }
 {
@@ -21,7 +21,7 @@ pub fn louder_in_a_worker<R: Threads>(rt: &R, text: StrTendril) -> Result<StrTen
     Ok(Tendril::from_send(back)?)
 }
 
-// What the worker answers has this text and an exclamation mark.
+// The worker's promise: it returns this text with an exclamation mark.
 #[derive(Drop)]
 struct Louder(Snapshot<SendTendril<UTF8>>);
 

@@ -1,4 +1,4 @@
-//! What a user writes into texts, proved by the contracts of `tendril` alone.
+//! Writes into texts.
 ghost use Rattle.std.specs.Prelude.{◌≡◌, ◌<◌, ◌≤◌, ◌++◌, ◌∷◌, [], length, max, slice_set, IfErr, OnOk, OnErr};
 ghost use Rattle.std.specs.Fmt.{decimal};
 
@@ -8,7 +8,7 @@ use tendril::block::Refusal;
 use tendril::fmt::{Bytes, UTF8};
 use tendril::{Atomicity, Tendril};
 
-/// Sets one byte of a text. All others stay.
+/// Sets one byte of a text. The only error is Memory.
 pub fn set_byte<A: Atomicity>(
     text: &mut Tendril<Bytes, A>,
     index: u32,
@@ -23,14 +23,14 @@ pub fn set_byte<A: Atomicity>(
     text.bytes_mut(|bytes| bytes[index as usize] = byte)
 }
 
-/// Prints a number and a line feed at the end of a text.
+/// Appends a number and a line feed to a text.
 pub fn print_line<A: Atomicity>(text: &mut Tendril<UTF8, A>, number: u64) -> fmt::Result
     ensures { OnOk result (text.new.bytes ≡ text.old.bytes ++ (decimal number ++ 10 ∷ [])) }
 {
     writeln!(text, "{number}")
 }
 
-/// Writes bytes twice at the end of a text, as to a file.
+/// Appends bytes to a text twice, by `io::Write`.
 pub fn write_twice<A: Atomicity>(text: &mut Tendril<Bytes, A>, bytes: &[u8]) -> io::Result<()>
     ensures { OnOk result (text.new.bytes ≡ text.old.bytes ++ bytes.now ++ bytes.now) }
 {

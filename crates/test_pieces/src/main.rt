@@ -1,5 +1,5 @@
 //! Plays session files of streams: pieces of bytes that are decoded, and readers that do what lines say. It prints each
-//! row whose reply isn't the one that its file expects, and how much it played.
+//! row whose reply differs from the expected one, and how much was played.
 #![tactic(auto)]
 
 mod joined;
@@ -24,7 +24,7 @@ fn main(rt: HostRuntime) -> ExitCode {
     }
 }
 
-// Whether the words were understood. An error is one of the player's own: it could not read, or was out of memory.
+// Returns whether the words are known. An error means that the player itself failed to read or to allocate.
 fn run(rt: &(impl Env + Files + Print + AllocGlobal)) -> io::Result<bool> {
     let mut words = env::args(rt)?.skip(1);
     match words.next() {

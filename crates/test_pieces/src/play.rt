@@ -1,4 +1,4 @@
-//! Files row by row.
+//! Plays files row by row.
 
 use crate::reply::Reply;
 use crate::stream::Stream;
@@ -7,7 +7,7 @@ use std::fs::{self, Files};
 use std::io;
 use tendril_block::{Atomic, AtomicUpTo, Atomicity, NonAtomic, Refusal};
 
-/// The first line of a file whose blocks have at most three holders.
+/// The first line of a file whose blocks have at most three references.
 const OVER_THREE: &str = "# over three holders";
 
 type Three = AtomicUpTo<3>;
@@ -17,7 +17,7 @@ type Three = AtomicUpTo<3>;
 struct Counts {
     sessions: usize,
     rows: usize,
-    /// How many rows were refused for memory.
+    /// How many rows got no memory.
     refused: usize,
 }
 
@@ -56,7 +56,7 @@ impl<'a> Place<'a> {
     }
 }
 
-/// Plays a file over both kinds of block, or where a block has at most three holders, and prints how much was played.
+/// Plays a file over both kinds of block, or over blocks with at most three references, and prints how much was played.
 pub fn play_file(rt: &(impl Files + Print + AllocGlobal), file: &str) -> io::Result<()> {
     let text = fs::read_to_string(rt, file)?;
     let text = text.as_str();
@@ -93,7 +93,7 @@ pub fn play_file(rt: &(impl Files + Print + AllocGlobal), file: &str) -> io::Res
     )
 }
 
-/// Plays a file after `requests` requests for memory, so that a later one can be refused, and prints how many rows were.
+/// Plays a file after `requests` allocations, so that a later one can fail, and prints how many rows got no memory.
 pub fn refuse_in_file(
     rt: &(impl Files + Print + AllocGlobal),
     file: &str,
@@ -141,7 +141,7 @@ fn play<A: Atomicity>(
 ) -> io::Result<()> {
     let mut place = first;
     for session in text.split("\n\n") {
-        // After a refusal that a stream doesn't survive all rows are played again.
+        // After an error for which the stream has failed, all rows are played again.
         if !play_session::<A>(rt, place, session, reply, counts)? {
             play_session::<A>(rt, place, session, reply, counts)?;
         }
@@ -151,7 +151,7 @@ fn play<A: Atomicity>(
     Ok(())
 }
 
-// Whether the session was played to its end.
+// Returns whether the session was played to its end.
 fn play_session<A: Atomicity>(
     rt: &(impl Files + Print + AllocGlobal),
     place: Place,
@@ -175,8 +175,8 @@ fn out_of_memory(_refusal: Refusal) -> io::Error {
     io::Error::from(io::ErrorKind::OutOfMemory)
 }
 
-// Whether the stream can go on. A row that is refused for memory is played again. Where the sink was refused memory, what it
-// was sent before has to be the beginning of what is expected, and the stream has failed for good.
+// Returns whether the stream can go on. A row that gets no memory is played again. If its sink got none, what was sent
+// to it before must be a prefix of what is expected, and the stream must have failed for good.
 fn play_row<A: Atomicity>(
     rt: &(impl Files + Print),
     stream: &mut Stream<A>,
@@ -214,8 +214,8 @@ fn play_row<A: Atomicity>(
 
 const SINK_REFUSED: &str = "refused 10 SinkRefused";
 
-// Whether a reply is the beginning of the expected one and then a refusal. How often equal texts came isn't compared. Where the
-// expected refusal takes the sink away, what it was sent isn't expected either.
+// Whether a reply is a prefix of the expected one and then an error. How often equal texts were sent isn't compared. If
+// the expected reply is only the error, since that drops the sink, what was sent before isn't compared either.
 fn is_beginning(reply: &str, expected: &str) -> bool {
     match reply.strip_suffix(SINK_REFUSED) {
         Some(_) if expected == SINK_REFUSED => true,

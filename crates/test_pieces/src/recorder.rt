@@ -1,4 +1,4 @@
-//! A sink that stores what it is sent, and may refuse one of its calls.
+//! A sink that stores what is sent to it, and may return an error from one of its calls.
 
 use std::alloc::Global;
 use std::borrow::CowStr;
@@ -9,7 +9,7 @@ use tendril_stream::TendrilSink;
 use tendril_text::Tendril;
 use tendril_text::fmt::UTF8;
 
-/// What the sink was sent by one call.
+/// What one call sent to the sink.
 #[derive(Drop)]
 pub enum Sent<A: Atomicity> {
     Text(Tendril<UTF8, A>),
@@ -21,7 +21,7 @@ pub enum Sent<A: Atomicity> {
 pub enum Words {
     Invalid,
     Incomplete,
-    /// Those of the line `error`.
+    /// The words of the line `error`.
     Noise,
     Other,
 }
@@ -46,11 +46,11 @@ impl Words {
     }
 }
 
-/// The calls of a sink, the end among them. They can be read after the sink was dropped, too.
+/// The calls of a sink, its end included. They can be read even after the sink was dropped.
 #[derive(Clone, Copy)]
 pub struct Calls {
     pub count: u32,
-    /// What a call was sent couldn't be stored.
+    /// Whether there was no memory to store what a call sent.
     pub is_out_of_memory: bool,
 }
 
@@ -61,7 +61,7 @@ impl Calls {
     };
 }
 
-/// What was sent so far. The call number `refused` returns `Memory` and stores nothing; there is no call number 0.
+/// A sink that stores what is sent. Call number `refused` returns Memory and stores nothing; there is no call number 0.
 #[derive(Drop)]
 pub struct Recorder<A: Atomicity> {
     pub sent: Vec<Sent<A>>,

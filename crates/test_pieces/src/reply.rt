@@ -8,11 +8,10 @@ use tendril_block::{Atomicity, Refusal};
 use tendril_text::Tendril;
 use tendril_text::fmt::UTF8;
 
-// Bytes for the longest reply, so that no reply allocates and a row that is out of memory has done nothing that a second
-// call would do again.
+// Capacity for the longest reply, so that replies don't allocate: a row that gets no memory can be played again.
 const ROOM: usize = 0x1_0000;
 
-/// The items of a reply, with `; ` between them.
+/// The items of a reply, separated by `; `.
 #[derive(Drop)]
 pub struct Reply {
     line: String,
@@ -29,7 +28,7 @@ impl Reply {
         self.line.clear();
     }
 
-    /// The reply, `-` where it has no item.
+    /// The reply, `-` if it has no item.
     pub fn as_str(&self) -> &str {
         if self.line.is_empty() {
             return "-";
@@ -43,14 +42,14 @@ impl Reply {
         Ok(())
     }
 
-    /// Adds a refusal by its number and name.
+    /// Adds an error by its number and name.
     pub fn refusal(&mut self, refusal: Refusal) -> Result<(), Refusal> {
         let number = refusal.number();
         let name = refusal.name();
         self.item(format_args!("refused {number} {name}"))
     }
 
-    /// Adds `ok`, or the refusal.
+    /// Adds `ok`, or the error.
     pub fn outcome(&mut self, outcome: Result<(), Refusal>) -> Result<(), Refusal> {
         match outcome {
             Ok(()) => self.item("ok"),
@@ -58,7 +57,7 @@ impl Reply {
         }
     }
 
-    /// Adds a text as a string, or as bytes where it has many, and whether it shares a block.
+    /// Adds a text as a string, or a long one as bytes, and whether it shares a block.
     pub fn text<A: Atomicity>(&mut self, text: &Tendril<UTF8, A>) -> Result<(), Refusal> {
         let shared = if text.is_shared() { " shared" } else { "" };
         let string = text.as_str();
@@ -68,8 +67,8 @@ impl Reply {
         self.item(format_args!("{string:?}{shared}"))
     }
 
-    /// Adds what a sink was sent after the first `count` calls, and returns how many calls there were. Equal texts of many
-    /// bytes that follow each other are added once, with their number.
+    /// Adds what was sent to a sink after the first `count` calls, and returns the number of all calls. Adjacent equal
+    /// texts of many bytes are added once, with their number.
     pub fn sent<A: Atomicity>(&mut self, sent: &[Sent<A>], count: usize) -> Result<usize, Refusal> {
         if let Some(new) = sent.get(count..) {
             for equal in new.chunk_by(|one, next| are_equal(one, next)) {
@@ -92,7 +91,7 @@ impl Reply {
     }
 }
 
-// Equal texts of many bytes.
+// Whether these are equal texts of many bytes.
 fn are_equal<A: Atomicity>(one: &Sent<A>, next: &Sent<A>) -> bool {
     match (one, next) {
         (Sent::Text(one), Sent::Text(next)) => {

@@ -1,4 +1,4 @@
-//! A reader that does what lines said.
+//! A reader that does what lines say.
 
 use std::alloc::{AllocError, Global};
 use std::io::{self, Error, ErrorKind, Read};
@@ -8,17 +8,17 @@ use std::io::{self, Error, ErrorKind, Read};
 pub enum Step {
     Interrupt,
     Fail,
-    /// Gives these bytes, in several reads where they are more than one is offered.
+    /// Gives these bytes, in several reads if one read isn't offered as many.
     Give(Vec<u8>),
 }
 
-/// Takes one step after another, and then is at its end.
+/// A reader that takes one step after another, and then is at its end.
 #[derive(Drop)]
 pub struct Script {
     steps: Vec<Step>,
-    /// The steps that were taken.
+    /// How many steps were taken.
     taken: usize,
-    /// The bytes of the next step that were given already.
+    /// How many bytes of the next step were given already.
     given: usize,
     /// How many reads there were.
     pub reads: u32,
@@ -44,7 +44,7 @@ impl Script {
         Ok(())
     }
 
-    /// Begins with the first step again, unless the last reading is to be continued.
+    /// Begins with the first step again, if the last reading has ended.
     pub fn begin(&mut self) {
         if self.is_done {
             self.taken = 0;
@@ -55,7 +55,7 @@ impl Script {
         }
     }
 
-    /// The reading is done.
+    /// Ends the reading.
     pub fn end(&mut self) {
         self.is_done = true;
     }

@@ -1,15 +1,15 @@
-//! What lines do.
+//! Carries out lines.
 //!
 //! | Line | Effect and reply |
 //! |---|---|
-//! | `piece H` | the decoder processes a piece of these bytes: what its sink was sent, and an error |
-//! | `send` | the same of the session's text, which is empty then |
-//! | `error` | an error `noise` of the caller: the same |
-//! | `end` | the decoder's end: the same |
-//! | `refusing K` | the sink refuses its call number K |
+//! | `piece H` | the decoder processes a piece of these bytes: what was sent to its sink, and the error |
+//! | `send` | the decoder processes the session's text, which is empty then: as `piece` |
+//! | `error` | the caller sends an error `noise`: as `piece` |
+//! | `end` | the decoder's end: as `piece` |
+//! | `refusing K` | the sink returns an error from its call number K |
 //! | `calls` | how many calls the sink had |
 //! | `give H`, `interrupt`, `fail` | what the reader does next |
-//! | `read N` | reads into the decoder, in at most N reads: what its sink was sent, and an error |
+//! | `read N` | reads into the decoder, in at most N reads: what was sent to its sink, and the error |
 //! | `collect N` | reads into the session's text: how many bytes, or the error, and then the text |
 //! | `reads` | how many reads the last reading took |
 //! | `decode N` | decodes the reader by `decode_reader`: all events, or the error |
@@ -19,13 +19,13 @@
 //! | `hold N`, `release N` | clones of the session's text: N more, N fewer |
 //! | `held` | the bytes of these clones |
 //! | `lossy` | decodes the session's text by `decode_utf8_lossy`: the texts, which the session keeps, and what is kept or left |
-//! | `lossy dropping` | the same, where each text is dropped at once: their number |
-//! | `pop` | a text out of the front of the session's text, how that ended, and what is left |
+//! | `lossy dropping` | as `lossy`, but each text is dropped at once: their number |
+//! | `pop` | pops a text from the front of the session's text: the text, how that ended, and what is left |
 //! | `kept H` | these bytes as an `IncompleteUtf8` |
-//! | `complete K H` | the bytes K of an `IncompleteUtf8` completed from H: the text or what is broken, the rest, and what is kept |
-//! | `hand K H` | the same from a piece: the text that is handed on |
+//! | `complete K H` | completes kept bytes K from H: the text or the broken bytes, the remainder, and what is kept |
+//! | `hand K H` | as `complete`, from a piece: the text that is sent |
 //!
-//! A text of many bytes is written by its bytes, and one that shares its block has `shared` after it.
+//! A long text is written by its bytes. After one that shares its block there is `shared`.
 
 use crate::joined::text_of_file;
 use crate::recorder::{Calls, Recorder, Sent};
@@ -47,17 +47,17 @@ use tendril_stream::{
 use tendril_text::fmt::{Bytes, UTF8};
 use tendril_text::{ByteTendril, IncompleteUtf8, Tendril};
 
-// How many texts a session can keep that `decode_utf8_lossy` hands on.
+// The maximal number of texts from `decode_utf8_lossy` that a session can keep.
 const TEXTS: usize = 16;
 
 type Decoder<A> = Utf8LossyDecoder<Recorder<A>, A>;
 
-/// A decoder until its end, and what else the lines of a session use.
+/// The state of a session: a decoder, until its end, and what else its lines use.
 #[derive(Drop)]
 pub struct Stream<A: Atomicity> {
     alloc: Global,
     decoder: Option<Decoder<A>>,
-    /// What the decoder's sink was sent, once it has ended.
+    /// What was sent to the decoder's sink, after the decoder's end.
     ended: Vec<Sent<A>>,
     /// How many events were printed.
     printed: usize,
@@ -85,8 +85,8 @@ impl<A: Atomicity> Stream<A> {
         })
     }
 
-    /// Carries out a line. Where it is refused for memory, nothing has changed but what was read, and the line can be
-    /// carried out again.
+    /// Carries out a line. If it gets no memory, nothing has changed but what was read, and the line can be carried out
+    /// again.
     pub fn answer(
         &mut self,
         files: &impl Files,
@@ -204,7 +204,7 @@ impl<A: Atomicity> Stream<A> {
         }
     }
 
-    // Prints what the sink was sent since it was printed last, and a refusal.
+    // Prints what was sent to the sink since the last print, and the error.
     fn print(&mut self, answer: Result<(), Refusal>, reply: &mut Reply) -> Result<(), Refusal> {
         let printed = match &self.decoder {
             Some(decoder) => reply.sent(decoder.inner_sink.sent.as_slice(), self.printed)?,
@@ -217,12 +217,12 @@ impl<A: Atomicity> Stream<A> {
         }
     }
 
-    /// Whether the decoder's sink was out of memory.
+    /// Whether the decoder's sink ran out of memory.
     pub fn is_out_of_memory(&self) -> bool {
         self.calls.get().is_out_of_memory
     }
 
-    /// Whether the decoder returns `Failed` from now on and makes no call on its sink. A decoder that is gone does.
+    /// Whether the decoder, if there is one, returns `Failed` from now on and doesn't call its sink.
     pub fn has_failed(&mut self) -> bool {
         let calls = self.calls.get().count;
         let Some(mut decoder) = self.decoder.take() else {
@@ -304,7 +304,7 @@ impl<A: Atomicity> Stream<A> {
         reply.item(Hex(self.text.as_byte_slice()))
     }
 
-    // Pieces that one call decodes. Where its sink is out of memory, all of it can be done again.
+    // Decodes pieces by one call. If its sink runs out of memory, the line can be carried out again.
     fn pieces(&mut self, words: &str, reply: &mut Reply) -> Result<(), Refusal> {
         let mut pieces = Vec::new(self.alloc);
         for word in words.split(' ') {
@@ -320,7 +320,7 @@ impl<A: Atomicity> Stream<A> {
         }
     }
 
-    // The same of a reader, which then begins with its first step again.
+    // Decodes a reader by one call. The reader then begins with its first step again.
     fn decode(&mut self, max_reads: u32, reply: &mut Reply) -> Result<(), Refusal> {
         let mut script = self.take_script();
         let mut reader = Counted::new(&mut script);
@@ -482,7 +482,7 @@ fn print_events<A: Atomicity>(events: &[Event<A>], reply: &mut Reply) -> Result<
     Ok(())
 }
 
-// A sink that refuses no call itself does so only when it is out of memory.
+// The sinks of these calls return an error only when they are out of memory.
 fn decode_stopped(refusal: Refusal, reply: &mut Reply) -> Result<(), Refusal> {
     match refusal {
         Refusal::Memory | Refusal::SinkRefused => Err(Refusal::Memory),

@@ -1,14 +1,15 @@
-//! Bytes in the words of lines, and in replies.
+//! Bytes in lines and in replies.
 
 use std::alloc::{AllocError, Global};
 use std::fmt::{self, Display, Formatter};
 use tendril_lines::bytes;
 
-/// How many bytes a reply writes one by one. Of more bytes it writes each run of equal ones once, with its length.
+/// The maximal number of bytes that a reply writes one by one. If there are more, it writes each run of equal bytes
+/// once, with its length.
 pub const MAX_WRITTEN_SINGLY: usize = 40;
 
 /// The bytes of words in hexadecimal, `-` for none, each with how often its bytes are repeated: `61*50000 ff 2030*3`.
-/// `None` where some word is of another form.
+/// Returns None if a word has another form.
 pub fn read_bytes(alloc: Global, words: &str) -> Result<Option<Vec<u8>>, AllocError> {
     let mut all = Vec::new(alloc);
     for word in words.split(' ') {
@@ -19,7 +20,7 @@ pub fn read_bytes(alloc: Global, words: &str) -> Result<Option<Vec<u8>>, AllocEr
     Ok(Some(all))
 }
 
-// Puts the bytes of a word at the end, if it has the form of one.
+// Appends the bytes of a word. Returns whether it has the form of one.
 fn push_word(alloc: Global, all: &mut Vec<u8>, word: &str) -> Result<bool, AllocError> {
     let (digits, count) = word.split_once('*').unwrap_or((word, "1"));
     let Ok(count) = count.parse::<u32>() else {

@@ -1,14 +1,14 @@
-//! Lines over public calls of texts that no command has. Each works on a clone of its text, and what it makes is put into a
-//! slot at the end, so that a refused call leaves the table as it was.
+//! Lines for public calls of texts that no command makes. Each works on a clone of its text and appends its result as a
+//! slot, so that after an error the table is as before.
 //!
 //! A string is in quotation marks.
 //!
 //! | Line | What it does | Reply |
 //! |---|---|---|
-//! | `from_strs "A" "B"`, .. | makes a text by the call of this name; `sent "A"` one that is sent there and back | `slot S` |
+//! | `from_strs "A" "B"`, .. | creates a text by the call of this name; `sent "A"` sends it there and back | `slot S` |
 //! | `extend_strs S "A" "B"`, .. | extends by the call of this name; `extend_tendrils S S S` by texts | `slot S` |
 //! | `until S "SET"`, `after S "SET"` | what `pop_front_until` returns, and what it leaves | `slot S` |
-//! | `split S N`, `left S N` | the same of `try_split_to` | `slot S` |
+//! | `split S N`, `left S N` | what `try_split_to` returns, and what it leaves | `slot S` |
 //! | `strip S "A"`, `take S`, `lower S`, `push_str S "A"`, `push_char S "A"`, `write_str S "A"` | changes a text of UTF-8 | `slot S` |
 //! | `write S "A"`, `write_all S "A"`, `push_without_validating S "A"`, `reverse S` | changes a text of bytes | `slot S` |
 //! | `into_send S`, `send_clone S` | sends a text there and back, itself or by a clone | `slot S` |
@@ -32,7 +32,7 @@ use tendril_run::{Slot, Table};
 use tendril_text::fmt::{Bytes, UTF8};
 use tendril_text::{ByteSet, Tendril};
 
-/// The reply to a line over a call, `None` where it is none. A refusal but that of memory is a reply.
+/// Returns the reply to a line for a call, or None for another line. An error other than Memory is a reply.
 pub fn reply<A: Atomicity>(
     alloc: Global,
     table: &mut Table<A>,
@@ -65,7 +65,7 @@ fn answer<A: Atomicity>(
     }
 }
 
-// The text that a line makes.
+// The text that a line creates.
 fn made<A: Atomicity>(
     alloc: Global,
     table: &Table<A>,
@@ -95,7 +95,7 @@ fn slot_and_words(words: &str) -> Result<(usize, &str), Refusal> {
     Ok((number(slot)? as usize, rest))
 }
 
-// The set of these bytes, which have to be ASCII.
+// The set of these bytes. They must be ASCII.
 fn set_of(bytes: &[u8]) -> Result<ByteSet, Refusal> {
     if bytes.is_ascii() {
         Ok(ByteSet::new(bytes))

@@ -5,7 +5,7 @@ ghost use Rattle.std.specs.Char.{is_whitespace};
 use std::cell::Cell;
 use tendril_run::Classifier;
 
-/// White space is class 0, everything else class 1. It counts its calls.
+/// A classifier that counts its calls. White space is class 0, everything else class 1.
 #[derive(Drop)]
 pub struct Counting {
     calls: Cell<u32>,
@@ -18,7 +18,7 @@ impl Counting {
         }
     }
 
-    /// The number of calls since this was last asked.
+    /// Returns the number of calls since the last `take_calls`.
     pub fn take_calls(&self) -> u32 {
         let calls = self.calls.get();
         self.calls.set(0);

@@ -13,7 +13,7 @@ pub trait Lined: Drop {
     /// A table without slots.
     fn empty(alloc: Global) -> Self;
 
-    /// The command of a line, `None` where no command has it.
+    /// The command of a line, None if it spells no command.
     fn read(alloc: Global, line: &[u8]) -> Result<Option<Self::Command>, Refusal>;
 
     /// The line of a reply.
@@ -31,7 +31,7 @@ pub trait Lined: Drop {
     /// The number of slots, dropped ones too.
     fn len(&self) -> usize;
 
-    /// The reply to a line of the player's own that looks at texts or makes one, `None` where it is none.
+    /// The reply to a line of the player's own that reads texts or creates one, None for another line.
     fn reply_by_texts(
         &mut self,
         alloc: Global,
@@ -44,7 +44,7 @@ pub trait Lined: Drop {
 
     fn is_silent(&self) -> bool;
 
-    /// What classifies the characters of a run.
+    /// The classifier of the characters of a run.
     fn class(&self) -> &Counting;
 
     /// Appends everything that the table holds, so that two tables that hold the same append the same bytes.

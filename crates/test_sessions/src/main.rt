@@ -1,9 +1,9 @@
-//! Plays sessions: files of rows `LINE => REPLY`. It prints each row whose reply was another, and how much was played.
+//! Plays sessions: files of rows `LINE => REPLY`. It prints each row whose reply differs, and how much was played.
 //!
 //! - `play FILE..` plays each file in every way in which its lines can be carried out.
-//! - `refuse FILE N` first allocates N times, so that a later request can be refused by its number, and plays the file row
-//!   by row. It prints how many rows got no memory.
-//! - `worker FILE` plays the file's one session in a worker, and prints how the job ended where a request is refused.
+//! - `refuse FILE N` allocates N times, so that the allocation that fails can be chosen by its number, then plays the
+//!   file row by row. It prints how many rows got no memory.
+//! - `worker FILE` plays the file's only session in a worker, and prints how the job ended.
 #![tactic(auto)]
 
 mod calls;
@@ -39,11 +39,11 @@ use texts::Texts;
 use worker::play_in_worker;
 use workers::play_in_threads;
 
-/// What sessions of a file are played on, by the file's first line.
+/// The kind of table that a file is played on, by its first line.
 #[derive(Clone, Copy)]
 enum Tables {
     Texts,
-    /// `# over three holders`: blocks have at most three holders.
+    /// `# over three holders`: blocks have at most three references.
     TextsOverThree,
     /// `# with ropes`.
     Ropes,
@@ -67,12 +67,12 @@ type Three = AtomicUpTo<3>;
 fn main(rt: HostRuntime) -> ExitCode {
     match run(&rt) {
         Ok(status) => ExitCode::from(status),
-        // The player itself could not read or got no memory.
+        // The player itself failed to read or to allocate.
         Err(_) => ExitCode::from(1),
     }
 }
 
-// The exit status: 0 where each reply was the expected one, 2 where the words are none of the player's, 3 else.
+// The exit status: 0 if each reply was the expected one, 2 for unknown words, else 3.
 fn run(rt: &(impl Env + Files + Print + AllocGlobal + Threads)) -> io::Result<u8> {
     let mut words = env::args(rt)?.skip(1);
     let right = match words.next() {
@@ -96,7 +96,7 @@ fn run(rt: &(impl Env + Files + Print + AllocGlobal + Threads)) -> io::Result<u8
     Ok(if right { 0 } else { 3 })
 }
 
-// Plays a file in all ways. Whether each reply was the expected one.
+// Plays a file in all ways. Returns whether each reply was the expected one.
 fn play(rt: &(impl Files + Print + AllocGlobal + Threads), file: &str) -> io::Result<bool> {
     let text = fs::read_to_string(rt, file)?;
     let text = text.as_str();
@@ -118,7 +118,7 @@ fn play(rt: &(impl Files + Print + AllocGlobal + Threads), file: &str) -> io::Re
     }
 }
 
-// Plays a file over two kinds of block, row by row and in one call, and prints how much it was.
+// Plays a file over two kinds of block, row by row and in one call, and prints how much was played.
 fn play_all<T: Lined, U: Lined>(
     rt: &(impl Print + AllocGlobal),
     file: &str,
@@ -134,7 +134,7 @@ fn play_all<T: Lined, U: Lined>(
     )
 }
 
-// Plays a file row by row after `count` requests for memory, and prints how many rows got none.
+// Plays a file row by row after `count` allocations, and prints how many rows got no memory.
 fn refuse(rt: &(impl Files + Print + AllocGlobal), file: &str, count: &str) -> io::Result<bool> {
     let text = fs::read_to_string(rt, file)?;
     let text = text.as_str();

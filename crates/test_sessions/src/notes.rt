@@ -3,14 +3,14 @@
 use crate::lined::Lined;
 use std::alloc::{AllocError, Global};
 
-// Reserved at once, so that notes seldom allocate between rows.
+// The capacity that is reserved first, so that notes seldom allocate between rows.
 const ROOM: usize = 0x10_0000;
 
-/// What tables held after each row when a file was played first, and where it is when it is played again.
+/// What tables held after each row when a file was first played, and the current note when it is played again.
 #[derive(Drop)]
 pub struct Notes {
     all: Vec<u8>,
-    // The last note, and where the next one begins.
+    // Where the last note and the next one begin.
     last: usize,
     next: usize,
     // What a table holds now.
@@ -29,14 +29,14 @@ impl Notes {
         })
     }
 
-    /// The file is played again: tables have to hold the same after each row.
+    /// Begins to play the file again: tables must hold the same after each row.
     pub fn play_again(&mut self) {
         self.last = 0;
         self.next = 0;
         self.again = true;
     }
 
-    /// Notes what a table holds after a row. When the file is played again, whether it is what was noted.
+    /// Notes what a table holds after a row. When the file is played again, returns whether that was noted.
     pub fn add<T: Lined>(&mut self, table: &T) -> Result<bool, AllocError> {
         self.now.clear();
         table.write_to(&mut self.now)?;
@@ -48,7 +48,7 @@ impl Notes {
         Ok(self.last_note() == Some(self.now.as_slice()))
     }
 
-    /// Whether a table holds what it held after the last row.
+    /// Returns whether a table holds what it held after the last row.
     pub fn is_last<T: Lined>(&mut self, table: &T) -> Result<bool, AllocError> {
         self.now.clear();
         table.write_to(&mut self.now)?;

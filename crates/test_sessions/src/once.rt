@@ -1,5 +1,5 @@
-//! Sessions whose commands are carried out in one call. A line that is no command ends a call, and the next call begins
-//! after it.
+//! Sessions whose commands are carried out in one call. A line that is no command ends the call, and the next one
+//! begins after it.
 
 use crate::lined::Lined;
 use crate::own::own_reply;
@@ -10,7 +10,7 @@ use tendril_block::Refusal;
 
 const WAY: &str = "in one call";
 
-/// Plays all sessions of a file. Whether each reply is the expected one.
+/// Plays all sessions of a file. Returns whether each reply is the expected one.
 pub fn play_at_once<T: Lined>(
     rt: &(impl Print + AllocGlobal),
     file: &str,
@@ -25,7 +25,7 @@ pub fn play_at_once<T: Lined>(
     Ok(right)
 }
 
-/// Rows with their index in a session, as often as each is played.
+/// Rows with their index in a session, each as often as it is played.
 pub type Rows<'a> = Vec<(usize, Row<'a>)>;
 
 fn play_session<T: Lined>(
@@ -48,7 +48,7 @@ fn play_session<T: Lined>(
     Ok(run_all(rt, &mut table, place, &mut rows, &mut commands)? && right)
 }
 
-/// Adds the command of a row, as often as it is played. Whether it has one.
+/// Adds the command of a row, as often as it is played. Returns whether it has one.
 pub fn add<'a, T: Lined>(
     alloc: Global,
     index: usize,
@@ -87,7 +87,7 @@ fn play_own<T: Lined>(
     Ok(right)
 }
 
-// Carries out the commands that were added, and forgets them.
+// Carries out the commands that were added, and clears the list.
 fn run_all<T: Lined>(
     rt: &(impl Print + AllocGlobal),
     table: &mut T,
@@ -102,7 +102,7 @@ fn run_all<T: Lined>(
     Ok(right)
 }
 
-/// Whether these replies are the expected ones. Prints those that aren't.
+/// Returns whether these replies are the expected ones, and prints those that aren't.
 pub fn compare_all<T: Lined>(
     rt: &(impl Print + AllocGlobal),
     place: Place,

@@ -1,13 +1,13 @@
-//! The player's own lines: they look at what no command shows, and make texts that no command makes.
+//! The player's own lines: they read what no command shows, and create texts that no command creates.
 //!
 //! | Line | What it does | Reply |
 //! |---|---|---|
-//! | `shared S` | | whether the text is marked as shared: `yes` or `no` |
+//! | `shared S` | | whether the text is shared: `yes` or `no` |
 //! | `has S` | | the text's bytes, a run of one byte as `61*5` |
 //! | `asked` | | how many characters were classified since the last `asked` |
-//! | `room N` | makes a text of bytes with capacity for N | `slot S` |
-//! | `fill H N` | makes a text of N times this byte | `slot S` |
-//! | `clones S N` | makes N clones of a text and drops them all | how many were equal to it |
+//! | `room N` | creates a text of bytes with capacity for N | `slot S` |
+//! | `fill H N` | creates a text of N times this byte | `slot S` |
+//! | `clones S N` | creates N clones of a text and drops them all | how many were equal to it |
 //! | `line H` | reads these bytes as a line | `malformed`, or `a command` |
 //! | `silent N` | reserves N slots; after that no command but `text` may allocate | `ok` |
 
@@ -21,7 +21,7 @@ use tendril_lines::bytes;
 use tendril_run::{Slot, Table};
 use tendril_text::Tendril;
 
-/// The reply to a line of the player's own, `None` where it is none.
+/// The reply to a line of the player's own, None for another line.
 pub fn own_reply<T: Lined>(
     alloc: Global,
     table: &mut T,
@@ -37,7 +37,7 @@ pub fn own_reply<T: Lined>(
     Ok(Some(reply))
 }
 
-/// The reply to such a line that looks at texts or makes one.
+/// The reply to such a line that reads texts or creates one.
 pub fn reply_by_texts<A: Atomicity>(
     alloc: Global,
     table: &mut Table<A>,
@@ -55,12 +55,12 @@ pub fn reply_by_texts<A: Atomicity>(
     Ok(Some(reply))
 }
 
-/// The number that a word is.
+/// The number that a word spells.
 pub fn number(word: &str) -> Result<u32, Refusal> {
     word.parse::<u32>().map_err(|_| Refusal::Invalid)
 }
 
-/// The slot whose number a word is.
+/// The slot whose number a word spells.
 pub fn slot_of<'a, A: Atomicity>(table: &'a Table<A>, word: &str) -> Result<&'a Slot<A>, Refusal> {
     match table.slot(number(word)? as usize) {
         Some(slot) => Ok(slot),
@@ -68,7 +68,7 @@ pub fn slot_of<'a, A: Atomicity>(table: &'a Table<A>, word: &str) -> Result<&'a 
     }
 }
 
-/// Puts a text at the end. The reply is its slot.
+/// Appends a slot. The reply is its number.
 pub fn add<A: Atomicity>(
     alloc: Global,
     table: &mut Table<A>,

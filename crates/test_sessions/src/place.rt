@@ -39,7 +39,7 @@ pub struct Row<'a> {
 }
 
 impl<'a> Row<'a> {
-    /// `None` where a row has no reply.
+    /// Reads a row. Returns None if it has no reply.
     pub fn read(row: &'a str) -> Option<Self> {
         let (line, expected) = row.split_once(" => ")?;
         match repeated(line) {
@@ -94,12 +94,12 @@ impl Counts {
         self.refused = self.refused.saturating_add(1);
     }
 
-    /// A row's reply was not the expected one.
+    /// A row's reply differed from the expected one.
     pub fn add_wrong(&mut self) {
         self.wrong = self.wrong.saturating_add(1);
     }
 
-    /// Adds what was not as expected when the file was played again.
+    /// Adds the counts of rows without memory and of wrong rows of the second play.
     pub fn add_again(&mut self, again: Counts) {
         self.refused = self.refused.saturating_add(again.refused);
         self.wrong = self.wrong.saturating_add(again.wrong);
@@ -120,7 +120,7 @@ impl Counts {
     }
 }
 
-/// Whether the reply is the expected one. If not, prints both.
+/// Returns whether the reply is the expected one, and prints both if not.
 pub fn compare(rt: &impl Print, place: Place, row: Row, reply: &str) -> io::Result<bool> {
     if reply == row.expected {
         return Ok(true);
@@ -131,7 +131,7 @@ pub fn compare(rt: &impl Print, place: Place, row: Row, reply: &str) -> io::Resu
     Ok(false)
 }
 
-/// Prints what is wrong with a row. Answers false, as `compare` does for a wrong reply.
+/// Prints what is wrong with a row. Returns false, as `compare` does for a wrong reply.
 pub fn wrong(rt: &impl Print, place: Place, row: &str, why: &str) -> io::Result<bool> {
     print_place(rt, place)?;
     println!(rt; "    {row}: {why}")?;

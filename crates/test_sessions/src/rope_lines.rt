@@ -3,10 +3,10 @@
 //! | Line | What it does | Reply |
 //! |---|---|---|
 //! | `pieces R` | | the rope's pieces as `ab\|c`, or `-` for the empty rope |
-//! | `marks R` | | of each piece `shared`, or `own` where it isn't marked as shared |
+//! | `marks R` | | for each piece `shared`, or `own` if it isn't shared |
 //! | `count R` | | the number of pieces |
 //! | `split R N` | splits N bytes off a clone of the rope | the pieces of both, as `ab\|c and d` |
-//! | `decode H H ..` | decodes these pieces to a rope | its pieces |
+//! | `decode H H ..` | decodes these bytes, piece by piece, to a rope | its pieces |
 
 use crate::own::number;
 use rope::{Rope, RopeTable, decode_rope};
@@ -16,7 +16,7 @@ use tendril_lines::{Reply, bytes, print_reply};
 use tendril_text::Tendril;
 use tendril_text::fmt::Bytes;
 
-/// The reply to such a line, `None` where it is another one.
+/// The reply to such a line, None for another line.
 pub fn reply_by_ropes<A: Atomicity>(
     alloc: Global,
     table: &RopeTable<A>,
@@ -37,7 +37,7 @@ pub fn reply_by_ropes<A: Atomicity>(
     Ok(Some(reply))
 }
 
-// The rope whose number a word is.
+// The rope whose number a word spells.
 fn rope_at<'a, A: Atomicity>(table: &'a RopeTable<A>, word: &str) -> Result<&'a Rope<A>, Refusal> {
     match table.rope(number(word)? as usize) {
         Some(rope) => Ok(rope),

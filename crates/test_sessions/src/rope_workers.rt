@@ -1,5 +1,5 @@
-//! Sessions with ropes in two threads at once, each of which gives the replies that one thread gives. Sessions with a
-//! line that is no command are left out.
+//! Sessions with ropes in two threads at once: each thread must give the replies of a single thread. Sessions with a
+//! line that is no command are skipped.
 
 use crate::lined::Lined;
 use crate::once::{Rows, add, compare_all, failed};
@@ -14,7 +14,7 @@ use tendril_text::Atomic;
 
 const WAY: &str = "in two threads";
 
-/// Plays all sessions of a file. Whether each reply is the expected one.
+/// Plays all sessions of a file. Returns whether each reply is the expected one.
 pub fn play_ropes_in_threads(
     rt: &(impl Print + AllocGlobal + Threads),
     file: &str,
@@ -54,7 +54,7 @@ fn play_session(
     Ok(compare_all::<Ropes<Atomic>>(rt, place, rows.as_slice(), second.as_slice())? && right)
 }
 
-// The commands of all rows, `None` where a row has none.
+// The commands of all rows, None if a row has none.
 fn commands_of<'a>(
     alloc: Global,
     session: &'a str,

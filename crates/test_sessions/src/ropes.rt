@@ -92,7 +92,7 @@ impl<A: Atomicity> Lined for Ropes<A> {
     }
 }
 
-/// The bytes of longer ropes aren't noted.
+/// The maximal length of a rope whose bytes are noted.
 const LONG: u64 = 4096;
 
 // Appends a rope: the number of its pieces, its length, and its bytes.

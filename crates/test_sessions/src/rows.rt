@@ -1,4 +1,4 @@
-//! Sessions row by row. A row that gets no memory leaves the table as it was, and is played again.
+//! Sessions row by row. A row that gets no memory must leave the table as it was, and is played again.
 
 use crate::lined::Lined;
 use crate::notes::Notes;
@@ -15,12 +15,12 @@ const WAY: &str = "row by row";
 enum Call {
     /// A step of the table.
     Step,
-    /// A run of one command. It allocates its replies, so a silent table makes a step instead.
+    /// A run of one command. It allocates its replies, so on a silent table a step is made instead.
     Run,
 }
 
-/// Plays all sessions of a file on tables of one kind by steps, and again on tables of another kind by runs. The tables
-/// have to hold the same after each row.
+/// Plays all sessions of a file by steps on tables of one kind, and again by runs on tables of another kind. The tables
+/// must hold the same after each row.
 pub fn play_twice<T: Lined, U: Lined>(
     rt: &(impl Print + AllocGlobal),
     file: &str,
@@ -74,7 +74,7 @@ fn play_session<T: Lined>(
     Ok(())
 }
 
-// Plays one row, as often as it says. Whether all is as expected.
+// Plays one row, as often as it says. Returns whether all is as expected.
 fn play_row<T: Lined>(
     rt: &(impl Print + AllocGlobal),
     table: &mut T,
@@ -137,7 +137,7 @@ enum Unplayed {
     NoMemory,
     /// A command that may not allocate did.
     Allocated,
-    /// The player has no such line, or the words of a line of its own are wrong.
+    /// The player has no such line, or its words are wrong.
     NoLine,
 }
 
@@ -158,7 +158,7 @@ fn why_unplayed(refusal: Refusal) -> Unplayed {
     }
 }
 
-// The reply to a line. A reply that got no memory to be printed is printed again.
+// The reply to a line. If the reply's text gets no memory, it is printed again.
 fn reply_to<T: Lined>(
     alloc: Global,
     table: &mut T,
@@ -189,7 +189,7 @@ fn reply_to<T: Lined>(
     }
 }
 
-// The reply to one command. That it got no memory is that error.
+// The reply to one command. A reply that it got no memory is returned as the error Memory.
 fn carry_out<T: Lined>(
     table: &mut T,
     commands: &[T::Command],

@@ -1,4 +1,4 @@
-//! What is in a slot.
+//! The texts of slots.
 
 use std::alloc::{AllocError, Global};
 use tendril_block::{Atomicity, Refusal};
@@ -18,7 +18,7 @@ pub fn text_of<A: Atomicity>(slot: &Slot<A>) -> (u8, &[u8]) {
     }
 }
 
-/// Whether a slot's text is marked as shared.
+/// Whether a slot's text is shared.
 pub fn is_shared<A: Atomicity>(slot: &Slot<A>) -> bool {
     match slot {
         Slot::Bytes(text) => text.is_shared(),
@@ -57,7 +57,7 @@ pub fn write_slots<A: Atomicity>(table: &Table<A>, notes: &mut Vec<u8>) -> Resul
     Ok(())
 }
 
-/// Makes clones of a text and holds them all. How many of them are equal to it.
+/// Creates `count` clones of a text and holds them all. Returns how many are equal to it.
 pub fn equal_clones<A: Atomicity>(
     alloc: Global,
     text: &Tendril<Bytes, A>,

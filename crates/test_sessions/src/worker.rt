@@ -1,4 +1,4 @@
-//! A session in one worker, where a request for memory may be refused.
+//! A session in one worker, in which an allocation may fail.
 
 use crate::class::Counting;
 use crate::lined::Lined;
@@ -30,7 +30,7 @@ impl Gate for Begun {
 
 type Work = Job<Counting, Begun>;
 
-/// What was so before the worker was started.
+/// The state before the worker was started.
 #[derive(Drop)]
 struct Before {
     table: Vec<u8>,
@@ -38,7 +38,7 @@ struct Before {
 }
 
 impl Before {
-    // Whether this is the table that was given to the worker, and no command was begun.
+    // Whether the table is as before, and no command was begun.
     fn is_as_it_was(&self, alloc: Global, table: &Table<Atomic>) -> io::Result<bool> {
         let mut now = Vec::new(alloc);
         write_slots(table, &mut now)?;
@@ -50,8 +50,8 @@ impl Before {
     }
 }
 
-/// Plays a file's one session, and prints how its job ended. Its first row makes slot 0, before the worker is started.
-/// Whether all is as expected.
+/// Plays a file's only session, and prints how its job ended. The first row creates slot 0 before the worker is
+/// started. Returns whether all is as expected.
 pub fn play_in_worker(
     rt: &(impl Files + Print + AllocGlobal + Threads),
     file: &str,
@@ -85,7 +85,7 @@ pub fn play_in_worker(
     }
 }
 
-// The first row is carried out, the others are left to the worker.
+// Carries out the first row, and adds the commands of the others to the job.
 fn add_row<'a>(
     alloc: Global,
     index: usize,
@@ -106,7 +106,7 @@ fn add_row<'a>(
     }
 }
 
-// How a job ended, `None` where it ended otherwise than it may.
+// How a job ended, None if that isn't permitted.
 fn start(
     rt: &(impl Print + AllocGlobal + Threads),
     place: Place,
@@ -143,7 +143,7 @@ fn ended(
     Ok(if as_expected { Some(ending) } else { None })
 }
 
-// The job came back, and is done when it is started again.
+// `run_tables` returned the job. It must be as before, and be done when it is started again.
 fn handed_back(
     rt: &(impl Print + AllocGlobal + Threads),
     place: Place,
@@ -171,7 +171,7 @@ fn handed_back(
     }
 }
 
-// All replies are the expected ones, or those before the one that says that its command got no memory.
+// All replies must be the expected ones, up to one for a command that got no memory.
 fn done(
     rt: &(impl Print + AllocGlobal),
     place: Place,

@@ -1,5 +1,5 @@
-//! Sessions in two threads at once, each of which gives the replies that one thread gives. Sessions with a line that is
-//! no command are left out.
+//! Sessions in two threads at once: each thread must give the replies of a single thread. Sessions with a line that is
+//! no command are skipped.
 
 use crate::class::Counting;
 use crate::once::{Rows, add, compare_all, failed};
@@ -20,7 +20,7 @@ impl Gate for Open {
     fn before(&self, _command: usize) {}
 }
 
-/// Plays all sessions of a file. Whether each reply is the expected one.
+/// Plays all sessions of a file. Returns whether each reply is the expected one.
 pub fn play_in_threads(
     rt: &(impl Print + AllocGlobal + Threads),
     file: &str,
@@ -56,7 +56,7 @@ fn play_session(
     }
 }
 
-// A job with the commands of all rows, `None` where a row has none.
+// A job with the commands of all rows, None if a row has none.
 fn job<'a>(
     alloc: Global,
     session: &'a str,

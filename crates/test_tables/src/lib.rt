@@ -1,4 +1,4 @@
-//! Tests of what no contract says of tables, and of texts, blocks and tables in several threads.
+//! Tests of tables, for what contracts don't specify, and of texts, blocks and tables in several threads.
 #![tactic(auto)]
 
 #[cfg(test)]

@@ -1,4 +1,4 @@
-//! What no contract says: that calls of tables, and texts in threads, succeed where there is memory.
+//! Tests that calls of tables, and of texts in threads, succeed if there is memory, which no contract specifies.
 
 mod blocks;
 mod rope_random;

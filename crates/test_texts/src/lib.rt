@@ -1,5 +1,5 @@
-//! Tests of formats, texts, blocks and streams that no line of a session can say; and the notes that tests take of what came
-//! otherwise than expected.
+//! Tests of formats, texts, blocks and streams that no line of a session can express; and `Notes`, in which tests
+//! collect differences from the expected.
 #![tactic(auto)]
 
 mod notes;

@@ -1,30 +1,30 @@
-//! What a test saw otherwise than it should be. A test that notes it and goes on has no way out but its end.
+//! Notes of differences from the expected. A test that notes one continues, and fails at its end.
 
 use std::fmt::{Debug, Display, InlineText};
 use std::test::Fail;
 
-/// The longest note, in bytes. What is longer is cut.
+/// The maximal length of a note, in bytes. Longer ones are cut.
 const LONGEST: usize = 400;
 
-/// The first value that wasn't what a test expects. It can't be dropped, so a test has to end by it.
+/// The first difference from the expected. It can't be dropped, so a test has to call `end`.
 pub struct Notes {
     first: Option<InlineText<LONGEST>>,
 }
 
 impl Notes {
-    /// Nothing was seen yet.
+    /// Creates notes without a difference.
     pub fn new() -> Self {
         Notes { first: None }
     }
 
-    /// Notes a value that isn't the expected one.
+    /// Notes a value that differs from the expected one.
     pub fn same<T: PartialEq + Debug + Drop>(&mut self, row: usize, found: T, expected: T) {
         if found != expected {
             self.add(format_args!("row {row}: {found:?} came in place of {expected:?}"));
         }
     }
 
-    /// Notes what doesn't hold.
+    /// Notes a statement that doesn't hold.
     pub fn holds(&mut self, row: usize, holds: bool, what: &str) {
         if !holds {
             self.add(format_args!("row {row}: not so: {what}"));
@@ -38,7 +38,7 @@ impl Notes {
         }
     }
 
-    /// The value. Where there is none, that is noted, and the other one takes its place.
+    /// Returns the value. Notes an error, and returns `otherwise` then.
     pub fn or<T: Drop, E: Debug + Drop>(
         &mut self,
         row: usize,
@@ -54,7 +54,7 @@ impl Notes {
         }
     }
 
-    /// The same of a value that may be missing.
+    /// Returns the value. Notes that there is none, and returns `otherwise` then.
     pub fn some<T: Drop>(&mut self, row: usize, found: Option<T>, otherwise: T) -> T {
         match found {
             Some(value) => value,
@@ -65,7 +65,7 @@ impl Notes {
         }
     }
 
-    /// Fails if anything was noted, with the first of it.
+    /// Fails with the first note, if there is one.
     pub fn end(self) -> Result<(), Fail> {
         let Notes { first } = self;
         match first {

@@ -1,7 +1,7 @@
-//! Each file tests one subject, over both kinds of block. What is expected comes from Unicode's tables, from std, or from
-//! rows written by hand, and never from what the calls returned.
+//! Each file tests one subject, over both kinds of block. Expected values come from Unicode's tables, from std, or from
+//! rows written by hand, never from what the calls returned.
 //!
-//! A test notes what fails and reports it at its end: each early return would be one more path for its proof.
+//! A test notes failures and reports them at its end: each early return would be one more path to prove.
 
 mod blocks;
 mod classified;

@@ -1,4 +1,4 @@
--- What the records of a step that failed spell.
+-- What the records spell after a step that failed.
 use Rattle.std.proofs.Common.{◌≡◌, ℕ, List, ◌++◌, sym, ap, ◌∙◌, append_assoc}
 use Rattle.tendril.specs.Fmt.Parts.{IsFrontOf}
 use Rattle.use_csv.specs.Follows.{unmarked-append}
@@ -6,7 +6,7 @@ use Rattle.use_csv.specs.Spelled.{partial_bytes, record_bytes, spelled_so_far, u
 use Rattle.use_csv.specs.declared.partial.PartialRecord.{PartialRecord}
 use Rattle.use_csv.specs.declared.record.Record.{Record}
 
--- where a step took no record, the records are a front of all that is spelled and left
+-- if a step added no record, the records are a prefix of all that is spelled and left
 pub front_of_step : (records records' : List Record) (partial : PartialRecord) (rest whole : List ℕ) → records' ≡ records
     → unmarked (spelled_so_far records partial ++ rest) ≡ unmarked whole
     → IsFrontOf (unmarked (record_bytes records')) (unmarked whole)

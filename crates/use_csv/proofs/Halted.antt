@@ -1,4 +1,4 @@
--- What a reader of CSV behind a decoder has given its sink where reading stopped.
+-- What a CSV reader behind a decoder has sent to its sink when reading stopped.
 use Rattle.std.proofs.Common.{◌≡◌, ◌⊎◌, ℕ, Bool, true, false, List, [], ◌++◌, Option, sym, ap, ◌∙◌, append_assoc}
 use Rattle.std.proofs.lemmas.Str.{encodes-append}
 use Rattle.std.specs.Prelude.{IfSome, encode_utf8_all}
@@ -17,11 +17,11 @@ use Rattle.use_csv.proofs.Whole.{After, Takes, goes_on}
 use Rattle.use_csv.specs.Follows.{told_bytes, unmarked-append}
 use Rattle.use_csv.specs.Spelled.{piece_bytes, unmarked}
 
--- what was told, without quotes and line ends
+-- the UTF-8 of what was sent, without quotes and line ends
 abbrev plain : List Told → List ℕ
 plain told = unmarked (encode_utf8_all (characters told))
 
--- of what was told, and of more
+-- `plain` of what was sent, and of more
 told-append : (start : List ℕ) (t more : List Told) → start ++ plain (t ++ more) ≡ (start ++ plain t) ++ plain more
 told-append start t more =
     ap (λ l. start ++ l)
@@ -29,13 +29,13 @@ told-append start t more =
     ∙ unmarked-append (encode_utf8_all (characters t)) (encode_utf8_all (characters more)))
     ∙ sym (append_assoc start (plain t) (plain more))
 
--- over sinks that spell bytes, of which they have given some to a sink of their own
+-- over sinks that spell bytes, and have sent some of them to a sink of their own
 module _ {S : Type 0} (spelled given_on : S → List ℕ) (start : List ℕ)
     (front : (a : S) → IsFrontOf (unmarked (given_on a)) (unmarked (spelled a))) where
   abbrev pub Refuses : S → Sent → Refusal → S → Type 0
   Refuses a e r b = IsFrontOf (unmarked (given_on b)) (unmarked (spelled a ++ piece_bytes e))
 
-  -- after the bytes `start`, it has given on a front of this
+  -- after the bytes `start`, it has sent on a prefix of this
   abbrev pub Front : S → List Told → Type 0
   Front a told = IsFrontOf (unmarked (given_on a)) (start ++ plain told)
 
@@ -59,7 +59,7 @@ module _ {S : Type 0} (spelled given_on : S → List ℕ) (start : List ℕ)
         ∙ stopped.1,
   )
 
-  -- a new decoder over it was read into
+  -- reads into a new decoder over it stopped
   pub halted : {D : Type 0} (inner : D → S) (held : D → List ℕ) (failed : D → Bool) (ends : D → Refusal → Type 0)
       (sink : S) (d : D) (most : ℕ) (these : List OneRead) (r : Refusal) (handed : Option D)
       → inner d ≡ sink → held d ≡ [] → failed d ≡ false → After spelled start sink []

@@ -4,7 +4,7 @@ use Rattle.std.proofs.lemmas.List.{map-append}
 use Rattle.std.specs.List.{join_with_byte}
 use Rattle.tendril.specs.Texts.{Text}
 
--- lists with a comma between each two
+-- lists joined with commas
 abbrev joined : List (List ℕ) → List ℕ
 joined xs = join_with_byte 44 xs
 

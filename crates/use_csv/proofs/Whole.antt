@@ -1,4 +1,4 @@
--- What a reader of CSV behind a decoder spells of all that was read.
+-- What a CSV reader behind a decoder spells after all was read.
 use Rattle.std.proofs.Common.{◌≡◌, ℕ, Bool, false, List, [], ◌++◌, ap, ◌∙◌}
 use Rattle.std.specs.Prelude.{encode_utf8_all}
 use Rattle.tendril.specs.Lossy.{Told, characters, due}
@@ -17,14 +17,14 @@ module _ {S : Type 0} (spelled : S → List ℕ) where
   abbrev pub Takes : S → Sent → S → Type 0
   Takes a e b = unmarked (spelled b) ≡ unmarked (spelled a ++ piece_bytes e)
 
-  -- after the bytes `start`, it spells what it was told
+  -- after the bytes `start`, it spells what was sent to it
   abbrev pub After : List ℕ → S → List Told → Type 0
   After start a told = unmarked (spelled a) ≡ start ++ unmarked (encode_utf8_all (characters told))
 
   pub goes_on : (start : List ℕ) → FollowsCalls Takes (After start)
   goes_on start told a e b is_sent was call = unmarked_on start told e (spelled a) (spelled b) is_sent was call
 
-  -- a new decoder over it has read all
+  -- all was read into a new decoder over it
   pub whole : {D O : Type 0} (inner : D → S) (held : D → List ℕ) (failed : D → Bool) (out_bytes : O → List ℕ)
       (start : List ℕ) (sink : S) (d last : D) (these : List OneRead) (out : O)
       → inner d ≡ sink → held d ≡ [] → failed d ≡ false → After start sink []

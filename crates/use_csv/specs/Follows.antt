@@ -1,4 +1,4 @@
--- What a reader of CSV spells is the UTF-8 of what it was told, but for quotes and line ends.
+-- A CSV reader spells the UTF-8 of the decoded characters, without quotes and line ends.
 use Rattle.std.proofs.Common.{◌≡◌, ℕ, List, ◌++◌, refl, sym, ap, ◌∙◌, append_assoc}
 use Rattle.std.proofs.lemmas.List.Elements.{filter-append}
 use Rattle.std.proofs.lemmas.Str.{encodes-append, encodes-chars}
@@ -11,12 +11,12 @@ use Rattle.use_csv.specs.Spelled.{is_mark, piece_bytes, unmarked}
 pub unmarked-append : (xs ys : List ℕ) → unmarked (xs ++ ys) ≡ unmarked xs ++ unmarked ys
 unmarked-append xs ys = filter-append (λ b. not (is_mark b)) xs ys
 
--- a call tells the characters of its bytes
+-- the characters that a call sends have its bytes as their UTF-8
 pub told_bytes : (e : Sent) → IsSent e → encode_utf8_all (characters (told_of e)) ≡ piece_bytes e
 told_bytes (Piece t) is = ap encode_utf8_all (characters-map (chars t.bytes)) ∙ encodes-chars t.bytes is.1
 told_bytes (Fault words) is = refl
 
--- what is spelled from a start on, after one more call
+-- one more call of the sink keeps this, after bytes `start` of earlier records
 pub unmarked_on : (start : List ℕ) (told : List Told) (e : Sent) (was is : List ℕ)
     → IsSent e → unmarked was ≡ start ++ unmarked (encode_utf8_all (characters told))
     → unmarked is ≡ unmarked (was ++ piece_bytes e)

@@ -1,3 +1,3 @@
--- The words of the program's contracts.
+-- The definitions that the program's contracts cite.
 pub mod Follows
 pub mod Spelled

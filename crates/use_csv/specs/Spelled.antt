@@ -1,4 +1,4 @@
--- What records spell, and what of a text isn't spelled.
+-- The bytes that records spell, and the bytes of a text that they don't.
 use Rattle.std.specs.Prelude.{ℕ, ◌≡◌, ◌⊎◌, Bool, true, ◌==◌, ◌||◌, not, List, [], ◌∷◌, ◌++◌, map, flat_map}
 use Rattle.std.specs.List.{filter, join_with_byte}
 use Rattle.tendril.specs.Sinks.{Sent, Piece, Fault}
@@ -10,7 +10,7 @@ use Rattle.use_csv.specs.declared.record.Record.{Record}
 abbrev pub joined_fields : List Text → List ℕ
 joined_fields fields = join_with_byte 44 (map (λ f. f.bytes) fields)
 
--- what a record spells as far as it was read: its fields, and the bytes of one more
+-- what an incomplete record spells: its fields, and the bytes of one more
 abbrev pub partial_bytes : PartialRecord → List ℕ
 partial_bytes row = join_with_byte 44 (map (λ f. f.bytes) row.fields.items ++ row.field.bytes ∷ [])
 
@@ -18,11 +18,11 @@ partial_bytes row = join_with_byte 44 (map (λ f. f.bytes) row.fields.items ++ r
 abbrev pub record_bytes : List Record → List ℕ
 record_bytes records = flat_map (λ r. joined_fields r.fields.items) records
 
--- what records spell, and one more as far as it was read
+-- what records and an incomplete one spell
 abbrev pub spelled_so_far : List Record → PartialRecord → List ℕ
 spelled_so_far records partial = record_bytes records ++ partial_bytes partial
 
--- whether a byte is a quote or belongs to the end of a line
+-- whether a byte is a quote or part of a line end
 abbrev pub is_mark : ℕ → Bool
 is_mark b = b == 34 || b == 13 || b == 10
 
@@ -30,13 +30,13 @@ is_mark b = b == 34 || b == 13 || b == 10
 abbrev pub unmarked : List ℕ → List ℕ
 unmarked bytes = filter (λ b. not (is_mark b)) bytes
 
--- bytes come from what is left to what is spelled, or a quote or a byte of a line end is taken, which isn't spelled
+-- bytes move from what is left to what is spelled, or one quote or byte of a line end is dropped from what is left
 abbrev pub TakesCsv : List ℕ → List ℕ → List ℕ → List ℕ → Type 0
 TakesCsv spelled left spelled' left' =
     (spelled' ++ left' ≡ spelled ++ left)
     ⊎ ((spelled' ≡ spelled) × ((b : ℕ) × (is_mark b ≡ true) × (left ≡ b ∷ left')))
 
--- what a call of a sink sends: the bytes of a text. An error has none
+-- the bytes that a call of a sink sends: those of a text, none for an error
 abbrev pub piece_bytes : Sent → List ℕ
 piece_bytes (Piece t) = t.bytes
 piece_bytes (Fault words) = []

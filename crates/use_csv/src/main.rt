@@ -16,7 +16,7 @@ use record::Record;
 use std::io::{self, BufWriter, Write};
 use tendril::stream::Counted;
 
-/// How many reads are made at most.
+/// The maximal number of reads.
 const MOST_READS: u64 = 1_000_000_000;
 
 fn main(rt: HostRuntime) -> anyhow::Result<()> {
@@ -24,7 +24,7 @@ fn main(rt: HostRuntime) -> anyhow::Result<()> {
     let records: Vec<Record> = Vec::new(alloc);
     let mut input = Counted::new(rt.stdin());
     let records = read_records(alloc, records, &mut input, MOST_READS).context("standard input")?;
-    // `rt.stdout()` has no buffer: each write to it is a call of the system.
+    // `rt.stdout()` has no buffer: each write to it is a system call.
     let mut out = BufWriter::new(alloc, io::writer(&rt))?;
     print_records(&mut out, records.as_slice())?;
     out.flush()?;

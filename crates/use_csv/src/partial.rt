@@ -1,4 +1,4 @@
-//! A record as far as it was read.
+//! A record that isn't complete.
 ghost use Rattle.std.specs.Prelude.{◌≡◌, ◌++◌, [], true, codes, encode_utf8, IfOk, OnOk};
 ghost use Rattle.use_csv.specs.Spelled.{joined_fields, partial_bytes};
 
@@ -8,7 +8,7 @@ use std::mem;
 use tendril::StrTendril;
 use tendril::block::Refusal;
 
-/// The fields that were read, and the next one as far as it was.
+/// The complete fields, and the prefix of the next one.
 #[derive(Drop)]
 pub(crate) struct PartialRecord {
     fields: Vec<StrTendril>,
@@ -17,7 +17,7 @@ pub(crate) struct PartialRecord {
 }
 
 impl PartialRecord {
-    /// Nothing was read.
+    /// Creates a record of which nothing was read.
     pub(crate) fn new(alloc: Global) -> Self
         ensures { partial_bytes result ≡ [] }
     {
@@ -28,14 +28,14 @@ impl PartialRecord {
         }
     }
 
-    /// Whether no field was read, and no byte of one.
+    /// Returns whether no field is complete and no byte of one was read.
     pub(crate) fn is_empty(&self) -> bool
         ensures { result ≡ true → partial_bytes self.now ≡ [] }
     {
         self.fields.is_empty() && self.field.is_empty()
     }
 
-    /// Puts a text at the end of the field. Where the field had no byte, it is that text.
+    /// Appends a text to the field. An empty field becomes that text, without a copy.
     #[tactic(auto, using(crate::proofs::Joins::partial_on))]
     pub(crate) fn push_text(&mut self, more: StrTendril) -> Result<(), Refusal>
         ensures { OnOk result (partial_bytes self.new ≡ partial_bytes self.old ++ more.bytes) }
@@ -47,7 +47,7 @@ impl PartialRecord {
         self.field.push_tendril(&more)
     }
 
-    /// Puts a character at the end of the field.
+    /// Appends a character to the field.
     #[tactic(auto, using(crate::proofs::Joins::partial_on))]
     pub(crate) fn push_char(&mut self, character: char) -> Result<(), Refusal>
         ensures { OnOk result (partial_bytes self.new ≡ partial_bytes self.old ++ encode_utf8 character) }
@@ -55,7 +55,7 @@ impl PartialRecord {
         self.field.push_char(character)
     }
 
-    /// Ends the field. Another one begins.
+    /// Ends the field and begins another one.
     #[tactic(auto, using(crate::proofs::Joins::partial_next))]
     pub(crate) fn end_field(&mut self) -> Result<(), Refusal>
         ensures { OnOk result (partial_bytes self.new ≡ partial_bytes self.old ++ codes ",") }
@@ -65,7 +65,7 @@ impl PartialRecord {
         Ok(())
     }
 
-    /// Ends the field and the record. Another one begins.
+    /// Ends the field and the record, returns the record, and begins another one.
     #[tactic(auto, using(crate::proofs::Joins::partial_end))]
     pub(crate) fn end(&mut self) -> Result<Record, Refusal>
         ensures row { IfOk result (λ row. joined_fields row.fields.items ≡ partial_bytes self.old) }

@@ -1,9 +1,9 @@
-//! Records in print, a line each.
+//! Prints records, one per line.
 
 use crate::record::Record;
 use std::io::{self, Write};
 
-/// Prints each record: how many fields it has, and each of them in quotes.
+/// Prints each record: the number of its fields, and each field in quotes.
 pub fn print_records<W: Write>(out: &mut W, records: &[Record]) -> io::Result<()> {
     for record in records {
         print(out, record)?;

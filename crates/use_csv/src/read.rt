@@ -1,4 +1,4 @@
-//! Records of all that a reader has.
+//! Reads all records of a reader.
 ghost use Rattle.std.specs.Prelude.{◌≡◌, ◌≤◌, ◌++◌, List, length, encode_utf8_all, IfErr, IfOk, IfSome};
 ghost use Rattle.std.specs.Io.KnownBytes.{IsAtEnd};
 ghost use Rattle.tendril.specs.Fmt.Parts.{IsFrontOf};
@@ -12,12 +12,11 @@ use crate::record::RecordSink;
 use std::alloc::Global;
 use tendril::stream::{CountedRead, Stopped, Utf8LossyDecoder, read_decoded};
 
-/// Reads to the end, decodes what it reads, and gives the sink its records. At most `most` reads are made.
+/// Reads to the end in at most `most` reads, decodes, sends the records to the sink, and returns the sink.
 ///
-/// But for quotes and line ends, the fields of the records, joined with commas, are the whole text: the UTF-8 of the
-/// characters that the bytes are decoded to. Where reading stops before the end, or the sink refuses a record, they are a
-/// front of that, and the sink is in the decoder that comes back (`inner_sink`, and its `sink`); a record that is refused at
-/// the input's end takes both with it.
+/// The fields of the records, joined with commas, are the decoded text in UTF-8, without quotes and line ends. After an
+/// error they are a prefix of it, and the sink is in the decoder that is returned (`inner_sink`, and its `sink`). If
+/// the sink returns an error at the input's end, both are dropped.
 pub fn read_records<K: RecordSink, R: CountedRead>(
     alloc: Global,
     sink: K,

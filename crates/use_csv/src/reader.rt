@@ -1,4 +1,4 @@
-//! A sink of texts that reads the records of CSV.
+//! A sink of texts that reads CSV records.
 ghost use Rattle.std.specs.Prelude.{◌≡◌, ◌<◌, ◌++◌, [], codes, length, OnOk, OnErr};
 ghost use Rattle.tendril.specs.Fmt.Parts.{IsFrontOf};
 ghost use Rattle.use_csv.specs.Spelled.{TakesCsv, partial_bytes, spelled_so_far};
@@ -11,7 +11,7 @@ use tendril::block::Refusal;
 use tendril::stream::{TendrilSink, Tracks};
 use tendril::{ByteSet, SetResult, StrTendril};
 
-/// Where the next byte is.
+/// The state of the reader before its next byte.
 #[derive(Clone, Copy, Debug, PartialEq, Eq)]
 enum State {
     RecordStart,
@@ -20,14 +20,14 @@ enum State {
     FieldStart,
     Plain,
     Quoted,
-    /// After a quote in a quoted field: it ends the quotes, unless another one follows.
+    /// After a quote in a quoted field: it closes the quotes, unless another quote follows.
     AfterQuote,
 }
 
-/// Reads the records of the texts that it is sent: RFC 4180's, and what that leaves open as Python's `csv` does.
+/// A sink that reads the records of the texts sent to it: as RFC 4180, and where that isn't specific as Python's `csv`.
 ///
-/// A field shares the bytes of the texts, unless it has a quote that is written twice, or came in several texts that aren't
-/// next to each other in one block.
+/// A long field shares the block of its text, unless it has a doubled quote, or came in several texts that aren't
+/// adjacent in one block.
 #[derive(Drop)]
 pub struct CsvReader<K: RecordSink> {
     sink: K,
@@ -39,7 +39,7 @@ pub struct CsvReader<K: RecordSink> {
 }
 
 impl<K: RecordSink> CsvReader<K> {
-    /// A reader that was sent nothing.
+    /// Creates a reader that was sent nothing.
     pub fn new(alloc: Global, sink: K) -> Self
         ensures sink { result.sink ≡ sink }
         ensures partial { partial_bytes result.partial ≡ [] }
@@ -54,14 +54,14 @@ impl<K: RecordSink> CsvReader<K> {
         }
     }
 
-    /// Where the records go.
+    /// Returns the sink of the records.
     pub fn sink(&self) -> &K
         ensures { result.now ≡ self.now.sink }
     {
         &self.sink
     }
 
-    // Takes a run of a field, or one byte that isn't of a field.
+    // Takes a run of a field's bytes, or one byte between fields.
     fn take_part(&mut self, rest: &mut StrTendril) -> Result<(), Refusal>
         requires { 0 < length rest.old.bytes }
         ensures ok { OnOk result (TakesCsv (spelled_so_far (K.records self.old.sink) self.old.partial) rest.old.bytes
@@ -78,7 +78,7 @@ impl<K: RecordSink> CsvReader<K> {
         }
     }
 
-    // Takes the line feed of a carriage return, or what a record begins with.
+    // Takes the line feed after a carriage return, or the first bytes of a record.
     fn take_after_return(&mut self, rest: &mut StrTendril) -> Result<(), Refusal>
         requires { 0 < length rest.old.bytes }
         ensures ok { OnOk result (TakesCsv (spelled_so_far (K.records self.old.sink) self.old.partial) rest.old.bytes
@@ -93,7 +93,7 @@ impl<K: RecordSink> CsvReader<K> {
         self.take_start(rest)
     }
 
-    // Takes the quote that a field begins with, or what it has without one.
+    // Takes the quote that opens a field, or the first bytes of a field without quotes.
     fn take_start(&mut self, rest: &mut StrTendril) -> Result<(), Refusal>
         requires { 0 < length rest.old.bytes }
         ensures ok { OnOk result (TakesCsv (spelled_so_far (K.records self.old.sink) self.old.partial) rest.old.bytes
@@ -108,7 +108,7 @@ impl<K: RecordSink> CsvReader<K> {
         self.take_plain(rest)
     }
 
-    // Takes what is before the next comma or end of a line, or one of these.
+    // Takes the bytes before the next comma or line end, or one of these.
     fn take_plain(&mut self, rest: &mut StrTendril) -> Result<(), Refusal>
         requires { 0 < length rest.old.bytes }
         ensures ok { OnOk result (TakesCsv (spelled_so_far (K.records self.old.sink) self.old.partial) rest.old.bytes
@@ -128,12 +128,12 @@ impl<K: RecordSink> CsvReader<K> {
             }
             Some(SetResult::FromSet('\r')) => self.end_record(State::AfterReturn),
             Some(SetResult::FromSet('\n')) => self.end_record(State::RecordStart),
-            // The set has no other.
+            // The set has no other character.
             Some(SetResult::FromSet(other)) => self.partial.push_char(other),
         }
     }
 
-    // Takes what is before the next quote, or that quote.
+    // Takes the bytes before the next quote, or that quote.
     fn take_quoted(&mut self, rest: &mut StrTendril) -> Result<(), Refusal>
         requires { 0 < length rest.old.bytes }
         ensures ok { OnOk result (TakesCsv (spelled_so_far (K.records self.old.sink) self.old.partial) rest.old.bytes
@@ -148,12 +148,12 @@ impl<K: RecordSink> CsvReader<K> {
                 self.state = State::AfterQuote;
                 Ok(())
             }
-            // The set has no other.
+            // The set has no other character.
             Some(SetResult::FromSet(other)) => self.partial.push_char(other),
         }
     }
 
-    // Takes the second of two quotes, which belongs to the field, or what follows a quoted field.
+    // Takes the second of two quotes, which belongs to the field, or the bytes after a quoted field.
     fn take_after_quote(&mut self, rest: &mut StrTendril) -> Result<(), Refusal>
         requires { 0 < length rest.old.bytes }
         ensures ok { OnOk result (TakesCsv (spelled_so_far (K.records self.old.sink) self.old.partial) rest.old.bytes
@@ -171,7 +171,7 @@ impl<K: RecordSink> CsvReader<K> {
         self.take_plain(rest)
     }
 
-    // Sends the record that was read. A line on which none was begun is one without fields.
+    // Sends the record that was read. A blank line is a record without fields.
     fn end_record(&mut self, next: State) -> Result<(), Refusal>
         ensures ok { OnOk result (spelled_so_far (K.records self.new.sink) self.new.partial
             ≡ spelled_so_far (K.records self.old.sink) self.old.partial) }
@@ -233,8 +233,7 @@ impl<K: RecordSink> TendrilSink<StrTendril> for CsvReader<K> {
     }
 }
 
-/// What its records spell, and the one that is being read, are the UTF-8 of the characters that it was told, but for quotes
-/// and line ends.
+/// The sent records and the incomplete one spell the UTF-8 of the decoded characters, without quotes and line ends.
 impl<K: RecordSink> Tracks<StrTendril> for CsvReader<K> {
     ghost use Rattle.std.specs.Prelude.{◌≡◌, [], encode_utf8_all};
     ghost use Rattle.tendril.specs.Lossy.{characters};

@@ -1,4 +1,4 @@
-//! Which fields share the bytes of what was read, and the records of a text that is cut anywhere.
+//! Tests which fields share a block with the input, and that a text has the same records wherever it is cut.
 
 use crate::reader::CsvReader;
 use crate::record::Record;
@@ -12,7 +12,7 @@ fn reader(alloc: Global) -> CsvReader<Vec<Record>> {
     CsvReader::new(alloc, Vec::new(alloc))
 }
 
-// Which fields of a record share bytes.
+// Which fields of a record share their block.
 fn shared(record: &Record) -> [bool; 4] {
     let mut shared = [false; 4];
     for (is_shared, field) in shared.iter_mut().zip(record.fields.iter()) {

@@ -1,4 +1,4 @@
-//! Reads a file into a rope, and prints how long it is and how it begins.
+//! Reads a file into a rope, and prints its length and the beginning of its first line.
 #![tactic(auto)]
 
 use anyhow::Context;
@@ -6,7 +6,7 @@ use rope::{Rope, rope_from_file};
 use std::process::ExitCode;
 use std::{env, io};
 
-/// How many characters are printed, where the first line has that many.
+/// The maximal number of characters that are printed of the first line.
 const SHOWN: usize = 60;
 
 fn main(rt: HostRuntime) -> anyhow::Result<ExitCode> {

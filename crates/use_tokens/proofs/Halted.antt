@@ -1,4 +1,4 @@
--- What a tokenizer behind a decoder has spelled where reading stopped.
+-- What a tokenizer behind a decoder has spelled when reading stopped.
 use Rattle.std.proofs.Common.{◌≡◌, ◌⊎◌, ℕ, Bool, true, false, List, [], ◌++◌, Option, sym, ap, ◌∙◌, append_assoc}
 use Rattle.std.proofs.lemmas.Str.{encodes-append}
 use Rattle.std.specs.Prelude.{IfSome, encode_utf8_all}
@@ -18,7 +18,7 @@ use Rattle.use_tokens.specs.Follows.{told_bytes}
 use Rattle.use_tokens.specs.Spelled.{sent_bytes, joined_sources}
 use Rattle.use_tokens.specs.declared.token.Token.{Token}
 
--- the bytes of what was told, and of more
+-- the bytes of what was sent, and of more
 bytes-append : (start : List ℕ) (t more : List Told) → start ++ encode_utf8_all (characters (t ++ more)) ≡ (start ++ encode_utf8_all (characters t)) ++ encode_utf8_all (characters more)
 bytes-append start t more =
     ap (λ l. start ++ l) (ap encode_utf8_all (characters-append t more) ∙ encodes-append (characters t) (characters more))
@@ -28,7 +28,7 @@ module _ {S : Type 0} (tokens : S → List Token) (left : S → List ℕ) (start
   abbrev pub Refuses : S → Sent → Refusal → S → Type 0
   Refuses a e r b = IsFrontOf (joined_sources (tokens b)) (joined_sources (tokens a) ++ (left a ++ sent_bytes e))
 
-  -- behind the bytes `start`, it has spelled a front of this
+  -- after the bytes `start`, it has spelled a prefix of this
   abbrev pub Front : S → List Told → Type 0
   Front a told = IsFrontOf (joined_sources (tokens a)) (start ++ encode_utf8_all (characters told))
 
@@ -49,7 +49,7 @@ module _ {S : Type 0} (tokens : S → List Token) (left : S → List ℕ) (start
         ∙ front.1,
   )
 
-  -- a new decoder over it was read into
+  -- reads into a new decoder over it stopped
   pub halted : {D : Type 0} (inner : D → S) (held : D → List ℕ) (failed : D → Bool) (ends : D → Refusal → Type 0) (sink : S) (d : D) (max_reads : ℕ) (these : List OneRead) (r : Refusal) (handed : Option D)
       → inner d ≡ sink → held d ≡ [] → failed d ≡ false → After tokens left start sink []
       → Halts (DecoderTakes (Takes tokens left) inner held failed)

@@ -1,4 +1,4 @@
--- What tokens spell, part by part, and where a text may be cut.
+-- What tokens spell after each step, and where a text may be cut.
 use Rattle.std.proofs.Common.{◌≡◌, ℕ, ◌<◌, ◌+◌, ◌-◌, List, [], ◌∷◌, ◌++◌, length, take, drop, refl, sym, ap, subst, ◌∙◌, arith, append_assoc, append-nil, IsUtf8, slice_index, Result, Ok, Err, OnErr}
 use Rattle.std.proofs.lemmas.Bool.{eqb-true}
 use Rattle.std.proofs.lemmas.Str.{IsCharBoundary-after_ascii, IsCharBoundary-before_ascii, IsUtf8-drop, IsUtf8-take}
@@ -8,7 +8,7 @@ use Rattle.use_tokens.specs.Ends.{EndsAt}
 use Rattle.use_tokens.specs.Spelled.{TokensSpell, joined_sources}
 use Rattle.use_tokens.specs.declared.token.Token.{Token}
 
--- UTF-8 that is cut before a byte of ASCII, or behind one
+-- UTF-8 that is cut before or after an ASCII byte
 
 pub cut_before : (bs : List ℕ) (n : ℕ) → IsUtf8 bs → n < length bs → slice_index bs n < 128 → IsUtf8 (take n bs) × IsUtf8 (drop n bs)
 cut_before bs n u within ascii =
@@ -28,7 +28,7 @@ cut_end bs start count u ends =
 pub cut_found : (bs : List ℕ) (n : ℕ) → IsUtf8 bs → NoneBefore (Passes (is_byte 60) bs) 0 (length bs) n × Passes (is_byte 60) bs n → IsUtf8 (take n bs) × IsUtf8 (drop n bs)
 cut_found bs n u found = cut_before bs n u found.0.high (subst (λ b. b < 128) (sym (eqb-true (slice_index bs n) 60 found.1)) (omega arith))
 
--- a token is sent of the first of these bytes
+-- a prefix of the bytes is sent as a token
 pub sent : (before tokens : List Token) (source held left bytes : List ℕ) → TokensSpell before source tokens [] → held ≡ [] → source ++ left ≡ bytes → TokensSpell before bytes tokens (held ++ left)
 sent before tokens source held left bytes h none is =
     ap (λ l. joined_sources tokens ++ (l ++ left)) none
@@ -40,15 +40,15 @@ sent before tokens source held left bytes h none is =
 pub unsent : (before tokens : List Token) (bytes : List ℕ) → tokens ≡ before → IsFrontOf (joined_sources tokens) (joined_sources before ++ bytes)
 unsent before tokens bytes is = (bytes, ap (λ t. joined_sources t ++ bytes) (sym is))
 
--- what stands behind a token that was sent
+-- what follows a token that was sent
 pub behind : (before mid : List Token) (first rest : List ℕ) → TokensSpell before first mid [] → joined_sources mid ++ rest ≡ joined_sources before ++ (first ++ rest)
 behind before mid first rest h = ap (λ l. l ++ rest) (sym (append-nil (joined_sources mid)) ∙ h) ∙ append_assoc (joined_sources before) first rest
 
--- tokens that are a front of some bytes are one of the same bytes
+-- a prefix of bytes is a prefix of equal bytes
 pub front_on : (tokens : List Token) (bytes bytes' : List ℕ) → bytes ≡ bytes' → IsFrontOf (joined_sources tokens) bytes → IsFrontOf (joined_sources tokens) bytes'
 front_on tokens bytes bytes' is h = (h.0, sym is ∙ h.1)
 
--- where nothing was sent, whatever is due
+-- if nothing was sent, the tokens are a prefix, whatever the bytes are
 pub none_sent : {T E : Type 0} (result : Result T E) (tokens : List Token) (bytes : List ℕ) → OnErr result (IsFrontOf (joined_sources tokens) (joined_sources tokens ++ bytes))
 none_sent (Ok x) tokens bytes = tt
 none_sent (Err e) tokens bytes = (bytes, refl)
@@ -57,7 +57,7 @@ pub refused : {T E : Type 0} (result : Result T E) (before tokens : List Token) 
 refused (Ok x) before tokens bytes same = tt
 refused (Err e) before tokens bytes same = unsent before tokens bytes same
 
--- what holds anyway holds of an error
+-- what always holds, holds after an error
 pub of_err : {T E : Type 0} (result : Result T E) (P : Type 0) → P → OnErr result P
 of_err (Ok x) P p = tt
 of_err (Err e) P p = p

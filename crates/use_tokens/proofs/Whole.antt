@@ -1,4 +1,4 @@
--- What a tokenizer behind a decoder spells of all that was read.
+-- What a tokenizer behind a decoder spells after all was read.
 use Rattle.std.proofs.Common.{◌≡◌, ℕ, Bool, false, List, [], ◌∷◌, ◌++◌, sym, ap, subst, ◌∙◌, append-nil}
 use Rattle.std.specs.Prelude.{encode_utf8_all}
 use Rattle.std.specs.List.{FoldsTo}
@@ -14,19 +14,19 @@ use Rattle.use_tokens.specs.Follows.{spelled_on}
 use Rattle.use_tokens.specs.Spelled.{TokensSpell, sent_bytes, joined_sources}
 use Rattle.use_tokens.specs.declared.token.Token.{Token}
 
--- over sinks that have tokens, and something pending
+-- over sinks that have tokens and pending bytes
 module _ {S : Type 0} (tokens : S → List Token) (left : S → List ℕ) where
   abbrev pub Takes : S → Sent → S → Type 0
   Takes a e b = TokensSpell (tokens a) (left a ++ sent_bytes e) (tokens b) (left b)
 
-  -- behind the bytes `start`, it spells what it was told
+  -- after the bytes `start`, it spells what was sent to it
   abbrev pub After : List ℕ → S → List Told → Type 0
   After start a told = joined_sources (tokens a) ++ left a ≡ start ++ encode_utf8_all (characters told)
 
   pub goes_on : (start : List ℕ) → FollowsCalls Takes (After start)
   goes_on start told a e b is_sent was call = spelled_on start told e (tokens a) (left a) (tokens b) (left b) is_sent was call
 
-  -- a new decoder over it has read all
+  -- all was read into a new decoder over it
   pub whole : {D O : Type 0} (inner : D → S) (held : D → List ℕ) (failed : D → Bool) (out_tokens : O → List Token) (start : List ℕ) (sink : S) (d last : D) (these : List OneRead) (out : O)
       → inner d ≡ sink → held d ≡ [] → failed d ≡ false → After start sink []
       → Receives (DecoderTakes Takes inner held failed) d these last

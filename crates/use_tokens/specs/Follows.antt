@@ -1,4 +1,4 @@
--- What a tokenizer spells is the UTF-8 of what it was told.
+-- A tokenizer spells the UTF-8 of what was sent to it.
 use Rattle.std.proofs.Common.{◌≡◌, ℕ, List, [], ◌∷◌, ◌++◌, map, refl, sym, ap, ◌∙◌, append_assoc, append-nil}
 use Rattle.std.proofs.lemmas.Str.{encodes-append, encodes-chars}
 use Rattle.std.specs.Prelude.{chars, encode_utf8_all}
@@ -8,12 +8,12 @@ use Rattle.tendril.specs.Sinks.{Sent, Piece, Fault, IsSent, told_of}
 use Rattle.use_tokens.specs.Spelled.{TokensSpell, sent_bytes, joined_sources}
 use Rattle.use_tokens.specs.declared.token.Token.{Token}
 
--- a call tells the characters of its bytes
+-- the characters that a call sends have its bytes as their UTF-8
 pub told_bytes : (e : Sent) → IsSent e → encode_utf8_all (characters (told_of e)) ≡ sent_bytes e
 told_bytes (Piece t) is = ap encode_utf8_all (characters-map (chars t.bytes)) ∙ encodes-chars t.bytes is.1
 told_bytes (Fault words) is = refl
 
--- the joined sources from a start on, after one more call
+-- one more call of the sink keeps this, after bytes `start` of earlier tokens
 pub spelled_on : (start : List ℕ) (told : List Told) (e : Sent) (tokens : List Token) (held : List ℕ)
     (tokens' : List Token) (held' : List ℕ)
     → IsSent e → joined_sources tokens ++ held ≡ start ++ encode_utf8_all (characters told)

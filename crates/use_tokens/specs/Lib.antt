@@ -1,4 +1,4 @@
--- The words of the program's contracts.
+-- The definitions that the program's contracts cite.
 pub mod Ends
 pub mod Follows
 pub mod Spelled

@@ -1,4 +1,4 @@
-//! Parts HTML on standard input into tokens, and prints each.
+//! Splits HTML on standard input into tokens, and prints each.
 #![tactic(auto)]
 
 mod markup;
@@ -17,7 +17,7 @@ use tendril::stream::Counted;
 use token::Token;
 use tokenize::tokenize;
 
-/// How many reads are made at most.
+/// The maximal number of reads.
 const MOST_READS: u64 = 1_000_000_000;
 
 fn main(rt: HostRuntime) -> anyhow::Result<()> {
@@ -25,7 +25,7 @@ fn main(rt: HostRuntime) -> anyhow::Result<()> {
     let tokens: Vec<Token> = Vec::new(alloc);
     let mut input = Counted::new(rt.stdin());
     let tokens = tokenize(alloc, tokens, &mut input, MOST_READS).context("standard input")?;
-    // `rt.stdout()` has no buffer: each write to it is a call of the system.
+    // `rt.stdout()` has no buffer: each write to it is a system call.
     let mut out = BufWriter::new(alloc, io::writer(&rt))?;
     print_tokens(&mut out, tokens.as_slice())?;
     out.flush()?;

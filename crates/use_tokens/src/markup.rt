@@ -1,8 +1,8 @@
-//! Where markup ends: the states of HTML's tokenization between `<` and `>`, as html5ever has them.
+//! Finds where markup ends: the states of HTML's tokenization between `<` and `>`, as in html5ever.
 ghost use Rattle.std.specs.Prelude.{◌≡◌, ◌<◌, ◌≤◌, ◌+◌, length, slice_index, IfSome, IfNone};
 ghost use Rattle.use_tokens.specs.Ends.{EndsAt};
 
-/// Markup that was begun, by what its next byte does.
+/// The state inside markup: it decides what the next byte does.
 #[derive(Clone, Copy, Debug, PartialEq, Eq)]
 pub enum Markup {
     EndTagOpen,
@@ -26,7 +26,7 @@ pub enum Markup {
 }
 
 impl Markup {
-    /// The markup that `<` and this byte begin.
+    /// Returns the state after `<` and this byte, or None if they begin no markup.
     pub fn opened_by(byte: u8) -> Option<Markup> {
         match byte {
             b'a'..=b'z' | b'A'..=b'Z' => Some(Markup::TagName),
@@ -37,8 +37,8 @@ impl Markup {
         }
     }
 
-    /// The state in which the bytes leave the markup, or its last one before the `>` that ends it, and how many bytes
-    /// there are up to that. The markup has come to `start`.
+    /// Scans bytes from `start` on. If the markup ends, returns the state before its last `>`, and how many bytes there
+    /// are up to and including that `>`; else the state after all bytes, and None.
     pub fn scan(self, bytes: &[u8], start: usize) -> (Markup, Option<usize>)
         requires { start ≤ length bytes.now }
         ensures { IfSome result.1 (EndsAt bytes.now start) }
@@ -53,7 +53,7 @@ impl Markup {
         (markup, None)
     }
 
-    // The state after a byte, or None where the markup ends with it.
+    // The state after a byte, or None if the markup ends with it.
     fn step(self, byte: u8) -> Option<Markup>
         ensures { IfNone result (byte ≡ 62) }
     {
@@ -106,7 +106,7 @@ fn end_tag_open(byte: u8) -> Option<Markup>
     }
 }
 
-// Within a tag, where no value stands: what a byte leads to that neither ends a name nor the tag.
+// Inside a tag, outside values. `other` is the state after a byte that is neither `/`, `>` nor white space.
 fn in_tag(byte: u8, other: Markup) -> Option<Markup>
     ensures { IfNone result (byte ≡ 62) }
 {
@@ -130,7 +130,7 @@ fn before_attribute_value(byte: u8) -> Option<Markup>
     }
 }
 
-// A value goes on to its second quote.
+// A quoted value ends at its second quote.
 fn until(quote: u8, byte: u8, value: Markup) -> Option<Markup>
     ensures { IfNone result ⊥ }
 {
@@ -141,7 +141,7 @@ fn until(quote: u8, byte: u8, value: Markup) -> Option<Markup>
     })
 }
 
-// Behind `<!`, and in a bogus comment: what a dash leads to.
+// After `<!`, and in a bogus comment. `dash` is the state after a dash.
 fn in_declaration(byte: u8, dash: Markup) -> Option<Markup>
     ensures { IfNone result (byte ≡ 62) }
 {
@@ -152,7 +152,7 @@ fn in_declaration(byte: u8, dash: Markup) -> Option<Markup>
     }
 }
 
-// Where a comment may end at once: what a dash leads to.
+// In a comment that ends with the next `>`. `dash` is the state after a dash.
 fn comment_start(byte: u8, dash: Markup) -> Option<Markup>
     ensures { IfNone result (byte ≡ 62) }
 {

@@ -1,4 +1,4 @@
-//! Tokens in print, a line each.
+//! Prints tokens, one per line.
 
 use crate::token::{Kind, Token};
 use std::io::{self, Write};

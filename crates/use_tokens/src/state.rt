@@ -1,13 +1,13 @@
-//! Where a text begins that comes next.
+//! The state between texts.
 
 use crate::markup::Markup;
 use tendril::StrTendril;
 
-/// What the texts before ended in.
+/// What the texts so far end in.
 #[derive(Drop)]
 pub(crate) enum State {
     /// Nothing: the next text begins outside markup.
     Outside,
-    /// Markup that was begun.
+    /// Incomplete markup, whose bytes so far are `begun`.
     Inside { markup: Markup, begun: StrTendril },
 }

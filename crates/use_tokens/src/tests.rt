@@ -1,4 +1,4 @@
-//! Tokens of inputs that are cut anywhere. What is due follows from the rules of HTML's tokenization.
+//! Tests the tokens of inputs, wherever these are cut. The expected tokens follow the rules of HTML's tokenization.
 
 use crate::token::{Kind, Token, TokenSink};
 use crate::tokenizer::Tokenizer;
@@ -8,7 +8,7 @@ use tendril::ByteTendril;
 use tendril::block::Refusal;
 use tendril::stream::{TendrilSink, Utf8LossyDecoder};
 
-/// What keeps the tokens that it takes, and refuses to take more than so many.
+/// A sink that stores at most `most` tokens, and returns an error for the next one.
 #[derive(Drop)]
 struct Kept {
     tokens: Vec<Token>,
@@ -36,7 +36,7 @@ impl TokenSink for Kept {
     }
 }
 
-/// A kind, and what a token is made of, or neighbouring texts.
+/// The kind and source of a token, or of adjacent texts, joined.
 type Row<'a> = (&'a str, &'a str);
 
 const INPUTS: [(&str, &[Row<'static>]); 12] = [
@@ -145,7 +145,7 @@ fn word(kind: &Kind) -> &'static str {
     }
 }
 
-/// Kinds and sources, where neighbouring texts are joined.
+/// Kinds and sources, where adjacent texts are joined.
 fn joined(alloc: Global, tokens: &[Token]) -> Result<Vec<(&'static str, String)>, Fail> {
     let mut rows: Vec<(&'static str, String)> = Vec::new(alloc);
     for token in tokens {
@@ -159,7 +159,7 @@ fn joined(alloc: Global, tokens: &[Token]) -> Result<Vec<(&'static str, String)>
     Ok(rows)
 }
 
-/// Fails unless these are the tokens that are due.
+/// Fails unless these are the expected tokens.
 fn check(alloc: Global, row: usize, tokens: &[Token], due: &[Row<'_>]) -> Result<(), Fail> {
     let found = joined(alloc, tokens)?;
     let is_due = found.len() == due.len()

@@ -1,12 +1,12 @@
-//! Tokens, and what takes them.
+//! Tokens, and sinks of tokens.
 
 use tendril::StrTendril;
 use tendril::block::Refusal;
 
-/// What a token is. A name stands as it does in the source, in either case.
+/// The kind of a token. A tag's name is as in the source, in either case.
 #[derive(Debug, Drop)]
 pub enum Kind {
-    /// Text outside markup, up to the next markup or to the end of a piece of the input.
+    /// Text outside markup, up to the next `<` or to the end of a text that was sent.
     Text,
     StartTag {
         name: StrTendril,
@@ -22,29 +22,29 @@ pub enum Kind {
     Cut,
 }
 
-/// A token, and the bytes of the input that it is made of.
+/// A token: its kind, and its bytes in the input.
 #[derive(Debug, Drop)]
 pub struct Token {
     pub kind: Kind,
     pub source: StrTendril,
 }
 
-/// What takes tokens.
+/// A sink of tokens.
 pub trait TokenSink: Drop {
     ghost use Rattle.std.specs.Prelude.{◌≡◌, ◌<◌, List, [], ◌∷◌, ◌++◌, length, OnOk, OnErr};
     ghost use Rattle.use_tokens.specs.declared.token.Token.{Token};
 
-    /// The tokens that it took.
+    /// The tokens that it received.
     ghost tokens: { Self → List Token };
 
-    /// Takes a token, which has a byte at least.
+    /// Receives a token of at least one byte. After an error the tokens are as before.
     fn process_token(&mut self, token: Token) -> Result<(), Refusal>
         requires { 0 < length token.source.bytes }
         ensures ok { OnOk result (tokens self.new ≡ tokens self.old ++ token ∷ []) }
         ensures err { OnErr result (tokens self.new ≡ tokens self.old) };
 }
 
-/// What keeps the tokens that it takes.
+/// A sink that stores its tokens.
 impl TokenSink for Vec<Token> {
     ghost tokens = { λ v. v.items };
 

@@ -1,4 +1,4 @@
-//! Tokens of all that a reader has.
+//! Reads all tokens of a reader.
 ghost use Rattle.std.specs.Prelude.{◌≡◌, ◌≤◌, ◌++◌, List, length, encode_utf8_all, IfErr, IfOk, IfSome};
 ghost use Rattle.std.specs.Io.KnownBytes.{IsAtEnd};
 ghost use Rattle.tendril.specs.Fmt.Parts.{IsFrontOf};
@@ -12,11 +12,11 @@ use crate::tokenizer::Tokenizer;
 use std::alloc::Global;
 use tendril::stream::{CountedRead, Stopped, Utf8LossyDecoder, read_decoded};
 
-/// Reads to the end, decodes what it reads, and gives the sink its tokens. At most so many reads are made.
+/// Reads to the end in at most `max_reads` reads, decodes, sends the tokens to the sink, and returns the sink.
 ///
-/// The sources of the tokens, joined, are the whole text: the UTF-8 of the characters that are due of the bytes. Where
-/// reading stops before the end, or the sink refuses a token, they are a front of that, and the sink is in the decoder
-/// that comes back (`inner_sink`, and its `sink`); a token that is refused at the input's end takes both with it.
+/// The sources of the tokens, joined, are the decoded text in UTF-8. After an error they are a prefix of it, and the
+/// sink is in the decoder that is returned (`inner_sink`, and its `sink`). If the sink returns an error at the input's
+/// end, both are dropped.
 pub fn tokenize<K: TokenSink, R: CountedRead>(
     alloc: Global,
     sink: K,

@@ -1,4 +1,4 @@
-//! A sink of texts that parts them into tokens.
+//! A sink of texts that splits them into tokens.
 ghost use Rattle.std.specs.Prelude.{◌≡◌, ◌<◌, ◌≤◌, ◌+◌, ◌++◌, [], length, slice_index, IfOk, IsTrue, OnOk, OnErr};
 ghost use Rattle.tendril.specs.Fmt.Parts.{IsFrontOf};
 ghost use Rattle.use_tokens.specs.Spelled.{TokensSpell, begun_bytes, pending, joined_sources};
@@ -14,23 +14,23 @@ use tendril::stream::{TendrilSink, Tracks};
 use tendril::{ByteSet, StrTendril};
 use tendril_queue::TextQueue;
 
-/// Parts the texts that it is sent into tokens, as the first states of HTML's tokenization do.
+/// A sink that splits the texts sent to it into tokens, as the first states of HTML's tokenization do.
 ///
-/// Text comes in a token for each run of it in a text that is sent, as html5ever sends it; markup in one token, whatever
-/// the texts. Tokens of more than 8 bytes share the bytes that they stand in, but for markup that came in several texts
-/// which don't stand one behind the other in one block.
+/// A token of text ends at the latest where a sent text ends, as in html5ever; markup is one token, even across texts.
+/// Tokens of more than 8 bytes share the block of their text, except markup across texts that aren't adjacent in one
+/// block.
 #[derive(Drop)]
 pub struct Tokenizer<K: TokenSink> {
     sink: K,
     alloc: Global,
-    // What was sent and isn't taken yet.
+    // What was sent and isn't processed yet.
     input: TextQueue,
     state: State,
     name_ends: ByteSet,
 }
 
 impl<K: TokenSink> Tokenizer<K> {
-    /// A tokenizer that was sent nothing.
+    /// Creates a tokenizer that was sent nothing.
     pub fn new(alloc: Global, sink: K) -> Self
         ensures sink { result.sink ≡ sink }
         ensures input { result.input.bytes ≡ [] }
@@ -45,14 +45,14 @@ impl<K: TokenSink> Tokenizer<K> {
         }
     }
 
-    /// Where the tokens go.
+    /// Returns the sink of the tokens.
     pub fn sink(&self) -> &K
         ensures { result.now ≡ self.now.sink }
     {
         &self.sink
     }
 
-    // Takes what comes next out of the input. Returns false, and takes nothing, where what comes in decides.
+    // Takes the next token or incomplete markup. Returns false and takes nothing if that needs more input.
     fn take_part(&mut self) -> Result<bool, Refusal>
         ensures ok { OnOk result (TokensSpell (K.tokens self.old.sink) (pending self.old.state self.old.input)
             (K.tokens self.new.sink) (pending self.new.state self.new.input)) }
@@ -70,7 +70,7 @@ impl<K: TokenSink> Tokenizer<K> {
         }
     }
 
-    // Takes what comes before the next `<` in a text, or what begins with one.
+    // Takes the bytes before the next `<` in a text, or what begins with the `<`.
     fn take_text(&mut self, mut text: StrTendril) -> Result<bool, Refusal>
         requires outside { self.old.state ≡ State.Outside }
         requires some { 0 < length text.bytes }
@@ -92,7 +92,7 @@ impl<K: TokenSink> Tokenizer<K> {
         }
     }
 
-    // Takes what begins with `<`: markup as far as the text goes, or the `<` alone where it begins none.
+    // Takes markup, up to its end or that of the text, or only the `<` if it begins no markup.
     fn take_open(&mut self, mut text: StrTendril) -> Result<bool, Refusal>
         requires outside { self.old.state ≡ State.Outside }
         requires some { 0 < length text.bytes }
@@ -116,7 +116,7 @@ impl<K: TokenSink> Tokenizer<K> {
         }
     }
 
-    // Takes a `<` that a text ends with, where the text after it has come.
+    // Takes a `<` at the end of a text, if the next text is there: it decides whether the `<` begins markup.
     fn take_last_open(&mut self, open: StrTendril) -> Result<bool, Refusal>
         requires outside { self.old.state ≡ State.Outside }
         requires some { 0 < length open.bytes }
@@ -137,7 +137,7 @@ impl<K: TokenSink> Tokenizer<K> {
         }
     }
 
-    // Takes text, and puts what follows it back.
+    // Sends `front` as text, and puts `rest` back into the input.
     fn take_front(&mut self, front: StrTendril, rest: StrTendril) -> Result<bool, Refusal>
         requires outside { self.old.state ≡ State.Outside }
         requires some { 0 < length front.bytes }
@@ -153,8 +153,8 @@ impl<K: TokenSink> Tokenizer<K> {
         Ok(true)
     }
 
-    // Takes markup up to its end or that of the text. What came before was begun, and so many bytes of the text are known
-    // to go on with it.
+    // Takes markup up to its end or that of the text. `begun` are its bytes in earlier texts. The first `start` bytes
+    // of this text belong to it in any case.
     fn take_markup(
         &mut self,
         mut begun: StrTendril,
@@ -188,7 +188,7 @@ impl<K: TokenSink> Tokenizer<K> {
         Ok(true)
     }
 
-    // What markup is that was in this state before its last byte.
+    // The kind of markup that was in this state before its last byte.
     fn kind_of(&self, last: Markup, source: &StrTendril) -> Result<Kind, Refusal> {
         match last {
             Markup::EndTagOpen
@@ -217,7 +217,7 @@ impl<K: TokenSink> Tokenizer<K> {
         Ok(Kind::StartTag { name, self_closing })
     }
 
-    // The name that stands at the front of a tag's inside.
+    // The name of a tag, of which `inside` is what follows `<` or `</`.
     fn name(&self, mut inside: StrTendril) -> Result<StrTendril, Refusal> {
         match inside.pop_front_until(&self.name_ends)? {
             Some(name) => Ok(name),
@@ -225,7 +225,7 @@ impl<K: TokenSink> Tokenizer<K> {
         }
     }
 
-    // Sends a token, unless it would have no byte.
+    // Sends a token, unless its source is empty.
     fn send(&mut self, kind: Kind, source: StrTendril) -> Result<(), Refusal>
         ensures ok { OnOk result (TokensSpell (K.tokens self.old.sink) source.bytes (K.tokens self.new.sink) []) }
         ensures state { self.new.state ≡ self.old.state }
@@ -239,7 +239,7 @@ impl<K: TokenSink> Tokenizer<K> {
     }
 }
 
-// Puts a text behind another one. The first is the second where it was empty.
+// Appends a text to another one, which becomes the appended text if it was empty.
 fn append(text: &mut StrTendril, more: StrTendril) -> Result<(), Refusal>
     ensures { OnOk result (text.new.bytes ≡ text.old.bytes ++ more.bytes) }
 {
@@ -250,7 +250,7 @@ fn append(text: &mut StrTendril, more: StrTendril) -> Result<(), Refusal>
     text.push_tendril(&more)
 }
 
-// The markup that was begun, or no text.
+// The bytes of incomplete markup, or the empty text.
 fn begun_text(alloc: Global, state: State) -> StrTendril
     ensures { result.bytes ≡ begun_bytes state }
 {
@@ -260,7 +260,7 @@ fn begun_text(alloc: Global, state: State) -> StrTendril
     }
 }
 
-// Puts all that is left of the input after a text.
+// Appends the remaining input to a text.
 fn joined(begun: StrTendril, mut input: TextQueue) -> Result<StrTendril, Refusal>
     ensures ok { IfOk result (λ text. text.bytes ≡ begun.bytes ++ input.bytes) }
     ensures err { OnErr result (0 < length input.bytes) }
@@ -311,7 +311,7 @@ impl<K: TokenSink> TendrilSink<StrTendril> for Tokenizer<K> {
     }
 }
 
-/// The sources of its tokens, followed by what is pending, are the UTF-8 of the characters that it was told.
+/// The sources of the sent tokens, followed by the pending bytes, are the UTF-8 of the decoded characters.
 impl<K: TokenSink> Tracks<StrTendril> for Tokenizer<K> {
     ghost use Rattle.std.specs.Prelude.{◌≡◌, ◌++◌, [], encode_utf8_all};
     ghost use Rattle.tendril.specs.Lossy.{characters};

@@ -1,11 +1,11 @@
-//! Header fields, `Name: value` a line: texts that are used as a `str`.
+//! Header fields, one `Name: value` per line: texts used as `str`s.
 ghost use Rattle.std.specs.Prelude.{◌≡◌, ◌++◌, codes, IfOk, IfSome};
 
 use std::alloc::AllocError;
 use tendril::block::Refusal;
 use tendril::{ByteSet, StrTendril};
 
-/// A name and its value. Long ones share the bytes of their line.
+/// A name and its value. Long ones share the block of their line.
 #[derive(Clone, Debug, PartialEq, Eq, Drop)]
 pub struct Field {
     pub name: StrTendril,
@@ -18,17 +18,17 @@ pub enum Line {
     Blank,
     Comment(StrTendril),
     Field(Field),
-    /// There is no colon.
+    /// A line without a colon, or that begins with one.
     Malformed,
 }
 
 impl Field {
-    /// Whether the value has a comma.
+    /// Returns whether the value has a comma.
     pub fn is_list(&self) -> bool {
         self.value.find(',').is_some()
     }
 
-    /// The first word of the value.
+    /// Returns the first word of the value.
     pub fn first_word(&self) -> Option<&str> {
         self.value.split_whitespace().next()
     }
@@ -36,7 +36,7 @@ impl Field {
 
 const HEADER: &str = "Host: example.org\n# who asks\n\nAccept: text/html, text/plain\nnothing\n";
 
-/// Prints what is in each line of a header.
+/// Prints each line of a header but blank ones.
 pub fn print_fields(rt: &HostRuntime) -> anyhow::Result<()> {
     for line in HEADER.lines() {
         match read_line(StrTendril::from_slice(rt.alloc(), line)?)? {
@@ -50,7 +50,7 @@ pub fn print_fields(rt: &HostRuntime) -> anyhow::Result<()> {
     Ok(())
 }
 
-/// The same lines twice, whose texts share their bytes.
+/// Returns two clones of the lines, whose texts share their blocks.
 pub fn twice(lines: &Vec<Line>) -> Result<(Vec<Line>, Vec<Line>), AllocError> {
     Ok((lines.clone()?, lines.clone()?))
 }
@@ -69,7 +69,7 @@ pub fn read_line(line: StrTendril) -> Result<Line, Refusal> {
     }
 }
 
-/// What is before the first colon of a line and what is after it, or `None` where it has none or begins with it.
+/// Splits a line at its first colon. Returns None if it has no colon, or begins with one.
 pub fn split_field(line: StrTendril) -> Result<Option<Field>, Refusal>
     ensures { IfOk result (λ found. IfSome found (λ field.
         line.bytes ≡ field.name.bytes ++ codes ":" ++ field.value.bytes)) }
@@ -85,13 +85,13 @@ pub fn split_field(line: StrTendril) -> Result<Option<Field>, Refusal>
     }
 }
 
-/// Where the first colon of a line is, in bytes. A place in a text fits `u32`, which `as_str` says.
+/// Returns the byte index of the first colon of a line. It fits in `u32`, by the contract of `as_str`.
 pub fn colon(line: &StrTendril) -> Option<u32> {
     let place = line.as_str().find(':')?;
     Some(place as u32)
 }
 
-/// What follows the first seven bytes, if a character ends there.
+/// Returns what follows the first seven bytes, or the empty string if no character begins there.
 pub fn after_seven(text: &StrTendril) -> &str {
     if text.is_char_boundary(7) {
         &text[7..]

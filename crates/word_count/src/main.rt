@@ -1,4 +1,4 @@
-//! Counts the words of standard input, and prints the parts of a text and the fields of a header.
+//! Counts the words of standard input, then prints the parts of a text and the fields of a header.
 #![tactic(auto)]
 
 mod fields;
@@ -25,7 +25,7 @@ fn main(rt: HostRuntime) -> anyhow::Result<()> {
     print_fields(&rt)
 }
 
-// How often each word is in the text. A long word shares the text's bytes.
+// The number of occurrences of each word. Long words share the text's block.
 fn count(alloc: Global, text: StrTendril) -> Result<BTreeMap<StrTendril, u64>, Refusal> {
     let mut counts = BTreeMap::new(alloc);
     for run in text.into_char_runs(char::is_whitespace) {

@@ -1,4 +1,4 @@
-//! Texts by the methods of `str` and of slices, and by derives.
+//! Tests of texts as `str`s and slices, and of derives on types with texts.
 
 use crate::fields::{Field, Line, after_seven, colon, read_line, twice};
 use std::alloc::Global;

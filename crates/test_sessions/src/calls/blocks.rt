@@ -1,11 +1,11 @@
-//! Calls of blocks outside of texts. A call that gets no memory leaves its block as it was, or returns what it was passed;
-//! where it does not, the reply is `refused 4 Invalid`.
+//! Calls of blocks outside of texts. A call that gets no memory must leave its block as it was, or return its argument;
+//! otherwise the reply is `refused 4 Invalid`.
 
 use crate::calls::{print, string_of};
 use std::alloc::Global;
 use tendril_block::{Atomicity, Refusal, Sole};
 
-/// What is printed for a line over a call of blocks: the bytes of the block after it.
+/// Returns what is printed for a line that calls blocks: the bytes of the block after the call.
 pub fn reply<A: Atomicity>(
     alloc: Global,
     verb: &str,
@@ -35,7 +35,7 @@ fn make<A: Atomicity>(alloc: Global, bytes: &[u8]) -> Result<A::Block, Refusal> 
     }
 }
 
-// One of two references gets a block of its own. The other one keeps its bytes.
+// `make_mut` copies for one of two references. The other one's bytes stay.
 fn own<A: Atomicity>(mut block: A::Block) -> Result<A::Block, Refusal> {
     let other = A::share(&block)?;
     let made = match A::make_mut(&mut block) {
@@ -52,7 +52,7 @@ fn own<A: Atomicity>(mut block: A::Block) -> Result<A::Block, Refusal> {
     }
 }
 
-// The only reference writes to its block in place, which takes no memory.
+// The only reference writes to its block in place, which allocates nothing.
 fn changed<A: Atomicity>(mut block: A::Block) -> Result<A::Block, Refusal> {
     let written = match A::make_mut(&mut block) {
         Ok(body) => {
@@ -100,7 +100,7 @@ fn append<A: Atomicity>(mut block: A::Block) -> Result<A::Block, Refusal> {
     Ok(block)
 }
 
-// Takes the bytes out of a block with one reference, and makes a block of them.
+// Takes the bytes out of a block with one reference, and creates a block of them.
 fn again<A: Atomicity>(block: A::Block) -> Result<A::Block, Refusal> {
     match A::into_sole(block) {
         Ok(sole) => back::<A>(sole),
@@ -116,7 +116,7 @@ fn back<A: Atomicity>(sole: Sole) -> Result<A::Block, Refusal> {
     }
 }
 
-// Appends a byte without capacity for it, which is not done though there is memory, and with it.
+// Appends a byte, which fails without capacity, even if there is memory, and succeeds with capacity.
 fn full<A: Atomicity>(mut block: A::Block) -> Result<A::Block, Refusal> {
     let len = A::bytes(&block).len();
     let Some(body) = A::alone_mut(&mut block) else {

@@ -1,4 +1,4 @@
-//! Calls that extend a text by items, or make it of items that are texts.
+//! Calls that extend a text by items, or create it from texts.
 
 use crate::calls::{byte_text, slot_and_words, str_text, strings_of};
 use crate::own::number as number_of;
@@ -61,11 +61,11 @@ fn texts_of<A: Atomicity>(
     Ok(texts)
 }
 
-// How many bytes the items have that a call took.
+// How many bytes the items have that a call took from its iterator.
 #[derive(Drop)]
 struct Taken {
     all: Cell<usize>,
-    // But for the last one.
+    // Without the last item.
     before: Cell<usize>,
 }
 
@@ -89,14 +89,14 @@ impl Taken {
 trait Items<F: Format, A: Atomicity> {
     fn extend(&self, text: &mut Tendril<F, A>, taken: &Taken) -> Result<(), Refusal>;
 
-    // Whether the items before a refused one have this many bytes.
+    // Whether the items before one that failed have this many bytes.
     fn are_before(&self, bytes: usize, taken: &Taken) -> bool {
         bytes == taken.before.get()
     }
 }
 
-// A call that gets no memory keeps exactly the items before that one: a prefix of what the same call makes with memory.
-// Where it keeps others, the reply is `refused 4 Invalid`.
+// A call that gets no memory for an item must keep exactly the items before it: a prefix of its result with memory.
+// Otherwise the reply is `refused 4 Invalid`.
 fn extended<F: Format, A: Atomicity, I: Items<F, A>>(
     before: &Tendril<F, A>,
     items: &I,
@@ -143,7 +143,7 @@ impl<A: Atomicity> Items<UTF8, A> for TextItems<A> {
         text.extend_tendrils(self.texts.iter())
     }
 
-    // Any of the texts may be the refused one.
+    // Any of the texts may be the one that failed.
     fn are_before(&self, bytes: usize, _taken: &Taken) -> bool {
         let mut before = 0usize;
         for text in self.texts.iter() {

@@ -1,4 +1,4 @@
-//! Calls that make a text from nothing.
+//! Calls that create a text.
 
 use crate::calls::{string_of, strings_of};
 use std::alloc::Global;
@@ -57,7 +57,7 @@ pub fn bytes<A: Atomicity>(
     Ok(Some(made?))
 }
 
-// A text that is the only reference to its block goes to another thread and comes from there, which takes no memory.
+// Makes a text sendable and converts it back. It is the only reference to its block, so this allocates nothing.
 fn sent<F: Format, A: Atomicity, B: Atomicity>(
     text: Tendril<F, A>,
 ) -> Result<Tendril<F, B>, Refusal> {

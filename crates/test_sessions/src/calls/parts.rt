@@ -1,4 +1,4 @@
-//! Calls that take a text apart, send it, view it or change it.
+//! Calls that split a text, send it, view it or change it.
 
 use crate::calls::{byte_text, set_of, slot_and_words, str_text, string_of};
 use crate::own::number as number_of;
@@ -9,7 +9,7 @@ use tendril_fmt::fmt::{ASCII, Bytes, UTF8};
 use tendril_run::{Slot, Table};
 use tendril_text::{SendTendril, Tendril};
 
-/// What the call of this name makes of a clone of a text. A slot that is gone is nothing.
+/// Returns what the call of this name makes of a clone of a text, `Slot::Gone` for nothing.
 pub fn part<A: Atomicity>(
     table: &Table<A>,
     verb: &str,
@@ -68,7 +68,7 @@ fn string_part<A: Atomicity>(
     Ok(Some(Slot::Utf8(text)))
 }
 
-// What comes before the first byte of a set.
+// The bytes before the first byte of a set.
 fn pop_until<A: Atomicity>(
     text: &mut Tendril<UTF8, A>,
     set: &str,
@@ -89,7 +89,7 @@ fn change_string<A: Atomicity>(
     }
 }
 
-// A formatter's error has no reason.
+// `fmt::Error` doesn't say why: it is reported as Memory.
 fn write_str<A: Atomicity>(text: &mut Tendril<UTF8, A>, string: &str) -> Result<(), Refusal> {
     match text.write_str(string) {
         Ok(()) => Ok(()),
@@ -136,7 +136,7 @@ fn refusal_of(error: io::Error) -> Refusal {
     }
 }
 
-// A call that gets no memory returns the text.
+// A call that gets no memory must return the text.
 fn sent<A: Atomicity>(text: Tendril<Bytes, A>) -> Result<SendTendril<Bytes>, Refusal> {
     let before = text.clone()?;
     match text.into_send() {
@@ -146,7 +146,7 @@ fn sent<A: Atomicity>(text: Tendril<Bytes, A>) -> Result<SendTendril<Bytes>, Ref
     }
 }
 
-// A call that gets no memory returns the text, which can be received then.
+// A call that gets no memory must return the text, which can be received then.
 fn received<A: Atomicity>(text: SendTendril<Bytes>) -> Result<Tendril<Bytes, A>, Refusal> {
     match Tendril::from_send(text) {
         Ok(text) => Ok(text),
@@ -158,7 +158,7 @@ fn received<A: Atomicity>(text: SendTendril<Bytes>) -> Result<Tendril<Bytes, A>,
     }
 }
 
-// A text of bytes or of ASCII that is made of a view of a string.
+// A text of bytes or of ASCII, created from a view of a string.
 fn view<A: Atomicity>(
     table: &Table<A>,
     verb: &str,

@@ -45,7 +45,7 @@ fn debug<A: Atomicity>(
     }
 }
 
-// The bytes of a text as a string, where they are one.
+// The bytes of a text as a string, if they are UTF-8.
 fn view_str<A: Atomicity>(
     alloc: Global,
     table: &Table<A>,
@@ -99,7 +99,7 @@ fn yes_or_no(alloc: Global, holds: bool) -> Result<Option<String>, Refusal> {
     print(alloc, if holds { "yes" } else { "no" })
 }
 
-// Where the first byte of a set is.
+// The index of the first byte of a set.
 fn find<A: Atomicity>(
     alloc: Global,
     text: &Tendril<UTF8, A>,
@@ -112,7 +112,7 @@ fn find<A: Atomicity>(
     print(alloc, format_args!("{found:?}"))
 }
 
-// The items that an iterator gives of a text.
+// The items of an iterator over a text.
 fn list<A: Atomicity>(
     alloc: Global,
     text: Tendril<UTF8, A>,
@@ -128,7 +128,7 @@ fn list<A: Atomicity>(
     Ok(Some(reply))
 }
 
-// What comes before an item.
+// The separator before an item.
 fn gap(reply: &str) -> &'static str {
     if reply.is_empty() { "" } else { " " }
 }

@@ -1,4 +1,4 @@
-//! One block that many threads hold.
+//! One block with references in many threads.
 
 use std::alloc::Global;
 use std::sync::Arc;
@@ -13,7 +13,7 @@ const TWENTY: &[u8] = b"01234567890123456789";
 
 type ThreeHolders = AtomicUpTo<3>;
 
-/// Nothing is promised of what a thread returns.
+/// A promise that says nothing about what a thread returns.
 #[derive(Clone, Copy)]
 struct Anything;
 
@@ -30,7 +30,7 @@ fn share_often(mine: <Atomic as Atomicity>::Block) -> bool {
     (0..1000).all(|_| Atomic::share(&mine).is_ok())
 }
 
-// Starts a thread that has a reference of its own.
+// Starts a thread that has its own reference.
 fn start_sharer(
     rt: &impl Threads,
     notes: &mut Notes,
@@ -87,7 +87,7 @@ fn wait_for_three(done: &AtomicU64) -> bool {
     false
 }
 
-// Tries to share a block that is full. Whether each try was refused while all three references were held.
+// Tries to share a block with all its references. Returns whether each try returned Count while all three were held.
 fn is_refused_often(mine: &<ThreeHolders as Atomicity>::Block, done: &AtomicU64) -> bool {
     let all_were_refused = (0..1000).all(|_| ThreeHolders::share(mine).err()
         == Some(Refusal::Count));
@@ -95,7 +95,7 @@ fn is_refused_often(mine: &<ThreeHolders as Atomicity>::Block, done: &AtomicU64)
     wait_for_three(done) && all_were_refused
 }
 
-// The reference, if its tries to share were refused.
+// The reference, if all its tries to share returned Count.
 fn kept(
     mine: <ThreeHolders as Atomicity>::Block,
     done: Arc<AtomicU64, Global>,

@@ -1,4 +1,4 @@
-//! Random calls on two ropes, each of which has to have the bytes of the string beside it.
+//! Random calls on two ropes, each compared with a string.
 
 use super::rope_sinks::{has, text};
 use rope::Rope;
@@ -10,7 +10,7 @@ use test_texts::Notes;
 
 const STEPS: usize = 10_000;
 
-/// A longer rope is only cut.
+/// The length above which a rope is only cut.
 const LONG: usize = 300;
 
 const STRINGS: [&str; 8] = [
@@ -24,14 +24,14 @@ const STRINGS: [&str; 8] = [
     "0123\u{1f4a9}456789abcdef",
 ];
 
-/// Numbers that look random and are the same in each run.
+/// Pseudo-random numbers, the same in each run.
 #[derive(Drop)]
 struct Numbers {
     state: u64,
 }
 
 impl Numbers {
-    // A number below the limit, or 0 where that is 0.
+    // A number below the limit, or 0 if the limit is 0.
     fn below(&mut self, limit: usize) -> usize {
         self.state = self
             .state
@@ -43,7 +43,7 @@ impl Numbers {
     }
 }
 
-/// A rope, and the string whose bytes it has to have.
+/// A rope, and the string whose bytes it must have.
 #[derive(Drop)]
 struct Pair<A: Atomicity> {
     rope: Rope<A>,
@@ -98,7 +98,8 @@ impl<A: Atomicity> Pair<A> {
         self.string = notes.or(step, String::from_str(alloc, rest), String::new(alloc));
     }
 
-    // Becomes what was cut off, where that is this part of a string. Whether it was.
+    // Replaces rope and string by what was cut off each, if both cuts succeed; else their errors must be equal. Returns
+    // whether both succeeded.
     fn cut(
         &mut self,
         alloc: Global,
@@ -130,7 +131,7 @@ impl<A: Atomicity> Pair<A> {
     }
 }
 
-// The part of a string, or why there is none.
+// The slice of a string, or the error for it.
 fn part_of(string: &str, offset: usize, count: usize) -> Result<&str, Refusal> {
     let end = offset.saturating_add(count);
     if end > string.len() {

@@ -1,4 +1,4 @@
-//! Ropes that are read, from readers and from files.
+//! Ropes that are read from readers and from files.
 
 use super::rope_sinks::has;
 use rope::{Rope, read_rope, rope_from_file};
@@ -10,7 +10,7 @@ use tendril::block::{Atomic, Atomicity, NonAtomic, Refusal};
 use tendril::stream::{Counted, Stopped, TendrilSink, Utf8LossyDecoder};
 use test_texts::Notes;
 
-/// Gives one piece in each read, and then is at its end or fails.
+/// A reader that gives one piece per read, and then is at its end or fails.
 #[derive(Drop)]
 struct Pieces {
     pieces: &'static [&'static [u8]],
@@ -34,10 +34,10 @@ impl Read for Pieces {
     }
 }
 
-/// Why reading stops, `None` at the end, and what the rope has then.
+/// The error of the read, None at the end, and the rope's text then.
 type Expected = (Option<Refusal>, &'static str);
 
-/// What a reader gives, whether it fails then, how many reads are allowed, and what has to come.
+/// The pieces of a reader, whether it fails after them, the maximal number of reads, and the expected result.
 const READS: [(&[&[u8]], bool, u64, Expected); 7] = [
     (
         &[b"xy\xEA", b"\xFF", b"\x99\xAEz"],
@@ -70,7 +70,7 @@ const READS: [(&[&[u8]], bool, u64, Expected); 7] = [
 
 type Answer<A> = Result<Rope<A>, Stopped<Utf8LossyDecoder<Rope<A>, A>>>;
 
-// Where reading stopped, the decoder that comes back has what was read.
+// After an error, the decoder that is returned has what was read.
 fn check<A: Atomicity>(
     alloc: Global,
     notes: &mut Notes,
@@ -113,7 +113,7 @@ fn readers_of_pieces(rt: HostRuntime) -> Result<(), Fail> {
     notes.end()
 }
 
-/// A file's bytes, how many reads are allowed, and what has to come.
+/// A file's bytes, the maximal number of reads, and the expected result.
 const FILES: [(&[u8], u64, Expected); 4] = [
     (
         b"foo\xFFbar\xEA\x99\xAE",
@@ -138,7 +138,7 @@ fn read_files<A: Atomicity>(rt: &(impl Files + AllocGlobal), notes: &mut Notes) 
     check(rt.alloc(), notes, 4, answer, (Some(Refusal::Io), ""));
 }
 
-// Reads of 4096 bytes end inside a character of three.
+// Reads of 4096 bytes end inside a character of three bytes.
 fn read_a_long_file(rt: &(impl Files + AllocGlobal), notes: &mut Notes) {
     let mut written = String::new(rt.alloc());
     for _ in 0..10_000 {

@@ -1,4 +1,4 @@
-//! Ropes as sinks, and what moves or shares pieces where no command does.
+//! Ropes as sinks, and calls that move or share pieces and that no command makes.
 
 use rope::{Rope, decode_rope};
 use std::alloc::Global;
@@ -31,7 +31,7 @@ fn bytes<A: Atomicity>(alloc: Global, notes: &mut Notes, bytes: &[u8]) -> Tendri
     )
 }
 
-/// Notes where a rope has other bytes than a string.
+/// Notes if a rope has other bytes than a string.
 pub(super) fn has<A: Atomicity>(
     alloc: Global,
     notes: &mut Notes,
@@ -44,7 +44,7 @@ pub(super) fn has<A: Atomicity>(
     notes.same(row, rope.len64(), expected.len() as u64);
 }
 
-// By the definition of maximal subparts, in the Unicode Standard.
+// The expected text follows the Unicode Standard's definition of maximal subparts.
 fn feed<A: Atomicity>(alloc: Global, notes: &mut Notes) {
     let mut decoder: Utf8LossyDecoder<Rope<A>, A> = Utf8LossyDecoder::new(alloc, Rope::new(alloc));
     for piece in [b"xy\xEA".as_slice(), b"\xFF", b"\x99\xAEz"] {
@@ -108,7 +108,7 @@ fn a_decoded_rope_shares_its_pieces(rt: HostRuntime) -> Result<(), Fail> {
     notes.end()
 }
 
-// A rope whose pieces nothing can share.
+// A rope whose pieces can't be shared.
 type Alone = Rope<AtomicUpTo<1>>;
 
 fn push(alloc: Global, notes: &mut Notes, rope: &mut Alone, string: &str) {

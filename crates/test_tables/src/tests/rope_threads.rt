@@ -58,13 +58,13 @@ const SESSIONS: [&str; 2] = [
     rlen 1 => length 48",
 ];
 
-// How often the two threads run.
+// How many times both threads run.
 const ROUNDS: usize = 10;
 
-// How often a thread looks whether the other one has come.
+// How many times a thread checks whether the other one has started.
 const LOOKS: usize = 10_000_000;
 
-// A table whose slot 0 and whose rope 0, twice, share the text.
+// A table in which slot 0, and both pieces of rope 0, share the text.
 fn table_over(alloc: Global, notes: &mut Notes, text: &Tendril<UTF8, Atomic>) -> RopeTable<Atomic> {
     let mut slots = Table::new(alloc);
     let shared = notes.or(1, text.clone(), Tendril::new(alloc));
@@ -98,7 +98,7 @@ fn commands_of(alloc: Global, notes: &mut Notes, session: &str) -> Vec<RopeComma
     commands
 }
 
-// Whether both threads came, and the replies.
+// Whether both threads ran at once, and the replies.
 type Answer = (bool, Result<Vec<RopeReply>, Refusal>);
 
 fn run_beside(
@@ -128,7 +128,7 @@ fn check(alloc: Global, notes: &mut Notes, (met, replies): Answer, session: &str
     }
 }
 
-// Both sessions at once, each in a thread of its own.
+// Runs both sessions at once, each in its own thread.
 fn run_both(rt: &(impl AllocGlobal + Threads), notes: &mut Notes, text: &Tendril<UTF8, Atomic>) {
     let alloc = rt.alloc();
     let here = AtomicUsize::new(0);

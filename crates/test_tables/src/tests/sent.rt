@@ -15,7 +15,7 @@ use test_texts::Notes;
 
 const LETTERS: &str = "abcdefghijklmnopqrstuvwxyzabcdefghijklmnopqrstuvwxyz";
 
-/// Nothing is promised of what a thread returns.
+/// A promise that says nothing about what a thread returns.
 #[derive(Clone, Copy)]
 struct Anything;
 
@@ -29,7 +29,7 @@ fn letters(len: usize) -> &'static [u8] {
 
 const LENGTHS: [usize; 9] = [0, 1, 7, 8, 9, 16, 40, 41, 52];
 
-// The text as it comes over another kind of block.
+// The text, sent and received over another kind of block.
 fn sent<A: Atomicity, B: Atomicity>(text: Tendril<Bytes, A>) -> Option<Tendril<Bytes, B>> {
     let sent = text.into_send().ok()?;
     Tendril::from_send(sent).ok()
@@ -80,7 +80,7 @@ fn a_worker_changes_a_text(rt: HostRuntime) -> Result<(), Fail> {
     notes.end()
 }
 
-// Appends the byte to each text, in the thread that this runs in.
+// Appends the byte to each text, in the current thread.
 fn pushed(
     alloc: Global,
     texts: Vec<SendTendril<Bytes>>,
@@ -105,7 +105,7 @@ fn a_thousand(alloc: Global) -> Result<Vec<SendTendril<Bytes>>, Refusal> {
     Ok(texts)
 }
 
-// What came back has its letters, and then the digits.
+// Checks that the returned text has its letters, followed by the digits.
 fn check_pushed(notes: &mut Notes, number: usize, text: SendTendril<Bytes>) {
     let expected = letters(number % 53);
     let text: Result<ByteTendril, _> = Tendril::from_send(text);

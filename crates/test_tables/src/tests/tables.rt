@@ -1,4 +1,4 @@
-//! Calls that sessions don't make: slots that are pushed, and a list of bytes.
+//! Calls that sessions don't make: pushed slots, and a list of bytes.
 
 use std::alloc::Global;
 use std::test::Fail;

@@ -1,4 +1,4 @@
-//! Tables that threads work on. What memory that is refused to a worker does is shown by the session `worker.txt`.
+//! Tables in threads. The session `worker.txt` shows what a failed allocation of a worker does.
 
 use std::alloc::Global;
 use std::marker::Send;
@@ -16,7 +16,7 @@ use test_texts::Notes;
 const DIGITS: &[u8] = b"0123456789abcdef";
 
 /// What a worker does on a table whose slot 0 has the digits: its lines with their replies, and the bytes of slot 0
-/// afterwards, `None` where it is dropped.
+/// after them, None if it was dropped.
 type Work<'a> = (&'a [(&'a str, &'a str)], Option<&'a [u8]>);
 
 const THREE: [Work<'static>; 3] = [
@@ -77,7 +77,7 @@ impl Gate for Open {
     fn before(&self, _command: usize) {}
 }
 
-/// All characters are of class 1. It keeps the number of the last character that was classified.
+/// A classifier that puts all characters into class 1, and stores the code point of the last one.
 #[derive(Drop)]
 struct KeepsLast(Option<Arc<AtomicU64>>);
 
@@ -128,7 +128,7 @@ fn add_job<G: Drop>(
     notes.holds(1, jobs.push(job).is_ok(), "a job is added");
 }
 
-// Each job is done, with these replies.
+// Runs the jobs, and checks that each is done with the expected replies.
 fn run_all<G: Gate + Send + Drop + 'static>(
     rt: &(impl AllocGlobal + Threads),
     notes: &mut Notes,
@@ -165,7 +165,7 @@ fn check(alloc: Global, notes: &mut Notes, row: usize, outcome: &Outcome, (lines
     notes.same(row, found, bytes);
 }
 
-// Has each work done by a worker of its own, on clones of one text, which stays as it was.
+// Runs each work in its own worker, on clones of one text, which must stay as it was.
 fn work(rt: &(impl AllocGlobal + Threads), works: &[Work]) -> Result<(), Fail> {
     let mut notes = Notes::new();
     let text = notes.or(
@@ -204,14 +204,14 @@ fn sixty_four_jobs_on_one_block(rt: HostRuntime) -> Result<(), Fail> {
     work(&rt, &[SHARING; 64])
 }
 
-// What the flag counts: 1 for each worker that has begun, and 16 for each that has seen both.
+// The flag's values: 1 for each worker that has begun, and 16 for each that has seen both.
 const BOTH_BEGAN: u64 = 2;
 
 const MET: u64 = 16;
 
 const BOTH_MET: u64 = 34;
 
-/// Waits before the first command until both workers have begun.
+/// A gate that waits before the first command until both workers have begun.
 #[derive(Drop)]
 struct Meeting(Arc<AtomicU64>);
 
@@ -231,7 +231,7 @@ impl Gate for Meeting {
     }
 }
 
-// Two workers: each waits for the other, and the test fails unless both saw that they run at once.
+// Two workers wait for each other. The test fails unless both saw that they run at once.
 #[test]
 fn two_workers(rt: HostRuntime) -> Result<(), Fail> {
     let flag = Arc::new(rt.alloc(), AtomicU64::new(0))?;
@@ -259,7 +259,7 @@ fn two_workers(rt: HostRuntime) -> Result<(), Fail> {
     notes.end()
 }
 
-/// Appends two digits before each command: its index, and the last character that was classified by then.
+/// A gate that appends two digits before each command: its index, and the last character that was classified.
 #[derive(Drop)]
 struct Writes {
     last: Arc<AtomicU64>,

@@ -1,4 +1,4 @@
-//! Blocks: how many holders there may be, and calls that no text makes.
+//! Blocks: the limit of references, and calls that no text makes.
 
 use crate::notes::Notes;
 use std::alloc::Global;
@@ -7,7 +7,7 @@ use tendril::block::{Atomic, AtomicUpTo, Atomicity, NonAtomic, Refusal, Tail};
 
 const DIGITS: &[u8] = b"0123456789";
 
-// A block of the ten digits, where there is memory.
+// A block of the ten digits, if there is memory.
 fn digits<A: Atomicity>(notes: &mut Notes, alloc: Global) -> Option<A::Block> {
     let bytes = notes.or(0, Vec::from_slice(alloc, DIGITS), Vec::new(alloc));
     let block = A::make(bytes).ok();
@@ -15,7 +15,7 @@ fn digits<A: Atomicity>(notes: &mut Notes, alloc: Global) -> Option<A::Block> {
     block
 }
 
-// Adds holders until one is refused, or there are as many as these. The refusal, and how many were added.
+// Adds references until `share` returns an error, or there are `most`. Returns the error, and the added references.
 fn fill<A: Atomicity>(
     notes: &mut Notes,
     alloc: Global,
@@ -32,7 +32,7 @@ fn fill<A: Atomicity>(
     (None, holders)
 }
 
-// A block has at most as many holders as these, and one that is dropped makes room for another.
+// A block has at most `limit` references. After one is dropped, another one can be added.
 fn check_limit<A: Atomicity>(notes: &mut Notes, alloc: Global, limit: usize) {
     let Some(block) = digits::<A>(notes, alloc) else {
         return;
@@ -78,7 +78,7 @@ fn check_many<A: Atomicity>(notes: &mut Notes, alloc: Global, count: usize) {
     notes.same(5, A::bytes(&block), DIGITS);
 }
 
-// More than the greatest limit is that limit, 4294967295.
+// A limit above the maximum, 4294967295, is that maximum.
 #[test]
 fn seventy_thousand_holders(rt: HostRuntime) -> Result<(), Fail> {
     let mut notes = Notes::new();
@@ -89,7 +89,7 @@ fn seventy_thousand_holders(rt: HostRuntime) -> Result<(), Fail> {
     notes.end()
 }
 
-// The only holder moves a part to the front of its block, where that is no more than half of it, and not beside another.
+// `compact` moves a slice of at most half the block to the front, through the only reference, and fails with another.
 fn check_compact<A: Atomicity>(notes: &mut Notes, alloc: Global) {
     let Some(mut block) = digits::<A>(notes, alloc) else {
         return;
@@ -122,7 +122,7 @@ fn the_only_holder_compacts(rt: HostRuntime) -> Result<(), Fail> {
     notes.end()
 }
 
-// The body of a block with one holder is changed by each of its calls.
+// Each call of `Body` changes a block with one reference.
 fn check_body<A: Atomicity>(notes: &mut Notes, alloc: Global) {
     let Some(mut block) = digits::<A>(notes, alloc) else {
         return;

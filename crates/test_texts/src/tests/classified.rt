@@ -4,7 +4,7 @@ use crate::notes::Notes;
 use std::test::Fail;
 use tendril::futf::{Codepoint, Meaning, classify};
 
-/// The bytes, a place among them, and the sequence round it: its bytes, where in it the place is, and what it means.
+/// The bytes, an index, and the sequence that contains it: its bytes, the index in them, and the meaning.
 type Row<'r> = (&'r [u8], usize, Option<(&'r [u8], usize, Meaning)>);
 
 const ROWS: [Row<'static>; 21] = [
@@ -29,7 +29,7 @@ const ROWS: [Row<'static>; 21] = [
         1,
         Some((&[0xEA, 0x99], 1, Meaning::Prefix(1))),
     ),
-    // the sequence of the start ends before the byte that was asked for
+    // the sequence before the index ends before it
     (&[0xC5, 0x91, 0x91], 2, None),
     (&[0x41, 0x91], 1, None),
     // a byte past the end, and bytes that start nothing
@@ -45,7 +45,7 @@ const ROWS: [Row<'static>; 21] = [
     ),
     (&[0x91, 0x41], 0, Some((&[0x91], 0, Meaning::Suffix))),
     (&[0x91, 0x91, 0x91, 0x91], 3, None),
-    // starts with too few bytes after them, which aren't looked at
+    // first bytes with too few bytes after them, which aren't read
     (
         &[0xF0, 0x9F, 0x41],
         0,
@@ -57,7 +57,7 @@ const ROWS: [Row<'static>; 21] = [
         1,
         Some((&[0xF7, 0x80], 1, Meaning::Prefix(2))),
     ),
-    // a byte that doesn't go on, an overlong form, a value past the last
+    // a byte that doesn't continue the sequence, an overlong form, a value past the last one
     (&[0xEA, 0x91, 0xFF], 1, None),
     (&[0xC1, 0xBF], 0, None),
     (&[0xE0, 0x9F, 0xBF], 2, None),
@@ -118,7 +118,7 @@ const BORDERS: [u32; 10] = [
     0x0, 0x7F, 0x80, 0x7FF, 0x800, 0xD7FF, 0xE000, 0xFFFF, 0x1_0000, 0x10_FFFF,
 ];
 
-// Each 17th one, so that each continuation byte comes at each place.
+// Every 17th character, so that each continuation byte occurs at each position.
 #[test]
 fn characters_from_each_of_their_bytes(_rt: HostRuntime) -> Result<(), Fail> {
     let mut notes = Notes::new();

@@ -36,7 +36,7 @@ const ROWS: [(&[u16], &[u8]); 13] = [
     (&[0xDBFF, 0xE000], b"\xED\xAF\xBF\xEE\x80\x80"),
 ];
 
-// Whether units have these bytes, by the calls on slices and by those of texts, and the bytes these units.
+// Checks that units encode to these bytes, by the calls on slices and by those of texts, and the bytes to these units.
 fn are_encoded(notes: &mut Notes, alloc: Global, row: usize, units: &[u16], bytes: &[u8]) {
     let mut buffer = [0; 16];
     let len = wtf8_len(units);
@@ -69,7 +69,7 @@ fn units_and_their_bytes(rt: HostRuntime) -> Result<(), Fail> {
 /// A character of one byte, one of two bytes, a lead surrogate and a trail surrogate.
 const UNITS: [u16; 4] = [0x0041, 0x0151, 0xD83D, 0xDCA9];
 
-// The bytes of a list of these: a lead that a trail follows is one character with it.
+// The WTF-8 of these units: a lead followed by a trail is one character.
 fn bytes_of(notes: &mut Notes, alloc: Global, units: &[u16]) -> Vec<u8> {
     let mut bytes = Vec::new(alloc);
     let mut rest = units;
@@ -88,8 +88,7 @@ fn bytes_of(notes: &mut Notes, alloc: Global, units: &[u16]) -> Vec<u8> {
     bytes
 }
 
-// Pushes the groups of a list onto a text. The lowest bit of `cuts` says whether a group ends after the first unit, and so
-// on.
+// Pushes the units onto a text in groups. Bit i of `cuts`, from the lowest, says whether a group ends after unit i.
 fn push_groups<A: Atomicity>(
     notes: &mut Notes,
     alloc: Global,
@@ -108,7 +107,7 @@ fn push_groups<A: Atomicity>(
     }
 }
 
-// Each grouping of a list gives the same bytes, in a short text and in a long one.
+// All groupings of a list of units have the same bytes, in a short text and in a long one.
 fn group<A: Atomicity>(notes: &mut Notes, alloc: Global, units: &[u16]) {
     let expected = bytes_of(notes, alloc, units);
     for front in [b"".as_slice(), b"0123456789"] {
@@ -147,7 +146,7 @@ fn every_list_of_four_units_in_every_grouping(rt: HostRuntime) -> Result<(), Fai
     notes.end()
 }
 
-// A pair that meets, and a lone lead after it.
+// A pair that meets at the seam, and a lone lead after it.
 #[test]
 fn a_caller_joins_units_and_counts_surrogates(rt: HostRuntime) -> Result<(), Fail> {
     let mut notes = Notes::new();

@@ -43,7 +43,7 @@ pub(crate) fn first_of<F: CharFormat>(bytes: &[u8]) -> Option<(char, usize)> {
     }
 }
 
-/// The bytes in two, after the digits that they begin with, if they are valid.
+/// The bytes split after their longest prefix of digits, if they are valid.
 pub(crate) fn split_digits<F: CharFormat>(bytes: &[u8]) -> Option<(&[u8], &[u8])> {
     if F::validate(bytes) {
         Some(leading_digits::<F>(bytes))
@@ -52,7 +52,7 @@ pub(crate) fn split_digits<F: CharFormat>(bytes: &[u8]) -> Option<(&[u8], &[u8])
     }
 }
 
-/// Whether the character has just these bytes in the format, and they give it back.
+/// Whether the character is encoded as these bytes in the format, and they decode to it.
 pub(crate) fn is_encoded_as<F: CharFormat>(character: char, bytes: &[u8]) -> bool {
     match F::encode_char(character) {
         Some(encoded) => {
@@ -72,7 +72,7 @@ fn has_its_bytes(character: char) -> bool {
     }
 }
 
-// Whether the format has the characters below the limit, each in its one byte, and no others.
+// Whether the format encodes the characters below the limit in one byte each, and no others.
 fn is_of_one_byte<F: CharFormat>(character: char, limit: u32) -> bool {
     let code = character as u32;
     if code < limit {

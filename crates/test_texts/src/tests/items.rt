@@ -1,4 +1,4 @@
-//! Items that no line has: texts whose surrogates meet, and iterators that promise more than they give.
+//! Items that no line has: texts whose surrogates meet, and iterators that hint at more items than they give.
 ghost use Rattle.std.specs.Prelude.{◌^◌, ◌-◌, ◌+◌};
 ghost use Rattle.std.specs.Iterator.{at_most};
 
@@ -35,7 +35,7 @@ fn surrogates_of_two_items_meet(rt: HostRuntime) -> Result<(), Fail> {
     notes.end()
 }
 
-// An iterator that gives few bytes, and hints at more than a text can have.
+// An iterator that gives few bytes, and whose size hint is more than a text can have.
 #[derive(Drop)]
 struct Boastful {
     left: u8,

@@ -43,7 +43,7 @@ fn surrogates_that_meet(_rt: HostRuntime) -> Result<(), Fail> {
     notes.end()
 }
 
-// The surrogates of a character past FFFF meet as its encoding.
+// Whether the surrogates of a character past FFFF, joined, are its encoding.
 fn is_met(code: u32, character: char) -> bool {
     let (high, low) = (code.saturating_sub(0x1_0000) / 0x400, code % 0x400);
     let left = [

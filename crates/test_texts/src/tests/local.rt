@@ -1,4 +1,4 @@
-//! The tests of fronts, ends and slices.
+//! Validation of prefixes, suffixes and slices.
 
 use crate::notes::Notes;
 use std::test::Fail;
@@ -52,7 +52,7 @@ fn are_accepted<F: Format>(bytes: &[u8]) -> bool {
     F::validate_prefix(bytes) && F::validate_suffix(bytes) && F::validate_subseq(bytes)
 }
 
-// A whole validation would see the bytes between, which no text has.
+// Validation of the whole would fail: the bytes between are in no valid text.
 #[test]
 fn whole_validation_of_slices(_rt: HostRuntime) -> Result<(), Fail> {
     let mut notes = Notes::new();
@@ -66,7 +66,7 @@ fn whole_validation_of_slices(_rt: HostRuntime) -> Result<(), Fail> {
     notes.end()
 }
 
-/// The first bytes of a slice and its last ones, and whether the ends are those of UTF-8 and of WTF-8.
+/// The first bytes of a slice, its last ones, and whether these are valid ends in UTF-8 and in WTF-8.
 const ENDS: [(&[u8], &[u8], bool, bool); 6] = [
     (b"\xED\xA0\xBD", b"\xED\xA0\xBD", false, true),
     (b"", b"\xED\xA0\xBD", false, true),

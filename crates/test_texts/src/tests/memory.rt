@@ -1,4 +1,4 @@
-//! How large a text is, and how much memory a process holds.
+//! The size of a text, and the memory of the process.
 
 use crate::notes::Notes;
 use std::fs::{self, Files};
@@ -15,7 +15,7 @@ fn a_text_is_three_words(_rt: HostRuntime) -> Result<(), Fail> {
     notes.end()
 }
 
-// How much memory the process holds, in pages, as Linux says. 0 where it does not.
+// The resident memory of the process in pages, as Linux reports it, else 0.
 fn resident_pages(rt: &(impl Files + AllocGlobal)) -> u64 {
     match fs::read_to_string(rt, "/proc/self/statm") {
         Ok(text) => match text.split(' ').nth(1) {
@@ -26,7 +26,7 @@ fn resident_pages(rt: &(impl Files + AllocGlobal)) -> u64 {
     }
 }
 
-// Pushes and pops in turn.
+// Pushes and pops alternately.
 fn turn(notes: &mut Notes, queue: &mut ByteTendril, times: usize) {
     for row in 0..times {
         notes.done(row, queue.push_slice(b"01234567"));
@@ -44,7 +44,7 @@ fn a_queue_holds_no_more_memory_the_longer_it_runs(rt: HostRuntime) -> Result<()
     turn(&mut notes, &mut queue, 1_000_000);
     notes.same(1, queue.len32(), 128);
     notes.holds(2, before > 0, "pages are told");
-    // All that went through would be some 2000 pages.
+    // All pushed bytes together would be some 2000 pages.
     let more = resident_pages(&rt).saturating_sub(before);
     notes.same(3, more.min(200), more);
     notes.end()

@@ -1,4 +1,4 @@
-//! Formats of a user's own.
+//! Formats of your own.
 
 use crate::notes::Notes;
 use crate::tests::encodings::{first_of, is_encoded_as, split_digits};
@@ -22,7 +22,7 @@ fn pushes_onto_pairs(rt: HostRuntime) -> Result<(), Fail> {
     notes.end()
 }
 
-// Pairs have no tests of parts of their own: the whole is validated.
+// `Pairs` has no validation of its own for prefixes, suffixes and slices: `validate` is used.
 #[test]
 fn parts_of_pairs(_rt: HostRuntime) -> Result<(), Fail> {
     let mut notes = Notes::new();

@@ -1,4 +1,4 @@
-//! What a classifier is asked, and what is left where a run or a part is refused.
+//! The calls of a classifier, and what is left after an error of a run or a part.
 
 use crate::notes::Notes;
 use crate::tests::texts::text_of;
@@ -8,7 +8,7 @@ use tendril::block::{AtomicUpTo, Refusal};
 use tendril::fmt::UTF8;
 use tendril::{Atomic, Atomicity, ByteSet, NonAtomic, StrTendril, Tendril};
 
-// Takes the first run of one digit, or of other characters than digits.
+// Pops the first run of one digit, or of characters that aren't digits.
 fn digit_run<A: Atomicity>(
     notes: &mut Notes,
     text: &mut Tendril<UTF8, A>,
@@ -37,7 +37,7 @@ fn runs_of_one_answer_among_many(rt: HostRuntime) -> Result<(), Fail> {
     notes.end()
 }
 
-// The characters that a classifier is asked about, one after another.
+// A classifier is called once per character, in order.
 #[test]
 fn a_classifier_is_asked_once_a_character(rt: HostRuntime) -> Result<(), Fail> {
     let mut notes = Notes::new();
@@ -59,7 +59,7 @@ fn a_classifier_is_asked_once_a_character(rt: HostRuntime) -> Result<(), Fail> {
     notes.end()
 }
 
-/// A block that one text alone may hold.
+/// A block with at most one reference.
 type OneHolder = AtomicUpTo<1>;
 
 const TWO_LONG_PARTS: &str = "0123456789abcdef           0123456789";

@@ -1,4 +1,4 @@
-//! Texts that are split at bytes of a set and into lines, beside what Rust's `str::split` and `str::lines` give.
+//! Texts split at bytes of a set and into lines, compared with Rust's `str::split` and `str::lines`.
 
 use crate::notes::Notes;
 use crate::tests::texts::text_of;
@@ -9,7 +9,7 @@ use tendril::block::{AtomicUpTo, Refusal};
 use tendril::fmt::{ASCII, Bytes, UTF8, WTF8};
 use tendril::{Atomic, Atomicity, ByteSet, NonAtomic, Tendril};
 
-// A text, and what `split([',', ';'])` gives of it, each part with a `|` after it.
+// A text, and the parts of `split([',', ';'])`, each followed by `|`.
 const SPLIT: [(&str, &str); 10] = [
     ("one,,two", "one||two|"),
     ("one", "one|"),
@@ -29,7 +29,7 @@ const SPLIT: [(&str, &str); 10] = [
     ),
 ];
 
-// A text, and what `lines()` gives of it, each line with a `|` after it.
+// A text, and the lines of `lines()`, each followed by `|`.
 const LINES: [(&str, &str); 14] = [
     ("", ""),
     ("a", "a|"),
@@ -109,7 +109,7 @@ fn lines_are_those_of_str_lines(rt: HostRuntime) -> Result<(), Fail> {
     notes.end()
 }
 
-// How many lines or parts texts of other formats have.
+// The number of lines or parts of texts in other formats.
 fn counts(alloc: Global) -> Result<(usize, usize, usize), Refusal> {
     let feed = ByteSet::new(b"\n");
     let bytes = Tendril::<Bytes, NonAtomic>::from_slice(alloc, b"\xff\r\n\xff\xff\r")?;
@@ -132,7 +132,7 @@ fn texts_of_other_formats_are_split(rt: HostRuntime) -> Result<(), Fail> {
     notes.end()
 }
 
-/// A block that one text alone may hold.
+/// A block with at most one reference.
 type OneHolder = AtomicUpTo<1>;
 
 const TWO_LONG_LINES: &str = "0123456789abcdef\n0123456789";

@@ -1,4 +1,4 @@
-//! Sinks, decoders, reading, and streams that come in pieces.
+//! Sinks, decoders, reads, and streams in pieces.
 
 mod broken;
 mod cuttings;

@@ -31,7 +31,7 @@ fn is_trail(bytes: &[u8]) -> bool {
     is_surrogate(bytes, 0xB0, 0xBF)
 }
 
-// How many bytes the first character or surrogate has, unless it is a lead that a trail follows.
+// The length of the first character or surrogate, None for a lead that a trail follows.
 fn wtf8_front(bytes: &[u8]) -> Option<usize> {
     if is_lead(bytes) {
         let is_pair = bytes.get(3..).is_some_and(is_trail);
@@ -46,7 +46,7 @@ fn wtf8_front(bytes: &[u8]) -> Option<usize> {
     }
 }
 
-/// The same with surrogates, where no lead is directly followed by a trail.
+/// Whether the bytes are characters of the table and surrogates, and no trail follows a lead.
 pub(crate) fn is_wtf8(bytes: &[u8]) -> bool {
     let mut rest = bytes;
     for _ in 0..bytes.len() {

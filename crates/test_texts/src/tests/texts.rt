@@ -1,4 +1,5 @@
-//! Calls of texts that no session has: those with a condition, those of traits, and what callers write.
+//! Calls of texts that no session has: with a precondition, of traits, and in code as callers write it; and the names
+//! of errors.
 
 use crate::notes::Notes;
 use std::alloc::{AllocError, Global};
@@ -29,7 +30,7 @@ pub(crate) fn text_of<A: Atomicity>(
     )
 }
 
-// The conditions of these pops are proved here.
+// The preconditions of these pops are proved here.
 fn popped<A: Atomicity>(alloc: Global) -> Result<Tendril<Bytes, A>, Refusal> {
     let mut text = Tendril::<Bytes, A>::from_slice(alloc, b"another rather long string")?;
     if text.len32() != 26 {
@@ -116,7 +117,7 @@ fn texts_by_the_traits_of_std(rt: HostRuntime) -> Result<(), Fail> {
     notes.end()
 }
 
-/// Strings in the order of their bytes, round the inline length.
+/// Strings in the order of their bytes, of about the inline length.
 const ORDERED: [&str; 8] = [
     "",
     "\0",
@@ -145,7 +146,7 @@ fn texts_as_keys_of_a_hash_map(rt: HostRuntime) -> Result<(), Fail> {
     notes.end()
 }
 
-// Filled from the last string to the first.
+// The map is filled from the last string to the first.
 #[test]
 fn texts_as_keys_of_a_sorted_map(rt: HostRuntime) -> Result<(), Fail> {
     let mut notes = Notes::new();
@@ -209,7 +210,7 @@ fn errors_that_become_refusals(rt: HostRuntime) -> Result<(), Fail> {
     notes.end()
 }
 
-// As each prints a text.
+// Checks what Debug prints.
 fn printed<T: Debug>(alloc: Global, notes: &mut Notes, row: usize, value: &T, expected: &str) {
     let text = StrTendril::format(alloc, &format_args!("{value:?}"));
     let text = notes.or(row, text, Tendril::new(alloc));

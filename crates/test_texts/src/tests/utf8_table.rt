@@ -1,4 +1,4 @@
-//! Unicode's table of well-formed UTF-8, read the plain and slow way.
+//! Unicode's table of well-formed UTF-8, read in a plain and slow way.
 
 /// The bytes of a sequence, each by its least and its greatest value.
 type Sequence<'a> = &'a [(u8, u8)];
@@ -29,7 +29,7 @@ pub(crate) enum Front {
     Open,
 }
 
-// How many of the first bytes are as the sequence has them.
+// The length of the longest prefix of the bytes that matches the sequence.
 fn matched(sequence: Sequence, bytes: &[u8]) -> usize {
     sequence
         .iter()

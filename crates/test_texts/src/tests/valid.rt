@@ -5,7 +5,7 @@ use crate::tests::table::{is_utf8, is_wtf8};
 use std::test::Fail;
 use tendril::fmt::{ASCII, Bytes, Format, Latin1, SubsetOf, UTF8, WTF8};
 
-/// The bytes round the borders of the table's rows.
+/// The bytes next to the bounds in the table's rows.
 const BORDERS: [u8; 20] = [
     0x00, 0x41, 0x7F, 0x80, 0x8F, 0x90, 0x9F, 0xA0, 0xBF, 0xC0, 0xC1, 0xC2, 0xDF, 0xE0, 0xED, 0xEF,
     0xF0, 0xF4, 0xF5, 0xFF,

@@ -1,4 +1,4 @@
-//! What values print into texts.
+//! Values printed into texts.
 
 use crate::notes::Notes;
 use crate::tests::texts::text_of;
@@ -55,7 +55,7 @@ fn texts_of_formats(rt: HostRuntime) -> Result<(), Fail> {
     notes.end()
 }
 
-// Prints a part, and fails.
+// A value that prints a prefix, and then fails.
 #[derive(Drop)]
 struct Breaks;
 

@@ -1,4 +1,4 @@
-//! A million bytes of which many are broken.
+//! A million bytes, many of which aren't UTF-8.
 
 use crate::notes::Notes;
 use std::alloc::Global;
@@ -7,8 +7,8 @@ use tendril::{ByteTendril, StrTendril};
 
 const LEN: u32 = 1_000_000;
 
-// How many texts are decoded of a million bytes of which the last of each `distance` is broken, and how many of them are
-// U+FFFD.
+// Decodes a million bytes of which every `distance`-th is broken. Returns how many texts are sent, and how many of
+// these are U+FFFD.
 fn count_texts(alloc: Global, distance: usize) -> (u32, u32) {
     let mut piece: ByteTendril = ByteTendril::new(alloc);
     let grown = piece.push_uninitialized(LEN);
@@ -37,7 +37,7 @@ fn a_million_bytes_of_which_many_are_broken(rt: HostRuntime) -> Result<(), Fail>
     let mut notes = Notes::new();
     let all = count_texts(rt.alloc(), 1);
     notes.holds(0, all == (1_000_000, 1_000_000), "each byte is replaced");
-    // 127 times 7874 is 999998: two letters follow the last one.
+    // 127 times 7874 is 999998: two letters follow the last broken byte.
     let some = count_texts(rt.alloc(), 127);
     notes.holds(1, some == (15749, 7874), "each 127th byte is replaced");
     notes.end()

@@ -1,4 +1,4 @@
-//! Every stream of at most four bytes out of ten, cut into pieces in every way.
+//! All streams of at most four bytes out of a set of ten, cut into pieces in every way.
 
 use crate::notes::Notes;
 use crate::tests::streams::line::Line;
@@ -8,7 +8,7 @@ use std::test::Fail;
 use tendril::stream::{TendrilSink, Utf8LossyDecoder};
 use tendril::{ByteTendril, slice_to_tendril};
 
-/// How many bytes a stream has, how many such streams there are, and in how many ways each is cut.
+/// The length of streams, the number of such streams, and the number of ways in which each is cut.
 const SIZES: [(usize, u32, u32); 5] = [
     (0, 1, 1),
     (1, 10, 1),
@@ -17,7 +17,7 @@ const SIZES: [(usize, u32, u32); 5] = [
     (4, 10000, 8),
 ];
 
-// Decodes the bytes. The lowest bit of `cuts` says whether a piece ends after the first byte, and so on.
+// Decodes the bytes. Bit i of `cuts`, from the lowest, says whether a piece ends after byte i.
 fn decode_cut(alloc: Global, bytes: &[u8], cuts: u32) -> Line {
     let mut decoder: Utf8LossyDecoder<Line> = Utf8LossyDecoder::new(alloc, Line::new());
     let mut start = 0;

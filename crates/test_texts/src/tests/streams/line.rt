@@ -1,15 +1,15 @@
-//! A user's sink: what it is sent in one line of bytes. It allocates nothing.
+//! A sink that writes what is sent to it into one line of bytes. It allocates nothing.
 
 use std::borrow::CowStr;
 use tendril::StrTendril;
 use tendril::block::Refusal;
 use tendril::stream::TendrilSink;
 
-/// The longest line that is stored.
+/// The maximal length of a line that is stored.
 const ROOM: usize = 192;
 
-/// The texts, and each error's words between two bytes that are in no text. Of more bytes than there is room for only the
-/// number is stored.
+/// The texts, and each error's words between two bytes that are in no text. Only the number of bytes beyond `ROOM` is
+/// stored.
 #[derive(Clone, Copy, Drop)]
 pub(crate) struct Line {
     bytes: [u8; ROOM],
@@ -28,7 +28,7 @@ impl Line {
         }
     }
 
-    /// The line, if there was room for all of it.
+    /// The line, or `too long`.
     pub(crate) fn as_slice(&self) -> &[u8] {
         self.bytes.get(..self.len).unwrap_or(b"too long")
     }

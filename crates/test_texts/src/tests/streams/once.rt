@@ -1,4 +1,4 @@
-//! The public calls that no line of a session makes, each once.
+//! One call of each public function that no line of a session calls.
 
 use crate::notes::Notes;
 use crate::tests::streams::line::Line;
@@ -72,7 +72,7 @@ fn calls_of_pieces(rt: HostRuntime) -> Result<(), Fail> {
     notes.end()
 }
 
-// Whether this is what Debug prints.
+// Whether Debug prints this.
 fn prints<T: Debug>(value: &T, expected: &str) -> bool {
     let text: InlineText<200> = InlineText::of(format_args!("{value:?}"));
     text.as_str() == expected

@@ -1,4 +1,4 @@
-//! How many bytes reads are offered, and what a reader in pieces gives.
+//! How many bytes reads are offered, and the decoding of a reader that gives its bytes in pieces.
 
 use crate::notes::Notes;
 use crate::tests::streams::line::Line;
@@ -10,12 +10,12 @@ use tendril::stream::{Counted, ReadExt, Utf8LossyDecoder, read_from};
 
 static LETTERS: [u8; 200_000] = [b'a'; 200_000];
 
-/// Gives bytes, at most a fixed count in one read.
+/// A reader that gives at most `at_once` bytes per read.
 #[derive(Drop)]
 struct Parts {
     bytes: &'static [u8],
     at_once: usize,
-    /// How many bytes the reads were offered.
+    /// How many bytes each read was offered.
     offered: [usize; 20],
     reads: usize,
 }
@@ -48,7 +48,7 @@ impl Read for Parts {
     }
 }
 
-// Whether these bytes are read into a text, `at_once` in a read, where the reads are offered these counts.
+// Whether the bytes, `at_once` per read, are read into a text, and the reads are offered these counts.
 fn are_offered(alloc: Global, bytes: &'static [u8], at_once: usize, offered: &[usize]) -> bool {
     let len = bytes.len();
     let mut parts = Parts::new(bytes, at_once);
@@ -60,13 +60,13 @@ fn are_offered(alloc: Global, bytes: &'static [u8], at_once: usize, offered: &[u
 #[test]
 fn reads_into_a_text(rt: HostRuntime) -> Result<(), Fail> {
     let mut notes = Notes::new();
-    // The first 13 offers are 196576 bytes, and 3424 of the last one's are filled. The end is read into what is left.
+    // The first 13 offers are 196576 bytes. 3424 of the next offer are filled; the last read is offered the remainder.
     let offered = [
         32, 64, 128, 256, 512, 1024, 2048, 4096, 8192, 16384, 32768, 65536, 65536, 65536, 62112,
     ];
     let same = are_offered(rt.alloc(), &LETTERS, usize::MAX, &offered);
     notes.holds(0, same, "each offer is twice the one before, up to 65536");
-    // The seventh read fills the first offer with two bytes. Then 5, 3 and none are read.
+    // The seventh read fills the last two bytes of the first offer. Then 5, 3 and no bytes are read.
     let offered = [32, 27, 22, 17, 12, 7, 2, 64, 59, 56];
     let short = b"0123456789012345678901234567890123456789";
     let same = are_offered(rt.alloc(), short, 5, &offered);
@@ -74,7 +74,7 @@ fn reads_into_a_text(rt: HostRuntime) -> Result<(), Fail> {
     notes.end()
 }
 
-// What a reader is decoded to in at most four reads, and the reader again.
+// Decodes a reader in at most four reads. Returns the line, and the reader.
 fn decode_reads(alloc: Global, parts: Parts) -> (Line, Parts) {
     let mut parts = parts;
     let decoder: Utf8LossyDecoder<Line> = Utf8LossyDecoder::new(alloc, Line::new());

@@ -1,4 +1,4 @@
-//! A sink that refuses one of its calls, alone and behind a decoder. It is called no more after that.
+//! A sink that returns an error from one of its calls, alone and behind a decoder. It isn't called again after that.
 
 use crate::notes::Notes;
 use std::alloc::Global;
@@ -9,7 +9,7 @@ use tendril::block::Refusal;
 use tendril::stream::{TendrilSink, Utf8LossyDecoder};
 use tendril::{ByteTendril, StrTendril};
 
-/// Counts its calls, the end among them. It refuses the one of this number; there is no call number 0.
+/// A sink that counts its calls, its end included. Call number `refused` returns an error; there is no call number 0.
 #[derive(Drop)]
 struct Refusing<'c> {
     calls: &'c Cell<u32>,
@@ -43,7 +43,7 @@ impl TendrilSink<StrTendril> for Refusing<'_> {
     }
 }
 
-// What comes of `calls` calls of which the one numbered `refused` is refused, if there is one.
+// The result of `calls` calls, of which number `refused` returns an error, if there is one.
 fn outcome(refused: u32, calls: u32) -> Result<(), Refusal> {
     if refused == 0 || refused > calls {
         return Ok(());
@@ -51,7 +51,7 @@ fn outcome(refused: u32, calls: u32) -> Result<(), Refusal> {
     Err(Refusal::Memory)
 }
 
-// How many calls there are then.
+// The number of calls that are made then.
 fn made(refused: u32, calls: u32) -> u32 {
     if refused == 0 {
         calls

@@ -3,7 +3,7 @@
 use crate::tests::streams::line::Line;
 use crate::tests::utf8_table::{Front, front_of};
 
-/// Ten bytes out of which short streams are made: each begins or continues some row of the table.
+/// The ten bytes of short streams: each begins or continues some row of the table.
 const BYTES: [u8; 10] = [0x41, 0x80, 0x90, 0xA0, 0xBF, 0xC2, 0xE0, 0xED, 0xF0, 0xF4];
 
 /// Writes the bytes of the stream with this number.
@@ -15,7 +15,7 @@ pub(crate) fn write_stream(bytes: &mut [u8], number: u32) {
     }
 }
 
-/// What has to be sent of a whole stream.
+/// What must be sent for a whole stream.
 pub(crate) fn slow_decode(bytes: &[u8]) -> Line {
     let mut line = Line::new();
     let mut rest = bytes;

@@ -8,7 +8,7 @@ use Rattle.use_csv.specs.declared.partial.PartialRecord.{PartialRecord}
 use Rattle.use_csv.specs.declared.record.Record.{Record}
 use Rattle.use_csv.proofs.read.read_records.Goals as goal
 
--- what a new reader spells is what the records before it do
+-- a new reader spells what the sink's earlier records spell
 new_reader : (records records' : List Record) (partial : PartialRecord) → records' ≡ records → partial_bytes partial ≡ []
     → unmarked (spelled_so_far records' partial) ≡ unmarked (record_bytes records) ++ []
 new_reader records records' partial same none =
