@@ -1,4 +1,4 @@
-// Refuses the NTH request for memory, for `.ci/sessions`. A program that ends well before it gets there ends with status 99.
+// Makes the NTH allocation fail, for `.ci/sessions`. The status is 99 if the program succeeds with fewer allocations.
 #define _GNU_SOURCE
 #include <dlfcn.h>
 #include <stdatomic.h>
@@ -31,7 +31,7 @@ void *realloc(void *block, size_t size) {
     return refused() ? NULL : real(block, size);
 }
 
-// A program may end by `_exit`, or by `exit` as where `main` returns.
+// A program may end by `_exit`, or by `exit`, as when `main` returns.
 __attribute__((noreturn)) static void end(int status) {
     static void (*real)(int);
     if (!real) real = dlsym(RTLD_NEXT, "_exit");
