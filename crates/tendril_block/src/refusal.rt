@@ -107,10 +107,14 @@ impl<T: Drop> From<AllocFailed<T>> for Refusal {
 
 /// `Memory` if the error is `OutOfMemory`, else `Io`, so that `?` passes up a failed read or write.
 impl From<io::Error> for Refusal {
-    ghost use Rattle.std.specs.Prelude.{◌⊎◌};
+    ghost use Rattle.std.specs.Prelude.{◌≢◌};
+    ghost use Rattle.std.specs.IoError.{error_kind};
+    ghost use Rattle.std.specs.declared.io.ErrorKind.TheVariants.{OutOfMemory};
     ghost use Rattle.tendril_block.specs.declared.refusal.Refusal.TheVariants.{Io, Memory};
 
-    ghost from_gives = { λ _ r. (r ≡ Memory) ⊎ (r ≡ Io) };
+    ghost from_gives = {
+        λ error r. (error_kind error ≡ OutOfMemory → r ≡ Memory) × (error_kind error ≢ OutOfMemory → r ≡ Io)
+    };
 
     fn from(error: io::Error) -> Self {
         match error.kind() {

@@ -5,7 +5,6 @@ ghost use Rattle.tendril_script.specs.Endings.{EndsProgram, RunStops};
 ghost use Rattle.tendril_script.specs.Sessions.{RanTo, lines};
 
 use crate::lines::Lines;
-use crate::refusals::refusal_of;
 use crate::script::run_script;
 use std::alloc::Global;
 use std::io::{Read, Write};
@@ -36,8 +35,6 @@ fn read_script<R: Read>(alloc: Global, input: &mut R) -> Result<Vec<u8>, Refusal
     ensures refusal { IfErr result EndsProgram }
 {
     let mut script = Vec::new(alloc);
-    match input.read_to_end(&mut script) {
-        Ok(_) => Ok(script),
-        Err(error) => Err(refusal_of(&error)),
-    }
+    input.read_to_end(&mut script)?;
+    Ok(script)
 }

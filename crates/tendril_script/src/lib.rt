@@ -18,6 +18,6 @@ pub use input::run_input;
 pub use lines::Lines;
 pub use output::{flush, write_bytes};
 pub use program::{Program, run_program, run_words};
-pub use refusals::{refusal_of, refuse};
+pub use refusals::refuse;
 pub use script::run_script;
 pub use white_space::class_of;

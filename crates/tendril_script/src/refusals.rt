@@ -1,24 +1,12 @@
 //! Errors that end a program.
-ghost use Rattle.std.specs.Prelude.{◌≡◌, ◌≢◌};
-ghost use Rattle.std.specs.IoError.{error_kind};
+ghost use Rattle.std.specs.Prelude.{◌≡◌};
 ghost use Rattle.tendril_script.specs.Writing.{AppendsFront, complaint, refused_line};
 
 use crate::output::write_bytes;
-use std::io::{Error, ErrorKind, Write};
+use std::io::Write;
 use tendril_block::Refusal;
 
 const REFUSED: u8 = 1;
-
-/// Returns the error for a failed read: Memory if its kind is OutOfMemory, else Io.
-pub fn refusal_of(error: &Error) -> Refusal
-    ensures memory { error_kind error.now ≡ ErrorKind.OutOfMemory → result ≡ Refusal.Memory }
-    ensures io { error_kind error.now ≢ ErrorKind.OutOfMemory → result ≡ Refusal.Io }
-{
-    match error.kind() {
-        ErrorKind::OutOfMemory => Refusal::Memory,
-        _ => Refusal::Io,
-    }
-}
 
 /// Prints the line of an error that ends the program with this name, and returns status 1.
 ///

@@ -123,16 +123,9 @@ fn push_bytes<A: Atomicity>(
         "write" => match io::Write::write(text, bytes) {
             Ok(count) if count == bytes.len() => Ok(()),
             Ok(_) => Err(Refusal::Invalid),
-            Err(error) => Err(refusal_of(error)),
+            Err(error) => Err(Refusal::from(error)),
         },
-        _ => io::Write::write_all(text, bytes).map_err(refusal_of),
-    }
-}
-
-fn refusal_of(error: io::Error) -> Refusal {
-    match error.kind() {
-        io::ErrorKind::OutOfMemory => Refusal::Memory,
-        _ => Refusal::Io,
+        _ => io::Write::write_all(text, bytes).map_err(Refusal::from),
     }
 }
 
