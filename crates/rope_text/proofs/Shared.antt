@@ -14,8 +14,8 @@ use Rattle.rope_text.specs.declared.rope.TheConstants.{MAX_TOTAL}
 use Rattle.rope_text.specs.Growth.{Grows, RoomMay, TotalMust, listed_unless_empty, piece_of}
 use Rattle.rope_text.specs.Parts.{PartMay, SharesPart, SubRope}
 use Rattle.rope_text.specs.Ropes.{RopeText, bytes_of_all}
-use Rattle.tendril_text.specs.declared.error.SubtendrilError.{SubtendrilError}
-use Rattle.tendril_text.specs.Errors.{refusal_of}
+use Rattle.tendril_block.specs.declared.subtendril_error.SubtendrilError.{SubtendrilError}
+use Rattle.tendril_block.specs.Errors.{refusal_of}
 use Rattle.tendril_text.specs.Parts.{Slices}
 use Rattle.tendril_text.specs.Texts.{Text, Shares}
 

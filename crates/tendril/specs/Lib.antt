@@ -1,7 +1,7 @@
 -- The definitions that a caller's contracts and proofs cite. Those of formats are in `Fmt`; lemmas are in `Proofs`.
 pub use Rattle.tendril_text.specs.Texts
 pub use Rattle.tendril_text.specs.Edits
-pub use Rattle.tendril_text.specs.Errors
+pub use Rattle.tendril_block.specs.Errors
 pub use Rattle.tendril_text.specs.Making
 pub use Rattle.tendril_text.specs.Parts
 pub use Rattle.tendril_text.specs.Pushes

@@ -15,6 +15,7 @@ mod pointer;
 mod refusal;
 mod sole;
 mod stored;
+mod subtendril_error;
 mod tail;
 
 pub use atomic::{Atomic, AtomicUpTo, LocalBlock, NonAtomic, SharedBlock};
@@ -24,5 +25,6 @@ pub use few::NODE_CAPACITY;
 pub use holder::{CountedBy, Holder};
 pub use refusal::Refusal;
 pub use sole::Sole;
+pub use subtendril_error::SubtendrilError;
 pub use tail::Tail;
 pub use tendril_count::interleavings;

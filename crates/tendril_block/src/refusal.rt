@@ -112,9 +112,8 @@ impl From<io::Error> for Refusal {
     ghost use Rattle.std.specs.declared.io.ErrorKind.TheVariants.{OutOfMemory};
     ghost use Rattle.tendril_block.specs.declared.refusal.Refusal.TheVariants.{Io, Memory};
 
-    ghost from_gives = {
-        λ error r. (error_kind error ≡ OutOfMemory → r ≡ Memory) × (error_kind error ≢ OutOfMemory → r ≡ Io)
-    };
+    ghost from_gives = { λ error r. (error_kind error ≡ OutOfMemory → r ≡ Memory)
+        × (error_kind error ≢ OutOfMemory → r ≡ Io) };
 
     fn from(error: io::Error) -> Self {
         match error.kind() {

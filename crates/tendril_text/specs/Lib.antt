@@ -1,7 +1,6 @@
 -- Definitions for the contracts of texts.
 pub use Rattle.tendril_storage.specs.Texts
 pub use Rattle.tendril_storage.specs.Edits
-pub mod Errors
 pub mod Making
 pub mod Parts
 pub mod Pushes

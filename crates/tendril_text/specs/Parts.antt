@@ -1,8 +1,8 @@
 -- Clones, slices, pops and splits of a text.
 use Rattle.std.specs.Prelude.{ℕ, ◌≡◌, ◌≤◌, List, length, take, drop, Option, Result, Ok, Err}
 use Rattle.tendril_block.specs.declared.refusal.Refusal.{Refusal}
-use Rattle.tendril_text.specs.declared.error.SubtendrilError.{SubtendrilError}
-use Rattle.tendril_text.specs.Errors.{refusal_of}
+use Rattle.tendril_block.specs.declared.subtendril_error.SubtendrilError.{SubtendrilError}
+use Rattle.tendril_block.specs.Errors.{refusal_of}
 use Rattle.tendril_block.specs.Outcomes.{NoneMust, CutMust, SliceMust, PopMust, NoneMay, CountMay, Gives, Outcome}
 use Rattle.tendril_storage.specs.Partings.{BothLong, IsParted, TakesFront}
 use Rattle.tendril_storage.specs.Texts.{Text, Shares, Keeps}

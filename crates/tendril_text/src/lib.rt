@@ -4,7 +4,6 @@
 
 mod byte_set;
 mod chars;
-mod error;
 mod items;
 mod iter;
 mod search;
@@ -13,7 +12,6 @@ mod utf8_decode;
 mod view;
 
 pub use crate::byte_set::ByteSet;
-pub use crate::error::SubtendrilError;
 pub use crate::iter::{IntoCharRuns, IntoChars, IntoLines, IntoSplit, SplitAtAny};
 pub use crate::search::SetResult;
 pub use crate::tendril::{
@@ -22,7 +20,7 @@ pub use crate::tendril::{
 pub use crate::utf8_decode::{ClosureText, IncompleteUtf8, LastText};
 pub use crate::view::View;
 pub use tendril_block as block;
-pub use tendril_block::{Atomic, Atomicity, NonAtomic};
+pub use tendril_block::{Atomic, Atomicity, NonAtomic, SubtendrilError};
 pub use tendril_fmt::fmt::{CharFormat, Format};
 pub use tendril_fmt::{fmt, futf};
 pub use tendril_lossy as lossy;

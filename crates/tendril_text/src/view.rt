@@ -2,11 +2,10 @@
 ghost use Rattle.std.specs.Prelude.{◌≡◌, ◌<◌, ◌≤◌, ◌+◌, length};
 ghost use Rattle.tendril_text.specs.Parts.{Clones, SlicesValid};
 
-use crate::error::SubtendrilError;
 use crate::tendril::{Tendril, debug, share, try_part};
 use std::fmt::{self, Debug, Formatter, Write};
 use std::marker::{Model, PhantomData};
-use tendril_block::{Atomicity, MAX_LEN, Refusal};
+use tendril_block::{Atomicity, MAX_LEN, Refusal, SubtendrilError};
 use tendril_fmt::fmt::{Bytes, Format, UTF8};
 use tendril_storage::Storage;
 

@@ -3,11 +3,10 @@ ghost use Rattle.std.specs.Prelude.{◌≡◌, ◌<◌, ◌≤◌, ◌+◌, ◌-
 ghost use Rattle.tendril_storage.specs.Partings.{TakesFew};
 ghost use Rattle.tendril_text.specs.Parts.{Slices, SlicesValid, PopsValid, Splits, SplitsValid};
 
-use crate::error::SubtendrilError;
 use crate::tendril::Tendril;
 use std::marker::PhantomData;
 use std::mem;
-use tendril_block::{Atomicity, INLINE_LEN, Refusal};
+use tendril_block::{Atomicity, INLINE_LEN, Refusal, SubtendrilError};
 use tendril_fmt::fmt::{Bytes, Format, UTF8};
 use tendril_storage::Storage;
 

@@ -1,8 +1,12 @@
 -- The errors of slices, pops and splits.
 use Rattle.tendril_block.specs.declared.refusal.Refusal.{Refusal}
 use Rattle.tendril_block.specs.declared.refusal.Refusal.TheVariants as refusal
-use Rattle.tendril_text.specs.declared.error.SubtendrilError.{SubtendrilError}
-use Rattle.tendril_text.specs.declared.error.SubtendrilError.TheVariants.{OutOfBounds, ValidationFailed, Count}
+use Rattle.tendril_block.specs.declared.subtendril_error.SubtendrilError.{SubtendrilError}
+use Rattle.tendril_block.specs.declared.subtendril_error.SubtendrilError.TheVariants.{
+  OutOfBounds,
+  ValidationFailed,
+  Count,
+}
 
 -- the `Refusal` of the same name
 abbrev pub refusal_of : SubtendrilError → Refusal

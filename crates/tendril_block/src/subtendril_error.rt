@@ -1,8 +1,8 @@
 //! The errors of slices, pops and splits.
 
+use crate::refusal::Refusal;
 use std::error::Error;
 use std::fmt;
-use tendril_block::Refusal;
 
 /// Why a slice, a pop or a split returned an error. Where several reasons apply, it is the first of these.
 ///
@@ -19,7 +19,7 @@ pub enum SubtendrilError {
 
 impl From<SubtendrilError> for Refusal {
     ghost use Rattle.std.specs.Prelude.{◌≡◌};
-    ghost use Rattle.tendril_text.specs.Errors.{refusal_of};
+    ghost use Rattle.tendril_block.specs.Errors.{refusal_of};
 
     ghost from_gives = { λ error refusal. refusal ≡ refusal_of error };
 
@@ -34,7 +34,7 @@ impl From<SubtendrilError> for Refusal {
 
 impl fmt::Display for SubtendrilError {
     ghost use Rattle.std.specs.Prelude.{Some};
-    ghost use Rattle.tendril_text.specs.Errors.{refusal_of};
+    ghost use Rattle.tendril_block.specs.Errors.{refusal_of};
     ghost use Rattle.tendril_block.specs.Refusals.{name_of};
 
     ghost output = { λ e. Some (name_of (refusal_of e)) };
