@@ -3,7 +3,7 @@ ghost use Rattle.std.specs.Prelude.{◌≡◌, ◌<◌, ◌≤◌, ◌↔◌, �
 ghost use Rattle.memchr.specs.Find.{IsFirstByte, is_byte};
 ghost use Rattle.tendril_fmt.specs.Parts.{IsFrontOf};
 ghost use Rattle.tendril_storage.specs.Texts.{Keeps};
-ghost use Rattle.tendril_text.specs.Search.{has_byte, EndsBefore, PartsBefore, BeginsWithOne, HasLongPartBefore, TakesPart, part_bytes};
+ghost use Rattle.tendril_text.specs.Search.{has_byte, EndsBefore, PartsBefore, BeginsWithOne, HasLongPartBefore, IsTable, TakesPart, part_bytes};
 
 use crate::byte_set::ByteSet;
 use crate::tendril::Tendril;
@@ -22,7 +22,8 @@ impl<F: Format, A: Atomicity> Tendril<F, A> {
     /// assert_eq!(rt; text.find_any(&ByteSet::new(b"&<")), Some(2));
     /// ```
     pub fn find_any(&self, set: &ByteSet) -> Option<u32>
-        ensures { IsFirstByte (has_byte set.now) self.now.bytes result }
+        ensures first { IsFirstByte (has_byte set.now) self.now.bytes result }
+        ensures table { IsTable set.now }
     {
         let place = set.find_in(self.as_byte_slice())?;
         Some(place as u32)
