@@ -1,6 +1,6 @@
 use Rattle.std.proofs.Common.{◌≡◌, ◌∙◌, ◌-◌, length, drop, sym, subst, ap}
 use Rattle.tendril_text.proofs.Decoding.{Answers, rest_of}
-use Rattle.tendril_text.proofs.utf8_decode.IncompleteUtf8.complete_from.Goals as goal
+use Rattle.tendril_text.proofs.utf8_decode.incomplete.IncompleteUtf8.complete_from.Goals as goal
 
 pub overflow_sub-taken : goal.overflow_sub-taken
 overflow_sub-taken g c = (rest_of c.args.self.now c.as_byte_slice-bytes.result.now c.in-Some.rest.now c.in-Some.completed c.in-Some.ensures.completed).0

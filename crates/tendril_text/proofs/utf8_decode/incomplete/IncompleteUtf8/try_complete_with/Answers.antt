@@ -1,7 +1,7 @@
 use Rattle.std.proofs.Common.{◌∙◌, sym, subst, ap, arith}
 use Rattle.tendril_text.proofs.Decoding.{Says, says_text, says_replacement}
-use Rattle.tendril_text.proofs.utf8_decode.IncompleteUtf8.try_complete_with.Goals.{in-Ok, in-Err}
-use Rattle.tendril_text.proofs.utf8_decode.IncompleteUtf8.try_complete_with.Goals as goal
+use Rattle.tendril_text.proofs.utf8_decode.incomplete.IncompleteUtf8.try_complete_with.Goals.{in-Ok, in-Err}
+use Rattle.tendril_text.proofs.utf8_decode.incomplete.IncompleteUtf8.try_complete_with.Goals as goal
 
 pub returns-clause-ok : goal.returns-clause-ok
 returns-clause-ok g c =

@@ -3,7 +3,7 @@ use Rattle.std.proofs.lemmas.Bool.Decides.{nat_tests}
 use Rattle.tendril_lossy.proofs.Fronts.{text-not_open}
 use Rattle.tendril_lossy.specs.Completions.{Completes}
 use Rattle.tendril_lossy.specs.Lossy.{IsOpen}
-use Rattle.tendril_text.proofs.utf8_decode.IncompleteUtf8.new.Goals as goal
+use Rattle.tendril_text.proofs.utf8_decode.incomplete.IncompleteUtf8.new.Goals as goal
 
 pub returns-in-Text : goal.returns-in-Text
 returns-in-Text c o =
