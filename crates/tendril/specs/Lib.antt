@@ -14,6 +14,7 @@ pub use Rattle.tendril_text.specs.Search
 pub use Rattle.tendril_text.specs.Splits
 pub use Rattle.tendril_text.specs.Iterators
 pub use Rattle.tendril_stream.specs.Sinks
+pub use Rattle.tendril_stream.specs.SentBytes
 pub use Rattle.tendril_stream.specs.Events
 pub use Rattle.tendril_stream.specs.Decoders
 pub use Rattle.tendril_stream.specs.Compositions

@@ -1,5 +1,6 @@
 -- The definitions that contracts on streams cite.
 pub mod Sinks
+pub mod SentBytes
 pub mod Events
 pub mod Decoders
 pub mod Compositions

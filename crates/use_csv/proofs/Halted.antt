@@ -12,10 +12,11 @@ use Rattle.tendril.specs.Readings.{Halts}
 use Rattle.tendril.specs.Reads.{OneRead, given}
 use Rattle.tendril.specs.Refusal.{Refusal}
 use Rattle.tendril.specs.Refusal.TheVariants.{Failed}
+use Rattle.tendril.specs.SentBytes.{sent_bytes, told_bytes}
 use Rattle.tendril.specs.Sinks.{Sent, IsSent, told_of}
 use Rattle.use_csv.proofs.Whole.{After, Takes, goes_on}
-use Rattle.use_csv.specs.Follows.{told_bytes, unmarked-append}
-use Rattle.use_csv.specs.Spelled.{piece_bytes, unmarked}
+use Rattle.use_csv.specs.Follows.{unmarked-append}
+use Rattle.use_csv.specs.Spelled.{unmarked}
 
 -- the UTF-8 of what was sent, without quotes and line ends
 abbrev plain : List Told → List ℕ
@@ -33,7 +34,7 @@ told-append start t more =
 module _ {S : Type 0} (spelled given_on : S → List ℕ) (start : List ℕ)
     (front : (a : S) → IsFrontOf (unmarked (given_on a)) (unmarked (spelled a))) where
   abbrev pub Refuses : S → Sent → Refusal → S → Type 0
-  Refuses a e r b = IsFrontOf (unmarked (given_on b)) (unmarked (spelled a ++ piece_bytes e))
+  Refuses a e r b = IsFrontOf (unmarked (given_on b)) (unmarked (spelled a ++ sent_bytes e))
 
   -- after the bytes `start`, it has sent on a prefix of this
   abbrev pub Front : S → List Told → Type 0
@@ -54,8 +55,8 @@ module _ {S : Type 0} (spelled given_on : S → List ℕ) (start : List ℕ)
     stopped.0,
     told-append start t (told_of e)
         ∙ ap (λ l. (start ++ plain t) ++ unmarked l) (told_bytes e text)
-        ∙ ap (λ l. l ++ unmarked (piece_bytes e)) (sym h)
-        ∙ sym (unmarked-append (spelled a) (piece_bytes e))
+        ∙ ap (λ l. l ++ unmarked (sent_bytes e)) (sym h)
+        ∙ sym (unmarked-append (spelled a) (sent_bytes e))
         ∙ stopped.1,
   )
 

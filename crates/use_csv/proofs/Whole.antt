@@ -8,14 +8,15 @@ use Rattle.tendril.specs.Compositions.{FollowsCalls}
 use Rattle.tendril.specs.Decoders.{Ends}
 use Rattle.tendril.specs.Readings.{Receives}
 use Rattle.tendril.specs.Reads.{OneRead, given}
+use Rattle.tendril.specs.SentBytes.{sent_bytes}
 use Rattle.tendril.specs.Sinks.{Sent}
 use Rattle.use_csv.specs.Follows.{unmarked_on}
-use Rattle.use_csv.specs.Spelled.{piece_bytes, unmarked}
+use Rattle.use_csv.specs.Spelled.{unmarked}
 
 -- over sinks that spell bytes
 module _ {S : Type 0} (spelled : S → List ℕ) where
   abbrev pub Takes : S → Sent → S → Type 0
-  Takes a e b = unmarked (spelled b) ≡ unmarked (spelled a ++ piece_bytes e)
+  Takes a e b = unmarked (spelled b) ≡ unmarked (spelled a ++ sent_bytes e)
 
   -- after the bytes `start`, it spells what was sent to it
   abbrev pub After : List ℕ → S → List Told → Type 0

@@ -1,7 +1,6 @@
 -- The bytes that records spell, and the bytes of a text that they don't.
 use Rattle.std.specs.Prelude.{ℕ, ◌≡◌, ◌⊎◌, Bool, true, ◌==◌, ◌||◌, not, List, [], ◌∷◌, ◌++◌, map, flat_map}
 use Rattle.std.specs.List.{filter, join_with_byte}
-use Rattle.tendril.specs.Sinks.{Sent, Piece, Fault}
 use Rattle.tendril.specs.Texts.{Text}
 use Rattle.use_csv.specs.declared.partial.PartialRecord.{PartialRecord}
 use Rattle.use_csv.specs.declared.record.Record.{Record}
@@ -35,8 +34,3 @@ abbrev pub TakesCsv : List ℕ → List ℕ → List ℕ → List ℕ → Type 0
 TakesCsv spelled left spelled' left' =
     (spelled' ++ left' ≡ spelled ++ left)
     ⊎ ((spelled' ≡ spelled) × ((b : ℕ) × (is_mark b ≡ true) × (left ≡ b ∷ left')))
-
--- the bytes that a call of a sink sends: those of a text, none for an error
-abbrev pub piece_bytes : Sent → List ℕ
-piece_bytes (Piece t) = t.bytes
-piece_bytes (Fault words) = []

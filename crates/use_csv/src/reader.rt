@@ -191,15 +191,16 @@ impl<K: RecordSink> CsvReader<K> {
 impl<K: RecordSink> TendrilSink<StrTendril> for CsvReader<K> {
     ghost use Rattle.std.specs.Prelude.{◌≡◌, ◌++◌};
     ghost use Rattle.tendril.specs.Fmt.Parts.{IsFrontOf};
-    ghost use Rattle.use_csv.specs.Spelled.{piece_bytes, record_bytes, spelled_so_far, unmarked};
+    ghost use Rattle.tendril.specs.SentBytes.{sent_bytes};
+    ghost use Rattle.use_csv.specs.Spelled.{record_bytes, spelled_so_far, unmarked};
 
     type Output = K;
 
     ghost takes = { λ a e b. unmarked (spelled_so_far (K.records b.sink) b.partial)
-        ≡ unmarked (spelled_so_far (K.records a.sink) a.partial ++ piece_bytes e) };
+        ≡ unmarked (spelled_so_far (K.records a.sink) a.partial ++ sent_bytes e) };
 
     ghost refuses = { λ a e r b. IsFrontOf (unmarked (record_bytes (K.records b.sink)))
-        (unmarked (spelled_so_far (K.records a.sink) a.partial ++ piece_bytes e)) };
+        (unmarked (spelled_so_far (K.records a.sink) a.partial ++ sent_bytes e)) };
 
     ghost finishes = { λ a out. record_bytes (K.records out) ≡ spelled_so_far (K.records a.sink) a.partial };
 

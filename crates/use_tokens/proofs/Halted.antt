@@ -12,10 +12,10 @@ use Rattle.tendril.specs.Proofs.Refused.{DecoderTakes}
 use Rattle.tendril.specs.Decoders.{DecodingStops}
 use Rattle.tendril.specs.Readings.{Halts}
 use Rattle.tendril.specs.Reads.{OneRead, given}
+use Rattle.tendril.specs.SentBytes.{sent_bytes, told_bytes}
 use Rattle.tendril.specs.Sinks.{Sent, IsSent, told_of}
 use Rattle.use_tokens.proofs.Whole.{After, Takes, goes_on}
-use Rattle.use_tokens.specs.Follows.{told_bytes}
-use Rattle.use_tokens.specs.Spelled.{sent_bytes, joined_sources}
+use Rattle.use_tokens.specs.Spelled.{joined_sources}
 use Rattle.use_tokens.specs.declared.token.Token.{Token}
 
 -- the bytes of what was sent, and of more

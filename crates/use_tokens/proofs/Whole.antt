@@ -9,9 +9,10 @@ use Rattle.tendril.specs.Compositions.{FollowsCalls}
 use Rattle.tendril.specs.Decoders.{Ends}
 use Rattle.tendril.specs.Readings.{Receives}
 use Rattle.tendril.specs.Reads.{OneRead, given}
+use Rattle.tendril.specs.SentBytes.{sent_bytes}
 use Rattle.tendril.specs.Sinks.{Sent}
 use Rattle.use_tokens.specs.Follows.{spelled_on}
-use Rattle.use_tokens.specs.Spelled.{TokensSpell, sent_bytes, joined_sources}
+use Rattle.use_tokens.specs.Spelled.{TokensSpell, joined_sources}
 use Rattle.use_tokens.specs.declared.token.Token.{Token}
 
 -- over sinks that have tokens and pending bytes

@@ -1,17 +1,13 @@
 -- A tokenizer spells the UTF-8 of what was sent to it.
-use Rattle.std.proofs.Common.{◌≡◌, ℕ, List, [], ◌∷◌, ◌++◌, map, refl, sym, ap, ◌∙◌, append_assoc, append-nil}
-use Rattle.std.proofs.lemmas.Str.{encodes-append, encodes-chars}
-use Rattle.std.specs.Prelude.{chars, encode_utf8_all}
-use Rattle.tendril.specs.Proofs.Told.{characters-append, characters-map}
+use Rattle.std.proofs.Common.{◌≡◌, ℕ, List, ◌++◌, sym, ap, ◌∙◌, append_assoc}
+use Rattle.std.proofs.lemmas.Str.{encodes-append}
+use Rattle.std.specs.Prelude.{encode_utf8_all}
+use Rattle.tendril.specs.Proofs.Told.{characters-append}
 use Rattle.tendril.specs.Lossy.{Told, characters}
-use Rattle.tendril.specs.Sinks.{Sent, Piece, Fault, IsSent, told_of}
-use Rattle.use_tokens.specs.Spelled.{TokensSpell, sent_bytes, joined_sources}
+use Rattle.tendril.specs.SentBytes.{sent_bytes, told_bytes}
+use Rattle.tendril.specs.Sinks.{Sent, IsSent, told_of}
+use Rattle.use_tokens.specs.Spelled.{TokensSpell, joined_sources}
 use Rattle.use_tokens.specs.declared.token.Token.{Token}
-
--- the characters that a call sends have its bytes as their UTF-8
-pub told_bytes : (e : Sent) → IsSent e → encode_utf8_all (characters (told_of e)) ≡ sent_bytes e
-told_bytes (Piece t) is = ap encode_utf8_all (characters-map (chars t.bytes)) ∙ encodes-chars t.bytes is.1
-told_bytes (Fault words) is = refl
 
 -- one more call of the sink keeps this, after bytes `start` of earlier tokens
 pub spelled_on : (start : List ℕ) (told : List Told) (e : Sent) (tokens : List Token) (held : List ℕ)

@@ -1,7 +1,6 @@
 -- The bytes that tokens spell.
 use Rattle.std.specs.Prelude.{ℕ, ◌≡◌, List, [], ◌++◌, flat_map}
 use Rattle.tendril_queue.specs.Queues.{Queued}
-use Rattle.tendril.specs.Sinks.{Sent, Piece, Fault}
 use Rattle.use_tokens.specs.declared.state.State.{State}
 use Rattle.use_tokens.specs.declared.state.State.TheVariants.{Outside, Inside}
 use Rattle.use_tokens.specs.declared.token.Token.{Token}
@@ -22,8 +21,3 @@ begun_bytes (Inside markup begun) = begun.bytes
 -- the pending bytes: those of incomplete markup, and of texts that aren't processed yet
 abbrev pub pending : State → Queued → List ℕ
 pending state input = begun_bytes state ++ input.bytes
-
--- the bytes that a call sends: those of a text, none for an error
-abbrev pub sent_bytes : Sent → List ℕ
-sent_bytes (Piece t) = t.bytes
-sent_bytes (Fault words) = []

@@ -275,7 +275,8 @@ fn joined(begun: StrTendril, mut input: TextQueue) -> Result<StrTendril, Refusal
 impl<K: TokenSink> TendrilSink<StrTendril> for Tokenizer<K> {
     ghost use Rattle.std.specs.Prelude.{◌<◌, ◌++◌, [], length};
     ghost use Rattle.tendril.specs.Fmt.Parts.{IsFrontOf};
-    ghost use Rattle.use_tokens.specs.Spelled.{TokensSpell, pending, sent_bytes, joined_sources};
+    ghost use Rattle.tendril.specs.SentBytes.{sent_bytes};
+    ghost use Rattle.use_tokens.specs.Spelled.{TokensSpell, pending, joined_sources};
 
     type Output = K;
 
