@@ -11,7 +11,7 @@ use Rattle.rope_run.specs.declared.command.RopeReply.{RopeReply}
 use Rattle.rope_run.specs.declared.command.RopeReply.TheVariants.{Plain}
 use Rattle.tendril_script.specs.Commands.{CommandAnswers}
 use Rattle.tendril_script.specs.Sessions.{RanFrom}
-use Rattle.tendril_script.specs.WhiteSpace.{class}
+use Rattle.tendril_run.specs.WhiteSpace.{class}
 
 -- a table without slots and ropes
 abbrev pub no_cells : Cells

@@ -2,10 +2,9 @@
 ghost use Rattle.std.specs.Prelude.{◌≡◌};
 ghost use Rattle.rope_cli.specs.RopeSessions.{RopeReplies, no_cells};
 
-use crate::white_space::WhiteSpace;
 use rope::{RopeCommand, RopeReply, RopeTable, parse_rope_line, print_rope_reply};
 use std::alloc::Global;
-use tendril_run::{Reply, Table};
+use tendril_run::{Reply, Table, WhiteSpace};
 use tendril_script::Lines;
 use tendril_text::NonAtomic;
 use tendril_text::block::Refusal;

@@ -10,7 +10,7 @@ use Rattle.tendril_lines.specs.declared.command.Reply.{Reply}
 use Rattle.tendril_lines.specs.declared.command.Reply.TheVariants.{Refused}
 use Rattle.tendril_script.specs.Commands.{CommandAnswers}
 use Rattle.tendril_script.specs.Sessions.{RanFrom}
-use Rattle.tendril_script.specs.WhiteSpace.{class}
+use Rattle.tendril_run.specs.WhiteSpace.{class}
 
 -- the reply to a command: that of its step, or Memory before the step, and nothing changed
 abbrev pub Replies : List Cell → Command → Reply → List Cell → Type 0

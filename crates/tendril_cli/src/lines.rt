@@ -2,9 +2,8 @@
 ghost use Rattle.std.specs.Prelude.{◌≡◌, []};
 ghost use Rattle.tendril_cli.specs.Sessions.{Replies};
 
-use crate::white_space::WhiteSpace;
 use std::alloc::Global;
-use tendril_run::{Command, Reply, Table, parse_line, print_reply};
+use tendril_run::{Command, Reply, Table, WhiteSpace, parse_line, print_reply};
 use tendril_script::Lines;
 use tendril_text::NonAtomic;
 use tendril_text::block::Refusal;

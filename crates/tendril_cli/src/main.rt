@@ -7,7 +7,6 @@ mod lines;
 mod program;
 #[cfg(test)]
 mod tests;
-mod white_space;
 
 use program::program_with_arguments;
 use std::process::ExitCode;

@@ -9,3 +9,4 @@ pub mod OneCell
 pub mod Steps
 pub mod Chains
 pub mod Jobs
+pub mod WhiteSpace

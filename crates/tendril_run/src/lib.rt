@@ -12,7 +12,7 @@ mod table;
 mod text;
 mod workers;
 
-pub use classifier::Classifier;
+pub use classifier::{Classifier, WhiteSpace};
 pub use gate::Gate;
 pub use slot::Slot;
 pub use table::{Table, run};

@@ -3,6 +3,5 @@ pub mod Commands
 pub mod Endings
 pub mod HeldBack
 pub mod Sessions
-pub mod WhiteSpace
 pub mod Words
 pub mod Writing

@@ -11,7 +11,6 @@ mod output;
 mod program;
 mod refusals;
 mod script;
-mod white_space;
 
 pub use arguments::{asks_to_run, words_of};
 pub use input::run_input;
@@ -20,4 +19,3 @@ pub use output::{flush, write_bytes};
 pub use program::{Program, run_program, run_words};
 pub use refusals::refuse;
 pub use script::run_script;
-pub use white_space::class_of;
