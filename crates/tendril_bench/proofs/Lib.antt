@@ -1,3 +1,4 @@
+pub mod Commas
 pub mod Doubles
 pub mod Pushed
 pub mod Resumed

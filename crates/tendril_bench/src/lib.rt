@@ -5,6 +5,7 @@
 pub mod broken;
 pub mod callers;
 pub mod doubled;
+pub mod fields;
 pub mod join;
 pub mod lent;
 pub mod lines;
