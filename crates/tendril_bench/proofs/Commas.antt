@@ -1,5 +1,5 @@
 -- The fields of a line, between commas.
-use Rattle.std.proofs.Common.{◌≡◌, ◌<◌, ◌≤◌, ℕ, Bool, true, List, [], ◌∷◌, ◌++◌, map, sym, subst, arith}
+use Rattle.std.proofs.Common.{◌≡◌, ℕ, Bool, true, List, map, sym, subst, arith}
 use Rattle.std.proofs.lemmas.List.Elements.{All-map, All-push}
 use Rattle.std.specs.Prelude.{All}
 use Rattle.std.specs.Str.Iter.{LacksByte}
