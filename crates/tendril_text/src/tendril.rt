@@ -7,6 +7,7 @@ mod compare;
 mod convert;
 mod make;
 mod part;
+mod pop;
 mod print;
 mod push;
 mod read;

@@ -1,7 +1,7 @@
-//! Slices, pops and splits.
-ghost use Rattle.std.specs.Prelude.{◌≡◌, ◌<◌, ◌≤◌, ◌+◌, ◌-◌, ◌↔◌, ◌++◌, [], length, take, drop, IfOk, IsTrue, IsUtf8};
+//! Slices and splits.
+ghost use Rattle.std.specs.Prelude.{◌≡◌, ◌<◌, ◌≤◌, ◌+◌, ◌↔◌, ◌++◌, [], length, take, drop, IfOk, IsTrue, IsUtf8};
 ghost use Rattle.tendril_storage.specs.Partings.{TakesFew};
-ghost use Rattle.tendril_text.specs.Parts.{Slices, SlicesValid, PopsValid, Splits, SplitsValid};
+ghost use Rattle.tendril_text.specs.Parts.{Slices, SlicesValid, Splits, SplitsValid};
 
 use crate::tendril::Tendril;
 use std::marker::PhantomData;
@@ -11,7 +11,6 @@ use tendril_fmt::fmt::{Bytes, Format, UTF8};
 use tendril_storage::Storage;
 
 impl<F: Format, A: Atomicity> Tendril<F, A> {
-    ghost use Rattle.tendril_storage.specs.Texts.{Keeps};
     ghost use Rattle.tendril_storage.specs.Partings.{TakesFront};
 
     /// Returns a text of the `count` bytes from `offset` on, if they are there and valid in the format.
@@ -57,114 +56,6 @@ impl<F: Format, A: Atomicity> Tendril<F, A> {
         ensures { Slices self.now.bytes offset count result }
     {
         self.subtendril(offset, count)
-    }
-
-    /// Drops the first `count` bytes, if they are there and the remainder is valid in the format.
-    ///
-    /// Returns `OutOfBounds` if the text has fewer, else `ValidationFailed` if the remainder isn't valid; then nothing has
-    /// changed. Takes constant time and allocates nothing.
-    ///
-    /// ```
-    /// let mut text = StrTendril::from_slice(alloc, "é!")?;
-    /// assert_eq!(rt; text.try_pop_front(1).err(), Some(SubtendrilError::ValidationFailed));
-    /// text.try_pop_front(2)?;
-    /// assert_eq!(rt; text.as_str(), "!");
-    /// ```
-    pub fn try_pop_front(&mut self, count: u32) -> Result<(), SubtendrilError>
-        ensures { PopsValid F.valid count (drop count self.old.bytes) self.old result self.new }
-    {
-        let text = self.as_byte_slice();
-        if count as usize > text.len() {
-            return Err(SubtendrilError::OutOfBounds);
-        }
-        if !is_end_valid::<F>(text, count as usize) {
-            return Err(SubtendrilError::ValidationFailed);
-        }
-        self.pop_front(count);
-        Ok(())
-    }
-
-    /// Drops the last `count` bytes, if they are there and the remainder is valid in the format.
-    ///
-    /// Returns `OutOfBounds` if the text has fewer, else `ValidationFailed` if the remainder isn't valid; then nothing has
-    /// changed. Takes constant time and allocates nothing.
-    ///
-    /// ```
-    /// let mut text = StrTendril::from_slice(alloc, "hello!")?;
-    /// text.try_pop_back(1)?;
-    /// assert_eq!(rt; text.as_str(), "hello");
-    /// ```
-    pub fn try_pop_back(&mut self, count: u32) -> Result<(), SubtendrilError>
-        ensures { let rest = take (length self.old.bytes - count) self.old.bytes in
-            PopsValid F.valid count rest self.old result self.new }
-    {
-        let text = self.as_byte_slice();
-        let Some(end) = text.len().checked_sub(count as usize) else {
-            return Err(SubtendrilError::OutOfBounds);
-        };
-        if !is_front_valid::<F>(text, end) {
-            return Err(SubtendrilError::ValidationFailed);
-        }
-        self.pop_back(count);
-        Ok(())
-    }
-
-    /// Drops the first `count` bytes, which the caller proves to be there and to leave a valid text.
-    ///
-    /// Takes constant time and allocates nothing.
-    ///
-    /// ```
-    /// let mut text = StrTendril::from_slice(alloc, "/path")?;
-    /// text.pop_front(1);
-    /// assert_eq!(rt; text.as_str(), "path");
-    /// ```
-    pub fn pop_front(&mut self, count: u32)
-        requires within { count ≤ length self.old.bytes }
-        requires valid { F.valid (drop count self.old.bytes) }
-        ensures bytes { self.new.bytes ≡ drop count self.old.bytes }
-        ensures copied { Keeps self.old self.new }
-    {
-        self.unsafe_pop_front(count);
-    }
-
-    /// Drops the last `count` bytes, which the caller proves to be there and to leave a valid text.
-    ///
-    /// Takes constant time and allocates nothing.
-    ///
-    /// ```
-    /// let mut text = StrTendril::from_slice(alloc, "line\n")?;
-    /// text.pop_back(1);
-    /// assert_eq!(rt; text.as_str(), "line");
-    /// ```
-    pub fn pop_back(&mut self, count: u32)
-        requires within { count ≤ length self.old.bytes }
-        requires valid { F.valid (take (length self.old.bytes - count) self.old.bytes) }
-        ensures bytes { self.new.bytes ≡ take (length self.old.bytes - count) self.old.bytes }
-        ensures copied { Keeps self.old self.new }
-    {
-        self.unsafe_pop_back(count);
-    }
-
-    /// Drops the first `count` bytes, as `pop_front` does. The caller proves its conditions, so no call is unsafe.
-    pub fn unsafe_pop_front(&mut self, count: u32)
-        requires within { count ≤ length self.old.bytes }
-        requires valid { F.valid (drop count self.old.bytes) }
-        ensures bytes { self.new.bytes ≡ drop count self.old.bytes }
-        ensures copied { Keeps self.old self.new }
-    {
-        let rest = self.len32() - count;
-        self.storage.keep_part(count, rest);
-    }
-
-    /// Drops the last `count` bytes, as `pop_back` does. The caller proves its conditions, so no call is unsafe.
-    pub fn unsafe_pop_back(&mut self, count: u32)
-        requires within { count ≤ length self.old.bytes }
-        requires valid { F.valid (take (length self.old.bytes - count) self.old.bytes) }
-        ensures bytes { self.new.bytes ≡ take (length self.old.bytes - count) self.old.bytes }
-        ensures copied { Keeps self.old self.new }
-    {
-        let rest = self.len32() - count;
-        self.storage.keep_part(0, rest);
     }
 
     /// Removes the first `count` bytes and returns them, if they are there and both sides are valid in the format.
@@ -325,7 +216,7 @@ fn are_parts_valid<F: Format>(bytes: &[u8], count: usize) -> bool
 
 // Whether a suffix of valid bytes is valid.
 #[inline(always)]
-fn is_end_valid<F: Format>(bytes: &[u8], offset: usize) -> bool
+pub(crate) fn is_end_valid<F: Format>(bytes: &[u8], offset: usize) -> bool
     requires valid { F.valid bytes.now }
     requires within { offset ≤ length bytes.now }
     ensures { IsTrue result ↔ F.valid (drop offset bytes.now) }
@@ -335,7 +226,7 @@ fn is_end_valid<F: Format>(bytes: &[u8], offset: usize) -> bool
 
 // Whether a prefix of valid bytes is valid.
 #[inline(always)]
-fn is_front_valid<F: Format>(bytes: &[u8], count: usize) -> bool
+pub(crate) fn is_front_valid<F: Format>(bytes: &[u8], count: usize) -> bool
     requires valid { F.valid bytes.now }
     requires within { count ≤ length bytes.now }
     ensures { IsTrue result ↔ F.valid (take count bytes.now) }
