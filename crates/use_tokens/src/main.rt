@@ -1,6 +1,7 @@
 //! Splits HTML on standard input into tokens, and prints each.
 #![tactic(auto)]
 
+mod joined;
 mod markup;
 mod print;
 mod state;

@@ -1,8 +1,9 @@
 //! A sink of texts that splits them into tokens.
 ghost use Rattle.std.specs.Prelude.{◌≡◌, ◌<◌, ◌≤◌, ◌+◌, ◌++◌, [], length, slice_index, IfOk, IsTrue, OnOk, OnErr};
 ghost use Rattle.tendril.specs.Fmt.Parts.{IsFrontOf};
-ghost use Rattle.use_tokens.specs.Spelled.{TokensSpell, begun_bytes, pending, joined_sources};
+ghost use Rattle.use_tokens.specs.Spelled.{TokensSpell, pending, joined_sources};
 
+use crate::joined::{append, begun_text, joined};
 use crate::markup::Markup;
 use crate::state::State;
 use crate::token::{Kind, Token, TokenSink};
@@ -237,39 +238,6 @@ impl<K: TokenSink> Tokenizer<K> {
         }
         self.sink.process_token(Token { kind, source })
     }
-}
-
-// Appends a text to another one, which becomes the appended text if it was empty.
-fn append(text: &mut StrTendril, more: StrTendril) -> Result<(), Refusal>
-    ensures { OnOk result (text.new.bytes ≡ text.old.bytes ++ more.bytes) }
-{
-    if text.is_empty() {
-        *text = more;
-        return Ok(());
-    }
-    text.push_tendril(&more)
-}
-
-// The bytes of incomplete markup, or the empty text.
-fn begun_text(alloc: Global, state: State) -> StrTendril
-    ensures { result.bytes ≡ begun_bytes state }
-{
-    match state {
-        State::Outside => StrTendril::new(alloc),
-        State::Inside { begun, .. } => begun,
-    }
-}
-
-// Appends the remaining input to a text.
-fn joined(begun: StrTendril, mut input: TextQueue) -> Result<StrTendril, Refusal>
-    ensures ok { IfOk result (λ text. text.bytes ≡ begun.bytes ++ input.bytes) }
-    ensures err { OnErr result (0 < length input.bytes) }
-{
-    let mut text = begun;
-    'texts: while let Some(more) = input.pop_front() {
-        append(&mut text, more)?;
-    }
-    Ok(text)
 }
 
 impl<K: TokenSink> TendrilSink<StrTendril> for Tokenizer<K> {

@@ -1,5 +1,5 @@
 use Rattle.std.proofs.Common.{◌≡◌, ◌≤◌, ◌++◌, length}
-use Rattle.use_tokens.proofs.tokenizer.joined.Given as goal
+use Rattle.use_tokens.proofs.joined.joined.Given as goal
 
 abbrev pub invariant-texts : goal.invariant-texts
 invariant-texts l = record {

@@ -1,6 +1,6 @@
 use Rattle.std.proofs.Common.{◌≡◌, ◌+◌, ◌<◌, length, ap, ◌∙◌, arith, length-append}
 use Rattle.use_tokens.proofs.Steps.{of_err}
-use Rattle.use_tokens.proofs.tokenizer.joined.Goals as goal
+use Rattle.use_tokens.proofs.joined.joined.Goals as goal
 
 pub returns-in_err-append-clause-err : goal.returns-in_err-append-clause-err
 returns-in_err-append-clause-err c =
