@@ -10,7 +10,7 @@ use Rattle.tendril_lossy.specs.AfterText.{EndsWithin, items_after}
 use Rattle.tendril_lossy.specs.Lossy.{Item, Keep, Bad, lossy, IsLossy, IsOpen}
 use Rattle.tendril_lossy.specs.declared.search.Ending.TheVariants.{Broken}
 use Rattle.tendril_lossy.proofs.Lossy.{lossy-front, lossy-bad}
-use Rattle.tendril_lossy.proofs.Faults.{error-append, no_char-append}
+use Rattle.tendril_lossy.proofs.Subparts.{error-append, no_char-append}
 use Rattle.tendril_lossy.proofs.Streams.{IsLossy-lossy, IsOpen-no_char}
 
 -- a text gives its characters, whatever follows

@@ -1,4 +1,5 @@
 pub mod Faults
+pub mod Subparts
 pub mod Lossy
 pub mod Streams
 pub mod Told

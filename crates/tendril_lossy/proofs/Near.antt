@@ -14,7 +14,8 @@ use Rattle.tendril_lossy.specs.AfterText.{items_after}
 use Rattle.tendril_lossy.specs.declared.search.Ending.{Ending}
 use Rattle.tendril_lossy.specs.declared.search.Ending.TheVariants.{Broken}
 use Rattle.tendril_lossy.specs.Lossy.{Keep, lossy}
-use Rattle.tendril_lossy.proofs.Faults.{lead, second, later, Completes, err_is, at_start, past_start, past_second, second_3, second_4, second_bounds, is_scalar, spells_2, spells_3, spells_4, later_bounds, not_less}
+use Rattle.tendril_lossy.proofs.Faults.{lead, second, later, err_is, at_start, past_start, past_second, not_less}
+use Rattle.tendril_lossy.proofs.Subparts.{Completes, second_3, second_4, second_bounds, is_scalar, spells_2, spells_3, spells_4, later_bounds}
 use Rattle.tendril_lossy.proofs.Fronts.{bad_front}
 use Rattle.tendril_lossy.proofs.Windows.{grow, bad_at}
 

@@ -9,7 +9,8 @@ use Rattle.std.proofs.lemmas.List.{nil_from_length, drop-append-le}
 use Rattle.std.proofs.lemmas.Str.{length-encode, len_utf8_bounds, encode_same}
 use Rattle.tendril_lossy.specs.Lossy.{Item, Keep, Bad, Cut, lossy, closed_of, due_of, due, due_open, cut_bytes, kept, IsOpen, IsMaximalSubpart, IsLossy}
 use Rattle.tendril_lossy.proofs.Lossy.{first_item-cases, lossy-nil, lossy-char, lossy-bad, lossy-cut}
-use Rattle.tendril_lossy.proofs.Faults.{error-bounds, error-append, no_char-append, IsMaximalSubpart-error, IsOpen-faultless, IsOpen-from_none}
+use Rattle.tendril_lossy.proofs.Faults.{error-bounds}
+use Rattle.tendril_lossy.proofs.Subparts.{error-append, no_char-append, IsMaximalSubpart-error, IsOpen-faultless, IsOpen-from_none}
 
 -- what bytes begin with: nothing, a character, a broken sequence, or a character that is cut off
 pub data Front (bs : List ℕ) : Type 0 where
