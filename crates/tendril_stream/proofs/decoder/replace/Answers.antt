@@ -1,7 +1,7 @@
 use Rattle.std.proofs.Common.{◌∙◌, ◌∷◌, [], ◌++◌, length, ap, map, refl, sym}
 use Rattle.std.proofs.lemmas.Result.{IfErr-weaker, on_ok_weaker}
 use Rattle.tendril_block.specs.declared.refusal.Refusal.TheVariants.{SinkRefused}
-use Rattle.tendril_text.proofs.Decoding.{IsReplacement, replacement-handed, replacement-chars}
+use Rattle.tendril_text.proofs.HandsOn.{IsReplacement, replacement-handed, replacement-chars}
 use Rattle.tendril_lossy.specs.Lossy.{Char, Mark, replaced}
 use Rattle.tendril_stream.specs.Sinks.{Piece, Fault, told_of}
 use Rattle.tendril_stream.proofs.Feeds.{Feeds-one, Feeds-append, Feeds-same, Stops-after, Stops-call}

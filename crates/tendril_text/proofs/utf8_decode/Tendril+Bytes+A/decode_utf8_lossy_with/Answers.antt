@@ -1,5 +1,6 @@
 use Rattle.std.proofs.Common.{rules, of_calls, length, sym, subst, ap, ◌∙◌}
-use Rattle.tendril_text.proofs.Decoding.{start, at_whole, at_open, at_broken, rest-popped}
+use Rattle.tendril_text.proofs.Decoding.{rest-popped}
+use Rattle.tendril_text.proofs.HandsOn.{start, at_whole, at_open, at_broken}
 use Rattle.tendril_text.specs.Decoding.{PopsText}
 use Rattle.tendril_lossy.specs.Lossy.{IsOpen}
 use Rattle.tendril_text.proofs.utf8_decode.Tendril+Bytes+A.decode_utf8_lossy_with.Goals as goal

@@ -1,5 +1,5 @@
 use Rattle.std.proofs.Common.{◌≡◌, ◌∙◌, ◌-◌, length, drop, sym, subst, ap}
-use Rattle.tendril_text.proofs.Decoding.{Answers, rest_of}
+use Rattle.tendril_text.proofs.HandsOn.{Answers, rest_of}
 use Rattle.tendril_text.proofs.utf8_decode.incomplete.IncompleteUtf8.complete_from.Goals as goal
 
 pub overflow_sub-taken : goal.overflow_sub-taken

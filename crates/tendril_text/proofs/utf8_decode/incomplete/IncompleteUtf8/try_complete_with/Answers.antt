@@ -1,5 +1,5 @@
 use Rattle.std.proofs.Common.{◌∙◌, sym, subst, ap, arith}
-use Rattle.tendril_text.proofs.Decoding.{Says, says_text, says_replacement}
+use Rattle.tendril_text.proofs.HandsOn.{Says, says_text, says_replacement}
 use Rattle.tendril_text.proofs.utf8_decode.incomplete.IncompleteUtf8.try_complete_with.Goals.{in-Ok, in-Err}
 use Rattle.tendril_text.proofs.utf8_decode.incomplete.IncompleteUtf8.try_complete_with.Goals as goal
 
