@@ -92,12 +92,12 @@ impl IncompleteUtf8 {
         self.bytes.as_slice()
     }
 
-    /// Completes the bytes from the input, and returns what they became with the rest of the input, or `None` if they are still
-    /// incomplete.
+    /// Completes the bytes from the input, and returns what they became and the remaining input, or `None` if they are
+    /// still incomplete.
     ///
-    /// They become the longest text in the first four bytes of both, or, where no character begins with them, the broken bytes:
-    /// their maximal subpart (Unicode, chapter 3). After that nothing is kept. On `None` the input is kept too. Reads only as
-    /// much input as makes four bytes with the kept ones, and allocates nothing.
+    /// They become the longest prefix that is UTF-8 of the first four bytes, the kept ones and then the input's; or, if
+    /// no character begins there, the broken bytes: their maximal subpart (Unicode, chapter 3). After that nothing is
+    /// kept. On `None` the input is kept too. Reads at most these four bytes, and allocates nothing.
     ///
     /// ```
     /// let mut kept = IncompleteUtf8::new_without_validating(b"\xE2\x82");
@@ -139,8 +139,8 @@ impl IncompleteUtf8 {
     /// Completes the bytes from the start of a piece, removes what it takes from the piece and returns what the bytes became; or
     /// returns `None` if they are still incomplete.
     ///
-    /// They become what `try_to_complete_codepoint` makes of them. On `None` the piece's bytes are kept too, and the piece hasn't
-    /// changed. Allocates nothing.
+    /// They become what `try_to_complete_codepoint` returns. On `None` the piece's bytes are kept too, and the piece
+    /// hasn't changed. Allocates nothing.
     ///
     /// ```
     /// let mut kept = IncompleteUtf8::new_without_validating(b"\xC3");
@@ -169,11 +169,11 @@ impl IncompleteUtf8 {
         Some(completed)
     }
 
-    /// Completes the bytes from a piece, passes the text or U+FFFD to the closure, and returns the rest of the piece.
+    /// Completes the bytes from a piece, passes the text or U+FFFD to the closure, and returns the remaining piece.
     ///
-    /// Returns `Err(())` if the bytes are still incomplete: then the piece's bytes are kept too. Call it only where bytes are
-    /// kept: with none, and an empty piece, it passes an empty text. Allocates nothing. No clause can say what becomes of a
-    /// closure that is passed by value: to prove something about it, call `try_complete_with`.
+    /// Returns `Err(())` if the bytes are still incomplete: then the piece's bytes are kept too. Call it only if bytes
+    /// are kept: with none, and an empty piece, it passes an empty text. Allocates nothing. Contracts can't state the
+    /// final state of a closure that is passed by value: to prove something about it, call `try_complete_with`.
     ///
     /// ```
     /// let mut kept = IncompleteUtf8::new_without_validating(b"\xC3");
