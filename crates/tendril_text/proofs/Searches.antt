@@ -91,6 +91,18 @@ read_block bytes at n k l =
 pub passes_block : (table : List Bool) (bytes : List ℕ) (a b c d at n : ℕ) → ((x : ℕ) → has_byte table x ≡ true → is_byte4 a b c d x ≡ true) → Nowhere (Passes (has_byte table) bytes) 0 at → at + n ≤ length bytes → ((k : ℕ) → k < length (take (at + n - at) (drop at bytes)) → is_byte4 a b c d (get_or (take (at + n - at) (drop at bytes)) k 0) ≡ false) → Nowhere (Passes (has_byte table) bytes) 0 (at + n)
 passes_block table bytes a b c d at n few before within none = passes_more table bytes a b c d at n few before (λ k l. subst (λ x. is_byte4 a b c d x ≡ false) (read_block bytes at n k l) (none k (omega (arith, l, within, length-take (at + n - at) (drop at bytes), length-drop at bytes))))
 
+pub block_size : (bytes : List ℕ) (at n : ℕ) → at + n ≤ length bytes → length (take (at + n - at) (drop at bytes)) ≡ n
+block_size bytes at n within = omega (arith, within, length-take (at + n - at) (drop at bytes), length-drop at bytes)
+
+-- `passes_block` of the first m bytes of a block
+pub passes_part : (table : List Bool) (bytes : List ℕ) (a b c d at n m : ℕ)
+    → ((x : ℕ) → has_byte table x ≡ true → is_byte4 a b c d x ≡ true) → Nowhere (Passes (has_byte table) bytes) 0 at
+    → m ≤ n → ((k : ℕ) → k < m → is_byte4 a b c d (get_or (take (at + n - at) (drop at bytes)) k 0) ≡ false)
+    → Nowhere (Passes (has_byte table) bytes) 0 (at + m)
+passes_part table bytes a b c d at n m few before less none =
+    passes_more table bytes a b c d at m few before
+    (λ k l. subst (λ x. is_byte4 a b c d x ≡ false) (read_block bytes at n k (omega (arith, l, less))) (none k l))
+
 -- what follows a valid prefix is valid
 pub IsUtf8-rest : (bs front : List ℕ) → IsUtf8 bs → IsUtf8 front → bs ≡ front ++ drop (length front) bs → IsUtf8 (drop (length front) bs)
 IsUtf8-rest bs front v f e =

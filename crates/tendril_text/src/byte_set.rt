@@ -1,9 +1,12 @@
 //! Small sets of bytes, and searches for the first byte of a set.
-ghost use Rattle.std.specs.Prelude.{◌≡◌, ◌<◌, ◌≤◌, ◌↔◌, ℕ, true, false, length, IsAscii, Contains, slice_index, IfSome, IsFalse};
+ghost use Rattle.std.specs.Prelude.{◌≡◌, ◌≢◌, ◌<◌, ◌≤◌, ◌↔◌, ◌==◌, if◌then◌else◌, ℕ, true, false, length, map};
+ghost use Rattle.std.specs.Prelude.{IsAscii, Contains, slice_index, IfSome, IsFalse};
+ghost use Rattle.std.specs.Int.{bit_at};
 ghost use Rattle.memchr.specs.Find.{IsFirstByte, Nowhere, Passes};
 ghost use Rattle.tendril_text.specs.Search.{has_byte, is_byte4, IsTable};
 
 use std::marker::Model;
+use std::simd::prelude::*;
 
 /// A set of ASCII bytes, to search for.
 ///
@@ -97,8 +100,7 @@ fn few_of(bytes: &[u8], members: &[bool; 256]) -> Option<(u8, u8, u8, u8)>
     }
 }
 
-// Returns an index before which no byte is in the table. Skips sixteen bytes at a time, by vector instructions, while
-// none of them is one of the four.
+// Returns an index before which no byte is in the table: of the first of the four, if vectors of sixteen bytes find it.
 fn skip_others(a: u8, b: u8, c: u8, d: u8, members: &[bool; 256], bytes: &[u8]) -> usize
     requires { (x : ℕ) → has_byte members.now x ≡ true → is_byte4 a b c d x ≡ true }
     ensures within { result ≤ length bytes.now }
@@ -106,8 +108,9 @@ fn skip_others(a: u8, b: u8, c: u8, d: u8, members: &[bool; 256], bytes: &[u8]) 
 {
     let mut at = 0;
     'sixteens: while 16 <= bytes.len() - at {
-        if has_any(a, b, c, d, &bytes[at..at + 16]) {
-            break;
+        let found = places_of(a, b, c, d, &bytes[at..at + 16]);
+        if found != 0 {
+            return at + lowest(found);
         }
         at += 16;
     }
@@ -116,6 +119,37 @@ fn skip_others(a: u8, b: u8, c: u8, d: u8, members: &[bool; 256], bytes: &[u8]) 
         at += 8;
     }
     at
+}
+
+// Bit k is set if byte k of sixteen is one of the four.
+#[inline(always)]
+fn places_of(a: u8, b: u8, c: u8, d: u8, bytes: &[u8]) -> u64
+    requires { length bytes.now ≡ 16 }
+    ensures others { (k : ℕ) → k < 16 → bit_at result k ≡ 0 → is_byte4 a b c d (slice_index bytes.now k) ≡ false }
+    ensures within { (k : ℕ) → bit_at result k ≡ 1 → k < 16 }
+{
+    let block = u8x16::from_slice(bytes);
+    let any = equal_to(block, a) | equal_to(block, b) | equal_to(block, c) | equal_to(block, d);
+    any.simd_ge(u8x16::splat(128)).to_bitmask()
+}
+
+// All bits of a lane are set if it has the byte, else none.
+#[inline(always)]
+fn equal_to(block: u8x16, byte: u8) -> u8x16
+    ensures { result ≡ map (λ x. if x == byte then 255 else 0) block }
+{
+    let same = block.simd_eq(u8x16::splat(byte));
+    same.select(u8x16::splat(255), u8x16::splat(0))
+}
+
+// The place of the lowest bit that is set.
+#[inline(always)]
+fn lowest(bits: u64) -> usize
+    requires { bits ≢ 0 }
+    ensures set { bit_at bits result ≡ 1 }
+    ensures below { (k : ℕ) → k < result → bit_at bits k ≡ 0 }
+{
+    bits.trailing_zeros() as usize
 }
 
 // Whether one of the four is among these bytes.
