@@ -21,13 +21,20 @@ use Rattle.std.proofs.Common.{
   ◌∙◌,
   subst,
   arith,
-  inl,
   inr,
   append_assoc,
 }
 use Rattle.std.specs.Prelude.{IsUtf8}
 use Rattle.std.proofs.Math.Seq.{take-append-add}
-use Rattle.std.proofs.lemmas.List.{length-append, length-take-le, take-append-drop, take-append-le, take_at, drop_at, drop-drop}
+use Rattle.std.proofs.lemmas.List.{
+  length-append,
+  length-take-le,
+  take-append-drop,
+  take-append-le,
+  take_at,
+  drop_at,
+  drop-drop,
+}
 use Rattle.std.proofs.lemmas.List.Elements.{All-head, All-tail}
 use Rattle.std.proofs.lemmas.Str.{IsUtf8-drop, IsCharBoundary-from_take}
 use Rattle.tendril_queue.proofs.Fronts.{leaves_some, left_bytes, left_each}

@@ -19,7 +19,6 @@ use Rattle.std.proofs.Common.{
   length,
   get_or,
   set,
-  drop,
   refl,
   sym,
   ap,
@@ -30,12 +29,22 @@ use Rattle.std.proofs.Common.{
   append_assoc,
   append-nil,
 }
-use Rattle.std.specs.Prelude.{IsUtf8, IfNone, chars}
-use Rattle.std.proofs.lemmas.List.{length-append, nil_from_length, set-get_or}
+use Rattle.std.specs.Prelude.{IsUtf8, IfSome, chars}
+use Rattle.std.proofs.lemmas.List.{length-append, nil_from_length}
 use Rattle.std.proofs.lemmas.List.Concat.{flat_map-append}
 use Rattle.std.proofs.lemmas.List.Elements.{All-append, All-cons, All-head, All-push, All-tail}
 use Rattle.std.proofs.lemmas.Str.{IsUtf8-nil, IsUtf8-append, chars-append}
-use Rattle.tendril_queue.specs.Queues.{queued_bytes, IsQueued, AreQueued, listed_for, unless_empty, LeavesOfFirst, DropsFront}
+use Rattle.tendril_queue.specs.Queues.{
+  queued_bytes,
+  IsQueued,
+  AreQueued,
+  listed_for,
+  unless_empty,
+  all_texts,
+  IsQueue,
+  LeavesOfFirst,
+  DropsFront,
+}
 use Rattle.tendril_text.specs.Texts.{Text, Keeps}
 
 pub joined-append : (xs ys : List Text) → queued_bytes (xs ++ ys) ≡ queued_bytes xs ++ queued_bytes ys
@@ -48,23 +57,6 @@ pub joined_valid : (xs : List Text) → AreQueued xs → IsUtf8 (queued_bytes xs
 joined_valid [] h = IsUtf8-nil
 joined_valid (t ∷ xs) h = IsUtf8-append t.bytes (queued_bytes xs) (All-head IsQueued t xs h).valid (joined_valid xs
     (All-tail IsQueued t xs h))
-
--- if there are texts, there are bytes
-pub joined_some : (xs : List Text) → AreQueued xs → 0 < length xs → 0 < length (queued_bytes xs)
-joined_some [] each h = absurd (omega arith)
-joined_some (x ∷ xs) each h =
-    let p = (All-head IsQueued x xs each).some in
-    let e : length (queued_bytes (x ∷ xs)) ≡ length x.bytes + length (queued_bytes xs) =
-    length-append x.bytes (queued_bytes xs) in
-    omega arith
-
--- if there are no bytes, there are no texts
-pub no_texts : (xs : List Text) → AreQueued xs → queued_bytes xs ≡ [] → xs ≡ []
-no_texts [] each h = refl
-no_texts (x ∷ xs) each h =
-    let some = joined_some (x ∷ xs) each (omega arith) in
-    let none : length (queued_bytes (x ∷ xs)) ≡ 0 = ap length h in
-    absurd (omega arith)
 
 -- the list of a text, unless it is empty
 
@@ -110,15 +102,6 @@ leaves_some (x ∷ rest) t left h is some = record {
   has = ap (λ l. l ++ rest) (sym (unless_empty_some left some));
 }
 
-pub leaves_none : (xs : List Text) (t left : Text) → 0 < length xs → t ≡ get_or xs 0 t → length left.bytes ≡ 0
-    → LeavesOfFirst xs t left (drop 1 (set xs 0 left))
-leaves_none [] t left h is none = absurd (omega (arith, h))
-leaves_none (x ∷ rest) t left h is none = record {
-  rest = rest;
-  had = ap (λ y. y ∷ rest) (sym is);
-  has = ap (λ l. l ++ rest) (sym (unless_empty_none left none));
-}
-
 module _ (xs ys : List Text) (t left : Text) (l : LeavesOfFirst xs t left ys) where
   had_bytes : queued_bytes xs ≡ t.bytes ++ queued_bytes l.rest
   had_bytes = ap queued_bytes l.had
@@ -155,20 +138,6 @@ module _ (xs ys : List Text) (t left : Text) (l : LeavesOfFirst xs t left ys) wh
     has = inr (record { first = t; left = left; leaves = l; keeps = keeps });
   }
 
--- the first text is unchanged
-pub unchanged : (xs : List Text) (t s : Text) → t ≡ get_or xs 0 t → s ≡ t → set xs 0 s ≡ xs
-unchanged xs t s is e = ap (set xs 0) (e ∙ is) ∙ set-get_or xs 0 t
-
--- the first text has bytes
-pub first_some : (xs : List Text) (t : Text) → 0 < length xs → t ≡ get_or xs 0 t → AreQueued xs → 0 < length t.bytes
-first_some [] t h is each = absurd (omega (arith, h))
-first_some (x ∷ rest) t h is each = subst (λ (y : Text). 0 < length y.bytes) (sym is) (All-head IsQueued x rest each).some
-
--- so a search in it finds something
-pub never : {X : Type 0} (r : Option X) (P Q : Type 0) → IfNone r P → (P → ⊥) → IfNone r Q
-never (Some x) P Q h wrong = tt
-never None P Q h wrong = absurd (wrong h)
-
 -- if there are bytes, there are texts
 pub some_texts : (xs : List Text) (n : ℕ) → 0 < n → n ≤ length (queued_bytes xs) → 0 < length xs
 some_texts [] n some h = absurd (omega arith)
@@ -179,24 +148,70 @@ pub same_first : (xs : List Text) (s t : Text) → 0 < length xs → s ≡ get_o
 same_first [] s t some is is' = absurd (omega arith)
 same_first (x ∷ xs) s t some is is' = is ∙ sym is'
 
--- a text was pushed at the end or at the front, or it wasn't
+-- a first text, and the texts after it
 
-pub pushed_back : (b : Bool) (xs ys : List Text) (t : Text) → ys ≡ (if b then xs ++ t ∷ [] else xs) → AreQueued xs
-    → IsQueued t → AreQueued ys
-pushed_back true xs ys t e each one = subst AreQueued (sym e) (All-push IsQueued xs t each one)
-pushed_back false xs ys t e each one = subst AreQueued (sym e) each
+pub all_bytes : (t : Text) (xs : List Text) → queued_bytes (all_texts t xs) ≡ t.bytes ++ queued_bytes xs
+all_bytes t xs = joined-append (unless_empty t) xs ∙ ap (λ b. b ++ queued_bytes xs) (unless_empty_bytes t)
 
-pub pushed_front : (b : Bool) (xs ys : List Text) (t : Text) → ys ≡ (if b then t ∷ xs else xs) → AreQueued xs
-    → IsQueued t → AreQueued ys
-pushed_front true xs ys t e each one = subst AreQueued (sym e) (All-cons IsQueued t xs one each)
-pushed_front false xs ys t e each one = subst AreQueued (sym e) each
+pub all_some : (t : Text) (xs : List Text) → 0 < length t.bytes → all_texts t xs ≡ t ∷ xs
+all_some t xs some = ap (λ l. l ++ xs) (unless_empty_some t some)
+
+pub all_none : (t : Text) (xs : List Text) → t.bytes ≡ [] → all_texts t xs ≡ xs
+all_none t xs none = ap (λ l. l ++ xs) (unless_empty_none t (ap length none))
+
+pub all_valid : (t : Text) (xs : List Text) → IsQueue t xs → IsUtf8 (queued_bytes (all_texts t xs))
+all_valid t xs q = subst IsUtf8 (sym (all_bytes t xs)) (IsUtf8-append t.bytes (queued_bytes xs) q.valid (joined_valid xs q.each))
+
+-- a text that has bytes is a first one for each rest
+pub first_some : (t : Text) (xs : List Text) → IsUtf8 t.bytes → 0 < length t.bytes → AreQueued xs → IsQueue t xs
+first_some t xs valid some each = record {
+  valid = valid;
+  each = each;
+  alone = λ none. let len : length t.bytes ≡ 0 = ap length none in absurd (omega (arith, some, len));
+}
+
+pub first_of : (xs : List Text) (t : Text) (ys : List Text) → xs ≡ t ∷ ys → AreQueued xs → IsQueue t ys
+first_of xs t ys e each =
+    let all : AreQueued (t ∷ ys) = subst AreQueued e each in
+    let one = All-head IsQueued t ys all in
+    first_some t ys one.valid one.some (All-tail IsQueued t ys all)
+
+some_bytes : (b : List ℕ) → (b ≡ [] → ⊥) → 0 < length b
+some_bytes [] other = absurd (other refl)
+some_bytes (x ∷ xs) other = omega arith
+
+-- a text was put at the end of the rest, or was not
+pub back_queue : (b : Bool) (t u : Text) (xs ys : List Text) → ys ≡ (if b then xs ++ u ∷ [] else xs) → IsQueue t xs
+    → (t.bytes ≡ [] → ⊥) → IsQueued u → IsQueue t ys
+back_queue true t u xs ys e q other one =
+    first_some t ys q.valid (some_bytes t.bytes other) (subst AreQueued (sym e) (All-push IsQueued xs u q.each one))
+back_queue false t u xs ys e q other one = subst (IsQueue t) (sym e) q
+
+-- a text took the place of the first one, which is now the first of the rest
+pub front_queue : (t u : Text) (xs ys : List Text) → ys ≡ t ∷ xs → IsQueue t xs → (t.bytes ≡ [] → ⊥) → IsUtf8 u.bytes
+    → 0 < length u.bytes → IsQueue u ys
+front_queue t u xs ys e q other valid some =
+    first_some u ys valid some (subst AreQueued (sym e) (All-cons IsQueued t xs (record {
+      some = some_bytes t.bytes other;
+      valid = q.valid;
+    }) q.each))
+
+-- the first text was cut, and the queue has what is left
+pub leaves_first : (t left : Text) (xs ys : List Text) → 0 < length t.bytes → ys ≡ all_texts left xs
+    → LeavesOfFirst (all_texts t xs) t left ys
+leaves_first t left xs ys some is = record { rest = xs; had = all_some t xs some; has = is }
+
+-- two facts of what was found
+pub both_some : {X : Type 0} {P Q R : X → Type 0} (r : Option X) → IfSome r P → IfSome r Q → ((x : X) → P x → Q x → R x)
+    → IfSome r R
+both_some (Some x) p q step = step x p q
+both_some None p q step = tt
 
 -- the first character of the first text is that of all texts
-pub first_char : (xs : List Text) (t : Text) (c : ℕ) → AreQueued xs → 0 < length xs → t ≡ get_or xs 0 t
-    → (rest : List ℕ) × (chars t.bytes ≡ c ∷ rest) → (rest : List ℕ) × (chars (queued_bytes xs) ≡ c ∷ rest)
-first_char [] t c each some is h = absurd (omega arith)
-first_char (x ∷ xs) t c each some is h = (
+pub first_char : (t : Text) (xs : List Text) (c : ℕ) → IsQueue t xs
+    → (rest : List ℕ) × (chars t.bytes ≡ c ∷ rest) → (rest : List ℕ) × (chars (queued_bytes (all_texts t xs)) ≡ c ∷ rest)
+first_char t xs c q h = (
   h.0 ++ chars (queued_bytes xs),
-  chars-append x.bytes (queued_bytes xs) (All-head IsQueued x xs each).valid
-      ∙ ap (λ l. l ++ chars (queued_bytes xs)) (ap (λ (y : Text). chars y.bytes) (sym is) ∙ h.1),
+  ap chars (all_bytes t xs) ∙ chars-append t.bytes (queued_bytes xs) q.valid
+      ∙ ap (λ l. l ++ chars (queued_bytes xs)) h.1,
 )

@@ -1,3 +1,4 @@
+pub mod Across
 pub mod Dropped
 pub mod Eaten
 pub mod Fronts

@@ -2,22 +2,18 @@
 use Rattle.std.proofs.Common.{
   ◌≡◌,
   ℕ,
-  zero,
-  suc,
   ◌+◌,
   ◌-◌,
   ◌<◌,
   ◌≤◌,
   min,
   List,
-  [],
   ◌∷◌,
   ◌++◌,
   length,
   get_or,
   take,
   drop,
-  refl,
   sym,
   ap,
   ap₂,
@@ -40,7 +36,7 @@ use Rattle.std.proofs.lemmas.List.{
 use Rattle.tendril_queue.proofs.Fronts.{joined-append, joined_push}
 use Rattle.tendril_queue.proofs.Sameness.{same_after, same_join}
 use Rattle.tendril_queue.specs.declared.eat.Case.{Case}
-use Rattle.tendril_queue.specs.Eating.{AreSame, BeginsWith, Differs, EndsInPattern}
+use Rattle.tendril_queue.specs.Eating.{AreSame, BeginsWith, Differs}
 use Rattle.tendril_queue.specs.Queues.{queued_bytes}
 use Rattle.tendril_text.specs.Texts.{Text}
 

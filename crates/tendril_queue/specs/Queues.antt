@@ -46,6 +46,19 @@ listed_for (x ∷ xs) t = t ∷ []
 abbrev pub unless_empty : Text → List Text
 unless_empty t = listed_for t.bytes t
 
+-- the texts of a queue: the first one, unless it is empty, and those after it
+abbrev pub all_texts : Text → List Text → List Text
+all_texts first rest = unless_empty first ++ rest
+
+abbrev pub queued_of : Text → List Text → Queued
+queued_of first rest = record { bytes = queued_bytes (all_texts first rest); texts = all_texts first rest }
+
+-- a first text and those after it: none of these is empty, and if the first one is, it is the only one
+pub record IsQueue (first : Text) (rest : List Text) : Type 0 where
+  pub valid : IsUtf8 first.bytes
+  pub each : AreQueued rest
+  pub alone : first.bytes ≡ [] → rest ≡ []
+
 -- the first text of a list is replaced by its remainder, or removed if that is empty
 pub record LeavesOfFirst (old : List Text) (first left : Text) (new : List Text) : Type 0 where
   pub rest : List Text

@@ -1,9 +1,9 @@
 //! Matching a pattern at the front of a queue, across its texts.
-ghost use Rattle.std.specs.Prelude.{◌≡◌, ◌≤◌, ◌↔◌, length, take, drop, IsTrue, IsUtf8};
+ghost use Rattle.std.specs.Prelude.{◌≡◌, ◌≤◌, ◌↔◌, ◌++◌, length, take, drop, IsTrue, IsUtf8};
 ghost use Rattle.tendril_queue.specs.Eating.{Eats, Meets, AreSameInAnyCase, AreSame};
-ghost use Rattle.tendril_queue.specs.Queues.{queued_bytes, AreQueued, DropsFront};
+ghost use Rattle.tendril_queue.specs.Queues.{queued_bytes, all_texts, AreQueued, DropsFront, IsQueue};
 
-use crate::queue::TextQueue;
+use crate::queue::{TextQueue, refill};
 use std::collections::VecDeque;
 use tendril_fmt::fmt::UTF8;
 use tendril_text::{Atomicity, Tendril};
@@ -28,6 +28,7 @@ pub(crate) enum Case {
 
 impl Case {
     // Whether two slices are equal in this sense.
+    #[inline(always)]
     fn is_same(self, left: &[u8], right: &[u8]) -> bool
         ensures { IsTrue result ↔ AreSame self left.now right.now }
     {
@@ -69,19 +70,60 @@ impl<A: Atomicity> TextQueue<A> {
         self.eat_in(Case::AsciiIgnored, pattern)
     }
 
+    // Inlined, with what it calls for the first text, so that a constant pattern is compared by an instruction or two.
+    #[inline(always)]
     fn eat_in(&mut self, case: Case, pattern: &str) -> EatResult
         ensures { Eats (AreSame case) pattern.now self.old result self.new }
     {
-        let found = look_for(&self.texts, case, pattern.as_bytes());
+        let found = look_for(&self.first, &self.rest, case, pattern.as_bytes());
         if found == EatResult::Eaten {
-            drop_front(&mut self.texts, pattern.len());
+            drop_front(&mut self.first, &mut self.rest, pattern.len());
         }
         found
     }
 }
 
-// Whether texts begin with a pattern, which isn't removed.
+// Whether a first text and those after it begin with a pattern, which isn't removed.
+#[inline(always)]
 fn look_for<A: Atomicity>(
+    first: &Tendril<UTF8, A>,
+    rest: &VecDeque<Tendril<UTF8, A>>,
+    case: Case,
+    pattern: &[u8],
+) -> EatResult
+    ensures { Meets (AreSame case) pattern.now (first.now.bytes ++ queued_bytes rest.now.items) result }
+{
+    let text = first.as_byte_slice();
+    let count = pattern.len();
+    if count > text.len() {
+        return look_across(text, rest, case, pattern);
+    }
+    if case.is_same(&text[..count], pattern) {
+        EatResult::Eaten
+    } else {
+        EatResult::NotThere
+    }
+}
+
+// Whether a first text, which is no longer than the pattern, and the rest begin with it.
+fn look_across<A: Atomicity>(
+    text: &[u8],
+    rest: &VecDeque<Tendril<UTF8, A>>,
+    case: Case,
+    pattern: &[u8],
+) -> EatResult
+    requires { length text.now ≤ length pattern.now }
+    ensures { Meets (AreSame case) pattern.now (text.now ++ queued_bytes rest.now.items) result }
+{
+    if case.is_same(text, &pattern[..text.len()]) {
+        look_in(rest, case, &pattern[text.len()..])
+    } else {
+        EatResult::NotThere
+    }
+}
+
+// Whether texts begin with a pattern.
+fn look_in<A: Atomicity>(
     texts: &VecDeque<Tendril<UTF8, A>>,
     case: Case,
     pattern: &[u8],
@@ -108,8 +150,32 @@ fn look_for<A: Atomicity>(
     }
 }
 
+// Removes the first `count` bytes, which are UTF-8, of a first text and those after it, and the texts that this empties.
+fn drop_front<A: Atomicity>(
+    first: &mut Tendril<UTF8, A>,
+    rest: &mut VecDeque<Tendril<UTF8, A>>,
+    count: usize,
+)
+    requires queue { IsQueue first.old rest.old.items }
+    requires there { count ≤ length (first.old.bytes ++ queued_bytes rest.old.items) }
+    requires valid { IsUtf8 (take count (first.old.bytes ++ queued_bytes rest.old.items)) }
+    ensures bytes { first.new.bytes ++ queued_bytes rest.new.items
+        ≡ drop count (first.old.bytes ++ queued_bytes rest.old.items) }
+    ensures queue { IsQueue first.new rest.new.items }
+    ensures texts { DropsFront (all_texts first.old rest.old.items) (all_texts first.new rest.new.items) }
+{
+    let here = first.as_byte_slice().len();
+    if count < here {
+        first.pop_front(count as u32);
+        return;
+    }
+    drop_in(rest, count - here);
+    first.pop_front(here as u32);
+    refill(first, rest);
+}
+
 // Removes the first `count` bytes of texts, which are UTF-8, and drops the texts that this empties.
-fn drop_front<A: Atomicity>(texts: &mut VecDeque<Tendril<UTF8, A>>, count: usize)
+fn drop_in<A: Atomicity>(texts: &mut VecDeque<Tendril<UTF8, A>>, count: usize)
     requires each { AreQueued texts.old.items }
     requires there { count ≤ length (queued_bytes texts.old.items) }
     requires valid { IsUtf8 (take count (queued_bytes texts.old.items)) }

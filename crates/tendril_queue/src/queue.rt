@@ -1,14 +1,18 @@
 //! Queues of texts.
 //!
 //! Contracts see a `TextQueue<A>` as its bytes and the texts that have them. No text in it is empty.
+//!
+//! The first text is a field of its own, since nearly all calls read from it; in a `VecDeque` each would look it up.
 ghost use Rattle.std.specs.Prelude.{◌≡◌, ◌<◌, ◌↔◌, ◌++◌, ◌∷◌, [], ℕ, List, length, chars, encode_utf8, IsTrue};
 ghost use Rattle.std.specs.Prelude.{IfSome, IfNone, IfOk, IfErr, OnOk, OnErr, OnSome};
-ghost use Rattle.tendril_queue.specs.Queues.{unless_empty, DropsFront, TakesFirst, HasLongFirst};
+ghost use Rattle.tendril_queue.specs.Queues.{unless_empty, all_texts, AreQueued, IsQueue};
+ghost use Rattle.tendril_queue.specs.Queues.{DropsFront, TakesFirst, HasLongFirst};
 ghost use Rattle.tendril_text.specs.Search.{has_byte, part_bytes};
 
 use std::alloc::Global;
 use std::collections::VecDeque;
 use std::marker::Model;
+use std::mem;
 use tendril_block::Refusal;
 use tendril_fmt::fmt::UTF8;
 use tendril_text::{Atomicity, ByteSet, NonAtomic, SetResult, Tendril};
@@ -25,17 +29,20 @@ use tendril_text::{Atomicity, ByteSet, NonAtomic, SetResult, Tendril};
 /// ```
 #[derive(Drop)]
 pub struct TextQueue<A: Atomicity = NonAtomic> {
-    pub(crate) texts: VecDeque<Tendril<UTF8, A>>,
+    // Empty only if the queue is empty.
+    pub(crate) first: Tendril<UTF8, A>,
+    pub(crate) rest: VecDeque<Tendril<UTF8, A>>,
+    alloc: Global,
 }
 
 impl<A: Atomicity> Model for TextQueue<A> {
-    ghost use Rattle.tendril_queue.specs.Queues.{Queued, queued_bytes, AreQueued};
+    ghost use Rattle.tendril_queue.specs.Queues.{Queued, queued_of, IsQueue};
 
     ghost Value = { Queued };
 
-    ghost view = { λ q. record { bytes = queued_bytes q.texts.items; texts = q.texts.items } };
+    ghost view = { λ q. queued_of q.first q.rest.items };
 
-    ghost invariant = { λ q. AreQueued q.texts.items };
+    ghost invariant = { λ q. IsQueue q.first q.rest.items };
 }
 
 impl<A: Atomicity> TextQueue<A> {
@@ -50,7 +57,9 @@ impl<A: Atomicity> TextQueue<A> {
         ensures texts { result.texts ≡ [] }
     {
         TextQueue {
-            texts: VecDeque::new(alloc),
+            first: Tendril::new(alloc),
+            rest: VecDeque::new(alloc),
+            alloc,
         }
     }
 
@@ -65,7 +74,7 @@ impl<A: Atomicity> TextQueue<A> {
         ensures bytes { IsTrue result ↔ (self.now.bytes ≡ []) }
         ensures texts { IsTrue result ↔ (self.now.texts ≡ []) }
     {
-        self.texts.is_empty()
+        self.first.is_empty()
     }
 
     /// Appends a text, in amortized constant time. An empty text is dropped.
@@ -87,7 +96,11 @@ impl<A: Atomicity> TextQueue<A> {
         if text.as_byte_slice().is_empty() {
             return Ok(());
         }
-        match self.texts.push_back(text) {
+        if self.first.is_empty() {
+            self.first = text;
+            return Ok(());
+        }
+        match self.rest.push_back(text) {
             Ok(()) => Ok(()),
             Err(failed) => Err((Refusal::Memory, failed.value)),
         }
@@ -112,9 +125,16 @@ impl<A: Atomicity> TextQueue<A> {
         if text.as_byte_slice().is_empty() {
             return Ok(());
         }
-        match self.texts.push_front(text) {
+        let second = mem::replace(&mut self.first, text);
+        if second.is_empty() {
+            return Ok(());
+        }
+        match self.rest.push_front(second) {
             Ok(()) => Ok(()),
-            Err(failed) => Err((Refusal::Memory, failed.value)),
+            Err(failed) => {
+                let text = mem::replace(&mut self.first, failed.value);
+                Err((Refusal::Memory, text))
+            }
         }
     }
 
@@ -132,7 +152,12 @@ impl<A: Atomicity> TextQueue<A> {
         ensures some { IfSome result (λ text. 0 < length text.bytes) }
         ensures none { IfNone result ((self.old.bytes ≡ []) × (self.new ≡ self.old)) }
     {
-        self.texts.pop_front()
+        if self.first.is_empty() {
+            return None;
+        }
+        let text = mem::replace(&mut self.first, Tendril::new(self.alloc));
+        refill(&mut self.first, &mut self.rest);
+        Some(text)
     }
 
     /// Returns the next character, which stays in the queue, or `None` if the queue is empty.
@@ -147,7 +172,7 @@ impl<A: Atomicity> TextQueue<A> {
         ensures character { IfSome result (λ c. (rest : List ℕ) × (chars self.now.bytes ≡ c ∷ rest)) }
         ensures none { IfNone result (self.now.bytes ≡ []) }
     {
-        self.texts.front()?.peek_front_char()
+        self.first.peek_front_char()
     }
 
     /// Removes the next character and returns it, or returns `None` if the queue is empty. Allocates nothing.
@@ -165,15 +190,8 @@ impl<A: Atomicity> TextQueue<A> {
         ensures texts { OnSome result (DropsFront self.old.texts self.new.texts) }
         ensures none { IfNone result ((self.old.bytes ≡ []) × (self.new ≡ self.old)) }
     {
-        if self.texts.is_empty() {
-            return None;
-        }
-        let first = &mut self.texts[0];
-        let character = first.pop_front_char()?;
-        let left = first.as_byte_slice().len();
-        if left == 0 {
-            self.texts.pop_front();
-        }
+        let character = self.first.pop_front_char()?;
+        refill(&mut self.first, &mut self.rest);
         Some(character)
     }
 
@@ -200,15 +218,25 @@ impl<A: Atomicity> TextQueue<A> {
         ensures refusal { IfErr result (HasLongFirst (has_byte set.now) self.old.texts) }
         ensures err { OnErr result (self.new ≡ self.old) }
     {
-        if self.texts.is_empty() {
-            return Ok(None);
-        }
-        let first = &mut self.texts[0];
-        let found = first.pop_except_from(set)?;
-        let left = first.as_byte_slice().len();
-        if left == 0 {
-            self.texts.pop_front();
-        }
+        let found = self.first.pop_except_from(set)?;
+        refill(&mut self.first, &mut self.rest);
         Ok(found)
+    }
+}
+
+// Puts the next text in the place of the first one if that is empty.
+pub(crate) fn refill<A: Atomicity>(
+    first: &mut Tendril<UTF8, A>,
+    rest: &mut VecDeque<Tendril<UTF8, A>>,
+)
+    requires { AreQueued rest.old.items }
+    ensures texts { all_texts first.new rest.new.items ≡ all_texts first.old rest.old.items }
+    ensures queue { IsQueue first.new rest.new.items }
+{
+    if !first.as_byte_slice().is_empty() {
+        return;
+    }
+    if let Some(next) = rest.pop_front() {
+        *first = next;
     }
 }

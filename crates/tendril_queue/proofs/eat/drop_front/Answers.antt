@@ -1,61 +1,67 @@
-use Rattle.std.proofs.Common.{◌<◌, ◌-◌, length, subst, sym, ap, arith}
+use Rattle.std.proofs.Common.{◌≡◌, ◌-◌, ◌<◌, ◌≤◌, length, take, drop, subst, sym, ap, ◌∙◌, arith}
 use Rattle.std.specs.Prelude.{IsUtf8}
-use Rattle.tendril_queue.proofs.Dropped.{IsDropping, cuts_valid, dropped_within, dropping_more}
-use Rattle.tendril_queue.proofs.Fronts.{same_first, some_texts}
+use Rattle.std.proofs.lemmas.List.{length-drop, nil_from_length}
+use Rattle.tendril_queue.proofs.Across.{left_loses, left_queue, left_valid, rest_loses, rest_of_all, rest_valid}
+use Rattle.tendril_queue.specs.Queues.{queued_bytes}
 use Rattle.tendril_queue.proofs.eat.drop_front.Goals as goal
-use Rattle.tendril_text.specs.Texts.{Text}
 
 pub pop_front-requires-clause-valid : goal.pop_front-requires-clause-valid
 pop_front-requires-clause-valid g c =
-    let ys = c.loop-left.texts.items in
-    let d = c.loop-left.invariant in
-    let t = c.index_mut.result.now in
-    let some = some_texts ys c.loop-left.left (omega arith) d.there in
-    let same = same_first ys c.index.result.now t some c.index.ensures c.index_mut.ensures.value in
-    let len = ap length c.as_byte_slice-first.ensures.value in
-    let short : c.loop-left.left < length c.index.result.now.bytes = omega arith in
-    cuts_valid c.args.texts.now.items ys t c.args.count c.loop-left.left some c.index_mut.ensures.value
-    (subst (λ (x : Text). c.loop-left.left < length x.bytes) same short) d
+    let t = c.args.first.now in
+    let xs = c.args.rest.now.items in
+    let len = ap length c.as_byte_slice-here.ensures.value in
+    let short : c.args.count < length t.bytes = omega (arith, len, c.if-count-here.true) in
+    left_valid t xs c.args.count c.requires.queue short c.requires.valid
 
-pub returns-then-left-first-clause-each : goal.returns-then-left-first-clause-each
-returns-then-left-first-clause-each g c =
-    let ys = c.loop-left.texts.items in
-    let d = c.loop-left.invariant in
-    let t = c.index_mut.result.now in
-    let some = some_texts ys c.loop-left.left (omega arith) d.there in
-    let same = same_first ys c.index.result.now t some c.index.ensures c.index_mut.ensures.value in
-    let len = ap length c.as_byte_slice-first.ensures.value in
-    let short : c.loop-left.left < length c.index.result.now.bytes = omega arith in
-    let less = subst (λ (x : Text). c.loop-left.left < length x.bytes) same short in
-    let valid = cuts_valid c.args.texts.now.items ys t c.args.count c.loop-left.left some c.index_mut.ensures.value less d in
-    (dropped_within c.args.texts.now.items ys t c.pop_front.new.self c.args.count c.loop-left.left some
-    c.index_mut.ensures.value less d
-    c.pop_front.ensures.bytes c.pop_front.ensures.copied (subst IsUtf8 (sym c.pop_front.ensures.bytes) valid)).0
+pub returns-then-count-here-clause-queue : goal.returns-then-count-here-clause-queue
+returns-then-count-here-clause-queue g c =
+    let t = c.args.first.now in
+    let xs = c.args.rest.now.items in
+    let len = ap length c.as_byte_slice-here.ensures.value in
+    let short : c.args.count < length t.bytes = omega (arith, len, c.if-count-here.true) in
+    left_queue t xs c.args.count c.requires.queue short c.requires.valid c.pop_front.new.self c.pop_front.ensures.bytes
 
-pub returns-then-left-first-clause-texts : goal.returns-then-left-first-clause-texts
-returns-then-left-first-clause-texts g c =
-    let ys = c.loop-left.texts.items in
-    let d = c.loop-left.invariant in
-    let t = c.index_mut.result.now in
-    let some = some_texts ys c.loop-left.left (omega arith) d.there in
-    let same = same_first ys c.index.result.now t some c.index.ensures c.index_mut.ensures.value in
-    let len = ap length c.as_byte_slice-first.ensures.value in
-    let short : c.loop-left.left < length c.index.result.now.bytes = omega arith in
-    let less = subst (λ (x : Text). c.loop-left.left < length x.bytes) same short in
-    let valid = cuts_valid c.args.texts.now.items ys t c.args.count c.loop-left.left some c.index_mut.ensures.value less d in
-    (dropped_within c.args.texts.now.items ys t c.pop_front.new.self c.args.count c.loop-left.left some
-    c.index_mut.ensures.value less d
-    c.pop_front.ensures.bytes c.pop_front.ensures.copied (subst IsUtf8 (sym c.pop_front.ensures.bytes) valid)).2
+pub returns-then-count-here-clause-texts : goal.returns-then-count-here-clause-texts
+returns-then-count-here-clause-texts g c =
+    let t = c.args.first.now in
+    let xs = c.args.rest.now.items in
+    let len = ap length c.as_byte_slice-here.ensures.value in
+    let short : c.args.count < length t.bytes = omega (arith, len, c.if-count-here.true) in
+    left_loses t xs c.args.count c.requires.queue short c.requires.valid c.pop_front.new.self c.pop_front.ensures.copied
 
-pub loop-left-preserved : goal.loop-left-preserved
-loop-left-preserved g c =
-    let xs = c.args.texts.now.items in
-    let ys = c.loop-left.texts.items in
-    let d = c.loop-left.invariant in
-    let t = c.index.result.now in
-    let some = some_texts ys c.loop-left.left (omega arith) d.there in
-    let len = ap length c.as_byte_slice-first.ensures.value in
-    let more = dropping_more xs ys t c.args.count c.loop-left.left some c.index.ensures (omega arith) d in
-    subst (λ n. IsDropping xs c.pop_front-in-loop-left.new.self.items c.args.count (c.loop-left.left - n)) (sym len)
-    (subst (λ l. IsDropping xs l c.args.count (c.loop-left.left - length t.bytes))
-    (sym c.pop_front-in-loop-left.ensures.rest) more)
+pub drop_in-requires-clause-valid : goal.drop_in-requires-clause-valid
+drop_in-requires-clause-valid g c =
+    let t = c.args.first.now in
+    let xs = c.args.rest.now.items in
+    let len = ap length c.as_byte_slice-here.ensures.value in
+    let long : length t.bytes ≤ c.args.count = omega (arith, len, c.if-count-here.false) in
+    subst (λ n. IsUtf8 (take (c.args.count - n) (queued_bytes xs))) (sym len)
+    (rest_valid t xs c.args.count c.requires.queue long c.requires.valid)
+
+pub returns-clause-bytes : goal.returns-clause-bytes
+returns-clause-bytes g c =
+    let t = c.args.first.now in
+    let xs = c.args.rest.now.items in
+    let len = ap length c.as_byte_slice-here.ensures.value in
+    let long : length t.bytes ≤ c.args.count = omega (arith, len, c.if-count-here.false) in
+    let ys = c.drop_in.new.texts.items in
+    let left = c.pop_front-2.new.self in
+    let zs = c.refill.new.rest.items in
+    let size = ap length c.pop_front-2.ensures.bytes ∙ length-drop (length c.as_byte_slice-here.result.now) t.bytes in
+    let none = nil_from_length left.bytes (omega (arith, size, len)) in
+    rest_of_all t xs c.args.count c.requires.queue long ys left c.refill.new.first zs (subst
+    (λ n. queued_bytes ys ≡ drop (c.args.count - n) (queued_bytes xs)) len c.drop_in.ensures.bytes) none c.refill.ensures.texts
+
+pub returns-clause-texts : goal.returns-clause-texts
+returns-clause-texts g c =
+    let t = c.args.first.now in
+    let xs = c.args.rest.now.items in
+    let len = ap length c.as_byte_slice-here.ensures.value in
+    let long : length t.bytes ≤ c.args.count = omega (arith, len, c.if-count-here.false) in
+    let ys = c.drop_in.new.texts.items in
+    let left = c.pop_front-2.new.self in
+    let zs = c.refill.new.rest.items in
+    let size = ap length c.pop_front-2.ensures.bytes ∙ length-drop (length c.as_byte_slice-here.result.now) t.bytes in
+    let none = nil_from_length left.bytes (omega (arith, size, len)) in
+    rest_loses t xs c.args.count c.requires.queue long ys left c.refill.new.first zs none c.refill.ensures.texts
+    c.drop_in.ensures.texts

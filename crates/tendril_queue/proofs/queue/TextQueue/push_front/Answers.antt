@@ -1,12 +1,18 @@
-use Rattle.std.proofs.Common.{◌<◌, length, ap, arith}
-use Rattle.std.specs.Prelude.{is_ok}
-use Rattle.tendril_queue.proofs.Fronts.{pushed_front}
+use Rattle.std.proofs.Common.{◌<◌, length, subst, sym, ap, ◌∙◌, arith, true≢false}
+use Rattle.tendril_queue.proofs.Fronts.{front_queue}
+use Rattle.tendril_queue.specs.Queues.{IsQueue}
 use Rattle.tendril_queue.proofs.queue.TextQueue.push_front.Goals as goal
+use Rattle.tendril_text.specs.Texts.{Text}
 
-pub invariant_of-self : goal.invariant_of-self
-invariant_of-self g c =
+pub invariant_of-self-in-Ok : goal.invariant_of-self-in-Ok
+invariant_of-self-in-Ok g c =
+    let xs = c.self.inside.rest.items in
+    let ys = c.push_front.new.self.items in
+    let t = c.replace-second.result in
     let len = ap length c.as_byte_slice.ensures.value in
     let some : 0 < length c.args.text.bytes = grind arith in
-    pushed_front (is_ok c.push_front.result) c.self.inside.texts.items c.push_front.new.self.items c.args.text
-    c.push_front.ensures.items c.self.invariant
-    (record { some = some; valid = c.as_byte_slice.ensures.valid })
+    subst (λ (u : Text). IsQueue u ys) (sym c.replace-second.ensures.after) (front_queue t c.args.text xs ys
+    c.in-Ok.ensures.items
+    (subst (λ (x : Text). IsQueue x xs) (sym c.replace-second.ensures.value) c.self.invariant)
+    (λ none. true≢false (sym (c.is_empty-2.ensures.1 none) ∙ c.if-is_empty-2.false))
+    c.as_byte_slice.ensures.valid some)

@@ -1,6 +1,6 @@
 use Rattle.std.proofs.Common.{◌≡◌, ◌<◌, ◌+◌, length, sym, ◌∙◌, arith, true≢false}
 use Rattle.tendril_queue.proofs.Looked.{IsNext, begins, bounds, differs, parts_same, passed_more, same_parts}
-use Rattle.tendril_queue.proofs.eat.look_for.Goals as goal
+use Rattle.tendril_queue.proofs.eat.look_in.Goals as goal
 
 pub returns-then-not-is_same : goal.returns-then-not-is_same
 returns-then-not-is_same g c =
