@@ -1,5 +1,6 @@
 -- The definitions that callers of ropes, and of tables that hold them, cite. Those of formats are in `Fmt`; lemmas are
 -- in `Proofs`.
+pub use Rattle.rope_text.specs.Fronts
 pub use Rattle.rope_text.specs.Growth
 pub use Rattle.rope_text.specs.Parts
 pub use Rattle.rope_text.specs.Ropes

@@ -7,7 +7,8 @@
 pub use rope_run::{
     RopeCommand, RopeReply, RopeTable, parse_rope_line, print_rope_reply, run_ropes,
 };
-pub use rope_text::{MAX_TOTAL, Rope, decode_rope, read_rope, rope_from_file};
+pub use rope_text::{MAX_TOTAL, Rope, RopeLines, decode_rope, read_rope, rope_from_file};
 pub use tendril::{
-    Atomic, Atomicity, ByteTendril, NonAtomic, StrTendril, Tendril, block, fmt, lossy, stream,
+    Atomic, Atomicity, ByteSet, ByteTendril, NonAtomic, StrTendril, Tendril, block, fmt, lossy,
+    stream,
 };

@@ -3,8 +3,11 @@ pub mod Compared
 pub mod Cuts
 pub mod Decoded
 pub mod Ends
+pub mod Found
+pub mod Fronts
 pub mod Grown
 pub mod Joined
+pub mod Lines
 pub mod Located
 pub mod PartsOf
 pub mod Passed

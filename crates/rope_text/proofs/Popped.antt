@@ -44,7 +44,7 @@ IsPopped_some (x ∷ rest) t left total c s start ends h is r e k some moved =
     (All-cons IsPiece left rest (record { some = some; short = omega arith; valid = IsUtf8-past_char x.bytes left.bytes c p.valid f }) (All-tail IsPiece x rest r.each))
     (AreEnds-left x left rest s start (len_utf8 c) ends size moved r.places)
     (ap (λ l. l ++ bytes_of_all rest) f ∙ append_assoc (encode_utf8 c) left.bytes (bytes_of_all rest))
-    (record { first = x; rest = rest; left = left; had = refl; has = ap (λ l. l ++ rest) (sym (piece_of_some left some)); keeps = subst (λ y. Keeps y left) is k })
+    (record { first = x; rest = rest; left = left; had = refl; has = ap (λ l. l ++ rest) (sym (piece_of_some left some)); lost = encode_utf8 c; bytes = f; keeps = subst (λ y. Keeps y left) is k })
 
 -- it was its last character
 pub IsPopped_all : (xs : List Text) (t left : Text) (total c s start : ℕ) (ends : List ℕ) → 0 < length xs → t ≡ get_or xs 0 t → IsRope xs s ends total → t.bytes ≡ encode_utf8 c ++ left.bytes → Keeps t left → length left.bytes ≡ 0 → start ≡ (s + len_utf8 c) % 2 ^ 64 → IsPopped xs (drop 1 (set xs 0 left)) total c start (drop 1 ends)
@@ -56,4 +56,4 @@ IsPopped_all (x ∷ rest) t left total c s start ends h is r e k none moved =
     (All-tail IsPiece x rest r.each)
     (AreEnds-rest x rest s start ends (moved ∙ ap (λ n. (s + n) % 2 ^ 64) (sym size)) r.places)
     (ap (λ l. l ++ bytes_of_all rest) f ∙ append_assoc (encode_utf8 c) left.bytes (bytes_of_all rest) ∙ ap (λ l. encode_utf8 c ++ (l ++ bytes_of_all rest)) (nil_from_length left.bytes none))
-    (record { first = x; rest = rest; left = left; had = refl; has = ap (λ l. l ++ rest) (sym (piece_of_none left none)); keeps = subst (λ y. Keeps y left) is k })
+    (record { first = x; rest = rest; left = left; had = refl; has = ap (λ l. l ++ rest) (sym (piece_of_none left none)); lost = encode_utf8 c; bytes = f; keeps = subst (λ y. Keeps y left) is k })

@@ -1,4 +1,5 @@
 -- The definitions that contracts on ropes cite.
+pub mod Fronts
 pub mod Growth
 pub mod Parts
 pub mod Ropes

@@ -34,6 +34,8 @@ pub record LosesFront (old new : List Text) : Type 0 where
   pub left : Text
   pub had : old ≡ first ∷ rest
   pub has : new ≡ piece_of left ++ rest
+  pub lost : List ℕ
+  pub bytes : first.bytes ≡ lost ++ left.bytes
   pub keeps : Keeps first left
 
 -- more than 8 bytes of one piece are in the slice of `count` bytes from the offset on

@@ -5,4 +5,8 @@ mod decode;
 mod rope;
 
 pub use crate::decode::{decode_rope, read_rope, rope_from_file};
-pub use crate::rope::{MAX_TOTAL, Rope};
+pub use crate::rope::{MAX_TOTAL, Rope, RopeLines};
+pub use tendril_stream as stream;
+pub use tendril_text::{
+    Atomic, Atomicity, ByteSet, ByteTendril, NonAtomic, StrTendril, Tendril, block, fmt,
+};

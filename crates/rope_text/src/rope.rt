@@ -6,16 +6,19 @@
 ghost use Rattle.std.specs.Prelude.{◌≡◌, [], length};
 
 mod compare;
+mod lines;
 mod list;
 mod part;
 mod place;
 mod pop;
 mod print;
 mod push;
+mod search;
 mod sink;
 mod split;
 mod whole;
 
+pub use lines::RopeLines;
 use std::alloc::Global;
 use std::collections::VecDeque;
 use std::marker::Model;

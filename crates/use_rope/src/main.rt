@@ -1,13 +1,10 @@
-//! Reads a file into a rope, and prints its length and the beginning of its first line.
+//! Reads a file into a rope, and prints its length and its first line.
 #![tactic(auto)]
 
 use anyhow::Context;
-use rope::{Rope, rope_from_file};
+use rope_text::{Rope, rope_from_file};
+use std::env;
 use std::process::ExitCode;
-use std::{env, io};
-
-/// The maximal number of characters that are printed of the first line.
-const SHOWN: usize = 60;
 
 fn main(rt: HostRuntime) -> anyhow::Result<ExitCode> {
     let Some(path) = env::args(&rt)?.nth(1) else {
@@ -20,15 +17,10 @@ fn main(rt: HostRuntime) -> anyhow::Result<ExitCode> {
     Ok(ExitCode::SUCCESS)
 }
 
-fn describe(rt: &HostRuntime, mut rope: Rope) -> io::Result<()> {
+fn describe(rt: &HostRuntime, mut rope: Rope) -> anyhow::Result<()> {
     println!(rt; "{} bytes in {} pieces", rope.len64(), rope.piece_count())?;
-    let mut line = String::new(rt.alloc());
-    for _ in 0..SHOWN {
-        match rope.pop_front_char() {
-            None | Some('\n') => break,
-            Some(character) => line.push(character)?,
-        }
+    if let Some(line) = rope.pop_line()? {
+        println!(rt; "{line}")?;
     }
-    println!(rt; "{line}")?;
     Ok(())
 }

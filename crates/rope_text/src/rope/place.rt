@@ -17,7 +17,7 @@ impl<A: Atomicity> Rope<A> {
     }
 
     // The offset where a piece begins, or where the last one ends.
-    fn start_of(&self, index: usize) -> u64
+    pub(super) fn start_of(&self, index: usize) -> u64
         requires { index ≤ length self.now.pieces }
         ensures { result ≡ length (bytes_of_all (take index self.now.pieces)) }
     {

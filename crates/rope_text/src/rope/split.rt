@@ -1,5 +1,5 @@
 //! Splits of ropes.
-ghost use Rattle.std.specs.Prelude.{◌≡◌, ◌<◌, ◌≤◌, ◌+◌, [], length, take, drop, IsUtf8};
+ghost use Rattle.std.specs.Prelude.{◌≡◌, ◌<◌, ◌≤◌, ◌+◌, ◌↔◌, [], length, take, drop, IsTrue, IsUtf8};
 ghost use Rattle.std.specs.Str.{IsCharBoundary};
 ghost use Rattle.std.specs.VecDeque.{deque_capacity, deque_len};
 ghost use Rattle.tendril_block.specs.Outcomes.{NoneMust, Outcome};
@@ -15,6 +15,28 @@ use tendril_text::fmt::UTF8;
 use tendril_text::{Atomicity, StrTendril, SubtendrilError, Tendril};
 
 impl<A: Atomicity> Rope<A> {
+    /// Whether the offset is 0, the end, or where a character begins: where `sub_rope` and `try_split_to` may cut.
+    ///
+    /// Takes logarithmic time to find the piece, and allocates nothing.
+    ///
+    /// ```
+    /// let mut rope = Rope::new(alloc);
+    /// rope.push_tendril(StrTendril::from_slice(alloc, "aé")?)?;
+    /// assert_eq!(rt; rope.is_char_boundary(1), true);
+    /// assert_eq!(rt; rope.is_char_boundary(2), false);
+    /// ```
+    pub fn is_char_boundary(&self, at: u64) -> bool
+        ensures test { IsTrue result ↔ IsCharBoundary self.now.bytes at }
+        ensures cut { IsTrue result ↔ ((at ≤ length self.now.bytes) × IsUtf8 (take at self.now.bytes)) }
+        ensures valid { IsUtf8 self.now.bytes }
+    {
+        if at > self.total {
+            return false;
+        }
+        let (whole, within) = self.place_of_cut(at);
+        self.is_cut(whole, within)
+    }
+
     /// Removes the first `count` bytes and returns them as a rope, if they are there and UTF-8.
     ///
     /// Returns `OutOfBounds` if the rope has fewer, else `ValidationFailed` if the split cuts a character, else `Memory` if an

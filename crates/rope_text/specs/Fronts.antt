@@ -1,0 +1,70 @@
+-- What leaves a rope at its front: the bytes before one of a set, and lines.
+use Rattle.std.specs.Prelude.{
+  ℕ,
+  ◌≡◌,
+  ◌<◌,
+  ◌⊎◌,
+  Bool,
+  true,
+  false,
+  List,
+  [],
+  ◌++◌,
+  length,
+  Option,
+  Some,
+  None,
+  Result,
+  Ok,
+  Err,
+}
+use Rattle.tendril_block.specs.declared.refusal.Refusal.{Refusal}
+use Rattle.rope_text.specs.Parts.{LosesFront}
+use Rattle.rope_text.specs.Ropes.{RopeText}
+use Rattle.rope_text.specs.Splits.{IsCutAt, SplitMay}
+use Rattle.tendril_text.specs.Iterators.{PartComes}
+use Rattle.tendril_text.specs.Search.{EndsBefore}
+use Rattle.tendril_text.specs.Splits.{TakesLine}
+use Rattle.tendril_text.specs.Texts.{Text}
+
+-- a rope was cut before its first byte of the set, which it doesn't begin with, or at its end
+pub record CutsBefore (set : ℕ → Bool) (old front rest : RopeText) : Type 0 where
+  pub count : ℕ
+  pub ends : EndsBefore set old.bytes count
+  pub some : 0 < count
+  pub cut : IsCutAt count old front rest
+
+-- no state rules out what may stop a cut before the first byte of the set, or at the end
+pub record CutBeforeMay (set : ℕ → Bool) (rope : RopeText) (r : Refusal) : Type 0 where
+  pub count : ℕ
+  pub ends : EndsBefore set rope.bytes count
+  pub may : SplitMay rope.pieces count r
+
+-- the last of some pieces, of which the first may have lost bytes at its front
+pub record LosesPieces (old new : List Text) : Type 0 where
+  pub gone : List Text
+  pub kept : List Text
+  pub had : old ≡ gone ++ kept
+  pub has : (new ≡ kept) ⊎ LosesFront kept new
+
+-- a rope was cut behind its first line, and what follows lost the line ending
+pub record CutsLine (old line rest : RopeText) : Type 0 where
+  pub takes : TakesLine old.bytes line.bytes rest.bytes
+  pub behind : RopeText
+  pub cut : IsCutAt (length line.bytes) old line behind
+  pub loses : LosesPieces behind.pieces rest.pieces
+
+-- no state rules out what may stop a cut behind the first line
+pub record CutLineMay (rope : RopeText) (r : Refusal) : Type 0 where
+  pub line : List ℕ
+  pub rest : List ℕ
+  pub takes : TakesLine rope.bytes line rest
+  pub may : SplitMay rope.pieces (length line) r
+
+-- the next line of a rope comes: none once a cut was refused or nothing is left
+abbrev pub NextCutLine : RopeText → Bool → Option (Result RopeText Refusal) → RopeText → Bool → Type 0
+NextCutLine rope refused None rest then =
+    ((refused ≡ true) ⊎ (rope.bytes ≡ [])) × (rest ≡ rope) × (then ≡ refused)
+NextCutLine rope refused (Some (Ok line)) rest then = PartComes refused then × CutsLine rope line rest
+NextCutLine rope refused (Some (Err r)) rest then =
+    (refused ≡ false) × (then ≡ true) × (rest ≡ rope) × CutLineMay rope r
