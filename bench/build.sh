@@ -55,7 +55,7 @@ add_exports() {
         done
     done
     # The tokenizer that is measured, with its definitions and proofs.
-    tar -C "$1/crates/use_tokens" --exclude=proofs/tokenize -cf - src/{markup,state,token,tokenizer}.rt specs proofs \
+    tar -C "$1/crates/use_tokens" --exclude=proofs/tokenize -cf - src/{joined,markup,state,token,tokenizer}.rt specs proofs \
         | tar -C "$1/crates/port_exports" -xf -
     grep -rl use_tokens "$1/crates/port_exports" | xargs sed -i 's/Rattle\.use_tokens\./Rattle.port_exports./'
     local used='tendril tendril_queue tendril_stream tendril_text tendril_block tendril_fmt tendril_lossy'
