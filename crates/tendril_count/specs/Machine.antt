@@ -168,7 +168,7 @@ run limit (s ∷ steps) b = run limit steps (happens limit b s)
 abbrev pub after : ℕ → ℕ → List CountStep → Block
 after limit thread steps = run limit (Make thread ∷ steps) nothing
 
--- 1 for a reference that exists, a surplus one not counted
+-- 1 for a reference that exists, whether or not it has a surplus one
 abbrev pub is_held : Holder → ℕ
 is_held Ended = 0
 is_held (Reads t) = 1

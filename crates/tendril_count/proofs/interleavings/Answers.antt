@@ -1,12 +1,21 @@
 -- Each clause, from the invariant of the machine.
-use Rattle.std.proofs.Common.{◌≡◌, ◌⊎◌, inl, inr, ⊎_elim, ℕ, zero, suc, ◌+◌, ◌<◌, List, [], ◌∷◌, length, refl, ap, arith}
-use Rattle.tendril_count.specs.Machine.{CountStep, Make, Add, Alone, Done, Subtract, Free, Pass, Ended, IsEndOfWrite, Block, Writes, held, holder_at, is_held, IsCounted, IsFreedOnce, IsOnesDuty, IsWriter, IsAlone, happens}
-use Rattle.tendril_count.proofs.Kept.{Kept, after_kept, is_writer, counts_at, no_more, sole}
+use Rattle.std.proofs.Common.{◌≡◌, ◌⊎◌, inl, inr, ⊎_elim, ℕ, zero, suc, ◌+◌, ◌<◌, List, [], ◌∷◌, length, refl, ap}
+use Rattle.std.proofs.Common.{arith}
+use Rattle.tendril_count.specs.Machine.{CountStep, Make, Add, Alone, Done, Subtract, Free, Pass, Ended, IsEndOfWrite}
+use Rattle.tendril_count.specs.Machine.{Block, Writes, held, holder_at, is_held, IsCounted, IsFreedOnce, IsOnesDuty}
+use Rattle.tendril_count.specs.Machine.{IsWriter, IsAlone, happens}
+use Rattle.tendril_count.proofs.Totals.{is_writer, counts_at, no_more, sole}
+use Rattle.tendril_count.proofs.Kept.{Kept, after_kept}
 use Rattle.tendril_count.proofs.interleavings.Goals as goal
 
 module _ (limit : ℕ) (b : Block) (kept : Kept limit b) where
   counted : IsCounted limit b
-  counted = record { word = kept.word; most = omega (arith, kept.word, kept.within, no_more b.holders); within = kept.within }
+  counted = record {
+    word = kept.word;
+    most = omega (arith, kept.word, kept.within, no_more b.holders);
+    within =
+        kept.within;
+  }
 
   zero_or : (n : ℕ) → (n ≡ 0) ⊎ (0 < n)
   zero_or zero = inl refl
@@ -14,8 +23,16 @@ module _ (limit : ℕ) (b : Block) (kept : Kept limit b) where
 
   freed_once : IsFreedOnce b
   freed_once = elim (zero_or (held b)) [
-    | inl none ↦ record { once = omega (arith, kept.over none); not_held = λ some. (none, omega (arith, none, no_more b.holders)) }
-    | inr some ↦ record { once = omega (arith, kept.before some); not_held = λ freed. absurd (lt_irr (omega (arith, kept.before some, freed))) }
+    | inl none ↦ record {
+      once = omega (arith, kept.over none);
+      not_held =
+          λ some. (none, omega (arith, none, no_more b.holders));
+    }
+    | inr some ↦ record {
+      once = omega (arith, kept.before some);
+      not_held =
+          λ freed. absurd (lt_irr (omega (arith, kept.before some, freed)));
+    }
   ]
     where
       lt_irr : 0 < 0 → ⊥
@@ -28,7 +45,8 @@ module _ (limit : ℕ) (b : Block) (kept : Kept limit b) where
       no : suc (length ts) ≡ 0 → ⊥
       no e = omega (arith, e)
 
-  who : (n : ℕ) → b.frees ≡ n → b.frees + length b.duties ≡ 1 → ((b.frees ≡ 1) × (b.duties ≡ [])) ⊎ ((b.frees ≡ 0) × (length b.duties ≡ 1))
+  who : (n : ℕ) → b.frees ≡ n → b.frees + length b.duties ≡ 1 → ((b.frees ≡ 1) × (b.duties ≡ []))
+      ⊎ ((b.frees ≡ 0) × (length b.duties ≡ 1))
   who zero is one = inr (is, omega (arith, is, one))
   who (suc n) is one = inl (omega (arith, is, one), nil b.duties (omega (arith, is, one)))
 
@@ -70,4 +88,5 @@ pub returns-clause-writer : goal.returns-clause-writer
 returns-clause-writer c = λ limit thread steps k t low is. writer limit _ (after_kept limit thread steps low) k t is
 
 pub returns-clause-none_added : goal.returns-clause-none_added
-returns-clause-none_added c = λ limit thread steps k t s low is. still limit _ (after_kept limit thread steps low) k t s is
+returns-clause-none_added c = λ limit thread steps k t s low is. still limit _ (after_kept limit thread steps low) k t
+    s is
