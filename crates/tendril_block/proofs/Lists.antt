@@ -1,5 +1,6 @@
 -- A list whose first elements are overwritten.
-use Rattle.std.proofs.Common.{◌≡◌, ℕ, zero, suc, ◌≤◌, List, [], ◌∷◌, ◌++◌, length, take, drop, length-take-le, refl, sym, ◌∙◌, ap, arith}
+use Rattle.std.proofs.Common.{◌≡◌, ℕ, zero, suc, ◌≤◌, List, [], ◌∷◌, ◌++◌, length, take, drop, length-take-le, refl}
+use Rattle.std.proofs.Common.{sym, ◌∙◌, ap, arith}
 use Rattle.std.proofs.lemmas.List.{take-take}
 use Rattle.std.specs.List.{refill}
 
@@ -10,7 +11,8 @@ front_written (suc n) (x ∷ w) [] = refl
 front_written (suc n) (x ∷ w) (y ∷ xs) = ap (λ (l : List ℕ). x ∷ l) (front_written n w xs)
 
 -- the first m of the overwritten bytes are the first m bytes, overwritten
-pub take-refill : (m : ℕ) (xs w : List ℕ) → m ≤ length xs → take m (refill (length xs) xs w) ≡ refill (length (take m xs)) (take m xs) w
+pub take-refill : (m : ℕ) (xs w : List ℕ) → m ≤ length xs → take m (refill (length xs) xs w)
+    ≡ refill (length (take m xs)) (take m xs) w
 take-refill m xs w le =
     take-take m (length xs) (w ++ drop (length w) xs) le ∙ front_written m w xs
     ∙ ap (λ (k : ℕ). take k (w ++ drop (length w) (take m xs))) (sym (length-take-le m xs le))

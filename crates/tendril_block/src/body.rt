@@ -41,6 +41,20 @@ impl Body {
         }
     }
 
+    /// A copy of few bytes. Allocates nothing.
+    #[inline(always)]
+    pub(crate) fn small(alloc: Global, bytes: &[u8]) -> Self
+        requires { length bytes.now ≤ 40 }
+        ensures bytes { result.bytes ≡ bytes.now }
+        ensures took { result.took ≡ length bytes.now }
+    {
+        let none = Copied::zero();
+        Body {
+            stored: Stored::small(alloc, bytes),
+            took: none.plus(&none, &none, bytes.len()),
+        }
+    }
+
     /// A copy of these bytes with at least this capacity.
     pub(crate) fn copy(alloc: Global, bytes: &[u8], capacity: usize) -> Result<Self, Refusal>
         ensures bytes { IfOk result (λ b. b.bytes ≡ bytes.now) }

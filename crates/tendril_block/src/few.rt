@@ -1,5 +1,6 @@
 //! Few bytes, stored in the value itself, with their number in one byte.
-ghost use Rattle.std.specs.Prelude.{◌≡◌, ◌+◌, ◌≤◌, ◌++◌, [], length, take, drop};
+ghost use Rattle.std.specs.Prelude.{◌≡◌, ◌+◌, ◌-◌, ◌≤◌, ◌++◌, [], length, take, drop};
+ghost use Rattle.std.specs.Int.{to_le_bytes, w64};
 ghost use Rattle.std.specs.List.{refill};
 ghost use Rattle.tendril_block.specs.Tail.{tail_bytes, tail_room};
 ghost use Rattle.std.specs.Borrow.{Lends, Array, u8 as byte, sem};
@@ -13,10 +14,12 @@ pub const NODE_CAPACITY: usize = 40;
 
 /// At most `NODE_CAPACITY` bytes. The array's bytes after them have no meaning.
 // With the length in one byte a node has 56 bytes. With a length of 8 bytes it would have 64, for which `malloc` takes
-// 80.
+// 80. The six bytes `gap` put the array at an offset of `Stored` that 8 divides, since a node is moved in words: a load
+// of a word from the parts of two that were just written would stall the processor.
 #[derive(Drop)]
 pub(crate) struct Few {
     len: u8,
+    gap: [u8; 6],
     cells: Cells,
     alloc: Global,
 }
@@ -88,7 +91,68 @@ fn put_word(place: &mut [u8], bytes: &[u8], at: usize)
     requires in_bytes { at + 8 ≤ length bytes.now }
     ensures { place.new ≡ take at place.old ++ (take 8 (drop at bytes.now) ++ drop (at + 8) place.old) }
 {
-    place[at..at + 8].copy_from_slice(&bytes[at..at + 8]);
+    put_number(place, at, word_of(&bytes[at..at + 8]));
+}
+
+// Copies 8 to 40 bytes to the front of an array. Each of its five words is computed in a register, whatever the length:
+// to move the array, right after it was written at places that depend on the length, would stall the processor.
+#[inline(always)]
+fn five_words(bytes: &[u8]) -> [u8; 40]
+    requires many { 8 ≤ length bytes.now }
+    requires few { length bytes.now ≤ 40 }
+    ensures { take (length bytes.now) result ≡ bytes.now }
+{
+    let mut words = [0; 40];
+    put_number(&mut words, 0, word_at(bytes, 0));
+    put_number(&mut words, 8, word_at(bytes, 8));
+    put_number(&mut words, 16, word_at(bytes, 16));
+    put_number(&mut words, 24, word_at(bytes, 24));
+    put_number(&mut words, 32, word_at(bytes, 32));
+    words
+}
+
+// Writes the bytes of a number over the eight from `at` on.
+#[inline(always)]
+fn put_number(place: &mut [u8], at: usize, number: u64)
+    requires { at + 8 ≤ length place.old }
+    ensures { place.new ≡ take at place.old ++ (to_le_bytes w64 number ++ drop (at + 8) place.old) }
+{
+    put_eight(&mut place[at..at + 8], number);
+}
+
+// Overwrites eight bytes by those of a number. `copy_from_slice` would test whether the two overlap.
+#[inline(always)]
+fn put_eight(place: &mut [u8], number: u64)
+    requires { length place.old ≡ 8 }
+    ensures { place.new ≡ to_le_bytes w64 number }
+{
+    if let Some(eight) = place.as_mut_array::<8>() {
+        *eight = number.to_le_bytes();
+    }
+}
+
+// The eight bytes from `at` on as a number, in little-endian order. If there are fewer from `at` on, the last eight are
+// read, and those before `at` are shifted out.
+#[inline(always)]
+fn word_at(bytes: &[u8], at: usize) -> u64
+    requires many { 8 ≤ length bytes.now }
+    requires few { at ≤ 32 }
+    ensures { take (length bytes.now - at) (to_le_bytes w64 result) ≡ take 8 (drop at bytes.now) }
+{
+    let from = at.min(bytes.len() - 8);
+    word_of(&bytes[from..from + 8]) >> (8 * (at - from) % 64)
+}
+
+// Eight bytes as a number, in little-endian order.
+#[inline(always)]
+fn word_of(bytes: &[u8]) -> u64
+    requires { length bytes.now ≡ 8 }
+    ensures { to_le_bytes w64 result ≡ bytes.now }
+{
+    match bytes {
+        [a, b, c, d, e, f, g, h] => u64::from_le_bytes([*a, *b, *c, *d, *e, *f, *g, *h]),
+        _ => 0,
+    }
 }
 
 impl Few {
@@ -100,7 +164,29 @@ impl Few {
     {
         Few {
             len: 0,
+            gap: [0; 6],
             cells: Cells { bytes: [0; 40] },
+            alloc,
+        }
+    }
+
+    /// A copy of few bytes.
+    #[inline(always)]
+    pub(crate) fn copy(alloc: Global, bytes: &[u8]) -> Self
+        requires { length bytes.now ≤ 40 }
+        ensures { result ≡ bytes.now }
+    {
+        if bytes.len() < 8 {
+            let mut few = Few::new(alloc);
+            few.push(bytes);
+            return few;
+        }
+        Few {
+            len: bytes.len() as u8,
+            gap: [0; 6],
+            cells: Cells {
+                bytes: five_words(bytes),
+            },
             alloc,
         }
     }
@@ -168,10 +254,8 @@ impl Few {
         requires { start + len ≤ length self.old }
         ensures { self.new ≡ take len (drop start self.old) }
     {
-        let mut kept = Few::new(self.alloc);
-        kept.push(&self.as_slice()[start..start + len]);
-        *self = kept;
+        *self = Few::copy(self.alloc, &self.as_slice()[start..start + len]);
     }
 }
 
-const _: () = prove!(size_of::<Few>() == 41);
+const _: () = prove!(size_of::<Few>() == 47);

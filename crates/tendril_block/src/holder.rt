@@ -6,6 +6,7 @@ ghost use Rattle.tendril_block.specs.contracts.body.Body.{the_row as body_row};
 use crate::atomicity::Atomicity;
 use crate::body::Body;
 use crate::copied::Copied;
+use crate::few::NODE_CAPACITY;
 use crate::node::kind::Kind;
 use crate::pointer::Pointer;
 use crate::refusal::Refusal;
@@ -24,8 +25,7 @@ pub struct CountedBy<K, const N: u64> {
 #[derive(Drop)]
 pub struct Holder<K: Kind, const N: u64> {
     pointer: Pointer<K, N>,
-    // `since`: how many bytes had been copied into the body when counting for this reference last began; 0 in a new
-    // block. `before`: how many bytes count as copied for this reference up to then.
+    // What was copied for this reference is `before`, and what was copied into the body since that number was `since`.
     since: Copied,
     before: Copied,
 }
@@ -51,6 +51,13 @@ impl<K: Kind, const N: u64> Atomicity for CountedBy<K, N> {
     }
 
     fn copy(alloc: Global, bytes: &[u8], capacity: usize) -> Result<Holder<K, N>, Refusal> {
+        // Few bytes have a branch of their own, so that their words go from registers to the node.
+        if capacity.max(bytes.len()) <= NODE_CAPACITY {
+            let Ok(pointer) = Pointer::make(alloc, Body::small(alloc, bytes)) else {
+                return Err(Refusal::Memory);
+            };
+            return Ok(Holder::new(pointer));
+        }
         let Ok(pointer) = Pointer::make(alloc, Body::copy(alloc, bytes, capacity)?) else {
             return Err(Refusal::Memory);
         };

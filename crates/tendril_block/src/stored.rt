@@ -18,13 +18,12 @@ const _: () = prove!(size_of::<Stored>() == 48);
 
 impl Stored {
     /// A copy of few bytes.
+    #[inline(always)]
     pub(crate) fn small(alloc: Global, bytes: &[u8]) -> Self
         requires { length bytes.now ≤ 40 }
         ensures { stored_bytes result ≡ bytes.now }
     {
-        let mut few = Few::new(alloc);
-        few.push(bytes);
-        Stored::Small(few)
+        Stored::Small(Few::copy(alloc, bytes))
     }
 
     /// A copy of these bytes with at least this capacity.

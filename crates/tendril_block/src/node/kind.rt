@@ -28,7 +28,8 @@ pub trait Kind {
         requires* { sem 𝓛 (peeks any_thread g word) }
         ensures* { sem 𝓛 (token_of g) };
 
-    /// Stores `next` if the count is still `seen`, which is the machine's `Add`, and returns the count before.
+    /// Compares and exchanges: stores `next` if the count is still `seen`. Returns the count that it found, which is
+    /// `seen` exactly if it stored `next`. The store is the machine's step `Add`.
     unsafe fn add(word: *mut u64, seen: u64, next: u64) -> u64
         ghost g: { Joining }
         requires below { seen < limit g.0.0 }

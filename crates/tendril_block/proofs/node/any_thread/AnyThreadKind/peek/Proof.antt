@@ -6,7 +6,8 @@ use base.Fml.{Fml}
 use mir.Val.{Val, vint, vptr}
 use contract.Running.{tables}
 use prog.Wp.{WpFn}
-use types.Kit.{‵, raw, prop, mean, at_ret, ◌$◌, ◌∵◌, !, qed, done, drop, use1, join, fjoin, feq_i, flt_i, regoal, suffices, group}
+use types.Kit.{‵, raw, prop, mean, at_ret, ◌$◌, ◌∵◌, !, qed, done, drop, use1, join, fjoin, feq_i, flt_i, regoal}
+use types.Kit.{suffices, group}
 use types.Run.{enter, of_opd, lit, first, blocks, exec, Calls-last, returns, no_more, and_then}
 use types.Part.{agg}
 use types.ByLocal.{alloc_all, pass_all, free_all, look_at, get, sets, lands_last, env}
@@ -21,7 +22,7 @@ use Rattle.atomic_table.proofs.Calls.{fm, seq_cst, found, finds, loads}
 use Rattle.tendril_count.specs.Rule.{Any}
 use Rattle.tendril_block.specs.Owned.{limit, content, peeks, token_of}
 use Rattle.tendril_block.proofs.Carved.{low}
-use Rattle.tendril_count.proofs.Steps as Steps
+use Rattle.tendril_count.proofs.Opening as Opening
 use Rattle.tendril_block.specs.contracts.node.any_thread.AnyThreadKind.peek as f
 use Rattle.tendril_block.proofs.node.any_thread.AnyThreadKind.peek.Statement.{statement}
 use Rattle.tendril_block.proofs.node.any_thread.AnyThreadKind.peek.Code as code
@@ -41,11 +42,14 @@ peek_spec 𝓤 𝓛 𝓜 𝓡 wired =
     regoal ! (λ p. prop (WpFn 𝓤 𝓛.H 𝓣.C 𝓣.Λ code.function (rawptr_vals p) (W.post (y p)))) e refl $
     let after : ℕ → Fml = λ _. token_of g in let Post = W.post (y (block_ptr b o)) in
     use1 𝓛 (raw (𝓣.C _ (vptr b o ∷ seq_cst ∷ []) (λ r. mean 𝓛 (found after r))))
-    (via 𝓤 _ (Steps.peeks 𝓛 Any (limit g.0.0) (content g.0.1 g.0.2 b g.0.3) b o g.0.4.0 g.0.4.1 (low g.0.0) g.1) (loads 𝓛 𝓜 𝓡 (code.calls-core::raw_atomic::load 𝓡.env wired) (block_ptr b o) after)) $
+    (via 𝓤 _ (Opening.peeks 𝓛 Any (limit g.0.0) (content g.0.1 g.0.2 b g.0.3) b o g.0.4.0 g.0.4.1 (low g.0.0) g.1)
+    (loads 𝓛 𝓜 𝓡 (code.calls-core::raw_atomic::load 𝓡.env wired) (block_ptr b o) after)) $
     enter ! _ _ _ _ _ $ alloc_all ! (λ l. pass_all ! refl ((tt, tt), tt) $ let Ev = env code.function.locals l in
     first ! $ blocks ! $ sets ! (agg ! (and_then ! (lit ! tt) (no_more !))) refl (tt, (record { fits = lit< tt }, tt)) $
-    Calls-last ! (fm 𝓛 𝓜 𝓡) (found after) (and_then ! (get ! refl) (and_then ! (get ! refl) (no_more !))) (λ r. finds ! after (λ n fits.
-    lands_last ! refl (tt, record { fits = fits }) $ exec ! 𝓣.C 𝓣.Λ Ev (tail code.function.body) (at_ret Ev Post) $ sets ! (of_opd ! (get ! refl)) refl (tt, record { fits = fits }) $
+    Calls-last ! (fm 𝓛 𝓜 𝓡) (found after) (and_then ! (get ! refl) (and_then ! (get ! refl) (no_more !)))
+    (λ r. finds ! after (λ n fits.
+    lands_last ! refl (tt, record { fits = fits }) $ exec ! 𝓣.C 𝓣.Λ Ev (tail code.function.body) (at_ret Ev Post) $
+    sets ! (of_opd ! (get ! refl)) refl (tt, record { fits = fits }) $
     returns ! (look_at ! 0 refl) $ free_all ! refl $
     suffices ! _ (ends_at 𝓛 f.ended stayed c (y (block_ptr b o)) (vint w64 n) n (tt, tt) (tt, tt)) $
     flt_i ! n (2 ^ 64) fits $ feq_i ! (List Val) (vint w64 n ∷ []) (vint w64 n ∷ []) refl $ fjoin ! $

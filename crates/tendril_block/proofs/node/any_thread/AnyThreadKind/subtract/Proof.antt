@@ -6,7 +6,8 @@ use base.Fml.{Fml}
 use mir.Val.{Val, vint, vptr}
 use contract.Running.{tables}
 use prog.Wp.{WpFn}
-use types.Kit.{‵, raw, prop, mean, at_ret, ◌$◌, ◌∵◌, !, qed, done, drop, use1, join, fjoin, feq_i, flt_i, regoal, suffices, group}
+use types.Kit.{‵, raw, prop, mean, at_ret, ◌$◌, ◌∵◌, !, qed, done, drop, use1, join, fjoin, feq_i, flt_i, regoal}
+use types.Kit.{suffices, group}
 use types.Run.{enter, of_opd, lit, first, blocks, exec, Calls-last, returns, no_more, and_then}
 use types.Part.{agg}
 use types.ByLocal.{alloc_all, pass_all, free_all, look_at, get, sets, lands_last, env}
@@ -21,7 +22,7 @@ use Rattle.atomic_table.proofs.Calls.{fm, seq_cst, found, finds, subs}
 use Rattle.tendril_count.specs.Rule.{Any}
 use Rattle.tendril_block.specs.Owned.{limit, content, holds, left}
 use Rattle.tendril_block.proofs.Carved.{low}
-use Rattle.tendril_count.proofs.Steps.{subtracts}
+use Rattle.tendril_count.proofs.Subtracting.{subtracts}
 use Rattle.tendril_block.specs.contracts.node.any_thread.AnyThreadKind.subtract as f
 use Rattle.tendril_block.proofs.node.any_thread.AnyThreadKind.subtract.Statement.{statement}
 use Rattle.tendril_block.proofs.node.any_thread.AnyThreadKind.subtract.Code as code
@@ -41,11 +42,15 @@ subtract_spec 𝓤 𝓛 𝓜 𝓡 wired =
     regoal ! (λ p. prop (WpFn 𝓤 𝓛.H 𝓣.C 𝓣.Λ code.function (rawptr_vals p) (W.post (y p)))) e refl $
     let after : ℕ → Fml = left true g (block_ptr b o) in let Post = W.post (y (block_ptr b o)) in
     use1 𝓛 (raw (𝓣.C _ (vptr b o ∷ vint w64 1 ∷ seq_cst ∷ []) (λ r. mean 𝓛 (found after r))))
-    (via 𝓤 _ (subtracts 𝓛 Any (limit g.0) (content g.1 g.2 b g.3) b o g.4.0 g.4.1 (low g.0) g.4.2 g.4.3 tt) (subs 𝓛 𝓜 𝓡 (code.calls-core::raw_atomic::fetch_sub 𝓡.env wired) (block_ptr b o) 1 (lit< tt) after)) $
+    (via 𝓤 _ (subtracts 𝓛 Any (limit g.0) (content g.1 g.2 b g.3) b o g.4.0 g.4.1 (low g.0) g.4.2 g.4.3 tt)
+    (subs 𝓛 𝓜 𝓡 (code.calls-core::raw_atomic::fetch_sub 𝓡.env wired) (block_ptr b o) 1 (lit< tt) after)) $
     enter ! _ _ _ _ _ $ alloc_all ! (λ l. pass_all ! refl ((tt, tt), tt) $ let Ev = env code.function.locals l in
     first ! $ blocks ! $ sets ! (agg ! (and_then ! (lit ! tt) (no_more !))) refl (tt, (record { fits = lit< tt }, tt)) $
-    Calls-last ! (fm 𝓛 𝓜 𝓡) (found after) (and_then ! (get ! refl) (and_then ! (lit ! tt) (and_then ! (get ! refl) (no_more !)))) (λ r. finds ! after (λ n fits.
-    lands_last ! refl (tt, record { fits = fits }) $ exec ! 𝓣.C 𝓣.Λ Ev (tail code.function.body) (at_ret Ev Post) $ sets ! (of_opd ! (get ! refl)) refl (tt, record { fits = fits }) $
+    Calls-last ! (fm 𝓛 𝓜 𝓡) (found after)
+    (and_then ! (get ! refl) (and_then ! (lit ! tt) (and_then ! (get ! refl) (no_more !))))
+    (λ r. finds ! after (λ n fits.
+    lands_last ! refl (tt, record { fits = fits }) $ exec ! 𝓣.C 𝓣.Λ Ev (tail code.function.body) (at_ret Ev Post) $
+    sets ! (of_opd ! (get ! refl)) refl (tt, record { fits = fits }) $
     returns ! (look_at ! 0 refl) $ free_all ! refl $
     suffices ! _ (ends_at 𝓛 f.ended stayed c (y (block_ptr b o)) (vint w64 n) n (tt, tt) (tt, tt)) $
     flt_i ! n (2 ^ 64) fits $ feq_i ! (List Val) (vint w64 n ∷ []) (vint w64 n ∷ []) refl $ fjoin ! $
