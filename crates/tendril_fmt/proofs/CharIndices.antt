@@ -1,5 +1,6 @@
 -- What one call of the iterator of std's `char_indices` does to the remaining characters and their offsets.
-use Rattle.std.proofs.Common.{◌≡◌, ℕ, ◌+◌, ◌<◌, List, [], ◌∷◌, length, Option, Some, None, chars, encode_utf8, sym, ap, subst, ◌∙◌, arith, length-append}
+use Rattle.std.proofs.Common.{◌≡◌, ℕ, ◌+◌, ◌<◌, List, [], ◌∷◌, length, Option, Some, None, chars, encode_utf8, sym, ap}
+use Rattle.std.proofs.Common.{subst, ◌∙◌, arith, length-append}
 use Rattle.std.specs.declared.str.CharIndices.{CharIndices}
 use Rattle.std.specs.Str.Iter.{char_indices_steps, char_indices_rest, char_indices_offset}
 use Rattle.std.specs.Iterator.{YieldsFirst, MakesProgress, item_count}
@@ -26,17 +27,21 @@ nothing_left [] at e = ap (places_from encode_utf8 at) chars-nil
 nothing_left (b ∷ bytes) at e = cc
 
 -- the first of them is returned, and the others remain
-pub YieldsFirst-step : (s t : CharIndices) (r : Option (ℕ × ℕ)) → IsAt s → char_indices_steps s r t → YieldsFirst (λ rest. rest) (places s) r (places t)
+pub YieldsFirst-step : (s t : CharIndices) (r : Option (ℕ × ℕ)) → IsAt s → char_indices_steps s r t
+    → YieldsFirst (λ rest. rest) (places s) r (places t)
 YieldsFirst-step s t None h step =
     let none = nothing_left (char_indices_rest s) (char_indices_offset s) step.0 in
     (none, ap places step.1 ∙ none)
 YieldsFirst-step s t (Some p) h step =
-    ap (places_from encode_utf8 (char_indices_offset s)) (chars_past_char (char_indices_rest s) (char_indices_rest t) p.1 h.utf8 step.1)
-    ∙ ap (λ k. (k, p.1) ∷ places_from encode_utf8 (char_indices_offset s + length (encode_utf8 p.1)) (chars (char_indices_rest t))) (sym step.0)
+    ap (places_from encode_utf8 (char_indices_offset s))
+    (chars_past_char (char_indices_rest s) (char_indices_rest t) p.1 h.utf8 step.1)
+    ∙ ap (λ k. (k, p.1) ∷ places_from encode_utf8 (char_indices_offset s + length (encode_utf8 p.1))
+    (chars (char_indices_rest t))) (sym step.0)
     ∙ ap (λ k. p ∷ places_from encode_utf8 k (chars (char_indices_rest t))) (sym step.2)
 
 -- so their number decreases
-pub MakesProgress-first : (can : List (ℕ × ℕ) → Type 0) → ((rest : List (ℕ × ℕ)) → can rest) → (old new : List (ℕ × ℕ)) (r : Option (ℕ × ℕ))
+pub MakesProgress-first : (can : List (ℕ × ℕ) → Type 0) → ((rest : List (ℕ × ℕ)) → can rest)
+    → (old new : List (ℕ × ℕ)) (r : Option (ℕ × ℕ))
     → YieldsFirst (λ rest. rest) old r new → MakesProgress can (item_count (λ rest. rest)) old r new
 MakesProgress-first can always old new None h = record { on = λ _. tt; keeps = tt; rests = λ _. tt }
 MakesProgress-first can always old new (Some p) h = record {

@@ -1,5 +1,7 @@
 -- A slice of valid bytes passes the local tests exactly if it is valid.
-use Rattle.std.proofs.Common.{◌≡◌, ℕ, ◌+◌, ◌-◌, ◌<◌, ◌≤◌, true, List, [], ◌∷◌, ◌++◌, length, take, drop, slice_range, IsUtf8, refl, sym, ap, ap₂, subst, ◌∙◌, arith, inl, inr, ⊎_elim, append_assoc, append-nil, length-append, length-drop, take-append-drop, take_at, drop_at, take_all}
+use Rattle.std.proofs.Common.{◌≡◌, ℕ, ◌+◌, ◌-◌, ◌<◌, ◌≤◌, true, List, [], ◌∷◌, ◌++◌, length, take, drop, slice_range}
+use Rattle.std.proofs.Common.{IsUtf8, refl, sym, ap, ap₂, subst, ◌∙◌, arith, inl, inr, ⊎_elim, append_assoc, append-nil}
+use Rattle.std.proofs.Common.{length-append, length-drop, take-append-drop, take_at, drop_at, take_all}
 use Rattle.std.specs.List.{AllByRecursion}
 use Rattle.std.specs.Char.{encode_utf8}
 use Rattle.std.specs.Str.{encode_utf8_all, all_scalars}
@@ -11,7 +13,8 @@ use Rattle.tendril_fmt.specs.declared.futf.Meaning.TheVariants.{Whole, LeadSurro
 use Rattle.tendril_fmt.specs.CodePoints.{IsCodePoint}
 use Rattle.tendril_fmt.specs.Wtf8.{IsWtf8}
 use Rattle.tendril_fmt.specs.Classify.{Means}
-use Rattle.tendril_fmt.specs.Local.{IsWhole, IsWholeOrSurrogate, StandsAccepted, PassesAsFront, PassesAsEnd, FrontTestIsWhole, EndTestIsWhole, SliceTestIsWhole}
+use Rattle.tendril_fmt.specs.Local.{IsWhole, IsWholeOrSurrogate, StandsAccepted, PassesAsFront, PassesAsEnd}
+use Rattle.tendril_fmt.specs.Local.{FrontTestIsWhole, EndTestIsWhole, SliceTestIsWhole}
 use Rattle.tendril_fmt.proofs.Parts.{last_of}
 use Rattle.tendril_fmt.specs.Proved.Cuts.{Opens, cut}
 use Rattle.tendril_fmt.proofs.Cuts.{cut_after, first_byte}
@@ -29,8 +32,11 @@ pub record Fits (V : List ℕ → Type 0) (P : Meaning → Type 0) : Type 0 wher
   pub code_points : (cs : List ℕ) → V cs → AllByRecursion IsCodePoint cs
   pub front : (xs ys : List ℕ) → V (xs ++ ys) → V xs
   pub back : (xs ys : List ℕ) → V (xs ++ ys) → V ys
-  pub means : (c : ℕ) → V (c ∷ []) → (m : Meaning) × P m × ((buf : List ℕ) (idx s n : ℕ) → slice_range buf s (s + n) ≡ encode_utf8 c → Means buf idx s n m)
-  pub meant : (m : Meaning) → P m → (buf : List ℕ) (idx s n : ℕ) → Means buf idx s n m → (c : ℕ) × IsCodePoint c × (slice_range buf s (s + n) ≡ encode_utf8 c)
+  pub means : (c : ℕ) → V (c ∷ [])
+      → (m : Meaning) × P m × ((buf : List ℕ) (idx s n : ℕ) → slice_range buf s (s + n) ≡ encode_utf8 c
+      → Means buf idx s n m)
+  pub meant : (m : Meaning) → P m → (buf : List ℕ) (idx s n : ℕ) → Means buf idx s n m → (c : ℕ) × IsCodePoint c
+      × (slice_range buf s (s + n) ≡ encode_utf8 c)
 
 part_of : (xs ys zs : List ℕ) → slice_range (xs ++ (ys ++ zs)) (length xs) (length xs + length ys) ≡ ys
 part_of xs ys zs =
@@ -49,7 +55,8 @@ module _ (V : List ℕ → Type 0) (P : Meaning → Type 0) (fits : Fits V P) wh
           let ys = encode_utf8 k.1 in
           let is : part ≡ xs ++ (ys ++ []) = sym e ∙ ap encode_utf8_all k.2 ∙ encodes-append k.0 (k.1 ∷ []) in
           let m = fits.means k.1 (fits.back k.0 (k.1 ∷ []) (subst V k.2 v)) in
-          let long : length part ≡ length xs + length ys = ap length is ∙ length-append xs (ys ++ []) ∙ ap (λ l. length xs + length l) (append-nil ys) in
+          let long : length part ≡ length xs + length ys = ap length is ∙ length-append xs (ys ++ [])
+          ∙ ap (λ l. length xs + length l) (append-nil ys) in
           let some : 0 < length ys = omega (arith, length-encode k.1, (len_utf8_bounds k.1).0) in
           inr (
             length xs,
@@ -59,7 +66,8 @@ module _ (V : List ℕ → Type 0) (P : Meaning → Type 0) (fits : Fits V P) wh
               from = omega arith;
               to = omega arith;
               within = omega arith;
-              means = m.2 part (length part - 1) (length xs) (length ys) (ap (λ l. slice_range l (length xs) (length xs + length ys)) is ∙ part_of xs ys []);
+              means = m.2 part (length part - 1) (length xs) (length ys)
+                  (ap (λ l. slice_range l (length xs) (length xs + length ys)) is ∙ part_of xs ys []);
             },
             m.1,
           )
@@ -81,7 +89,8 @@ module _ (V : List ℕ → Type 0) (P : Meaning → Type 0) (fits : Fits V P) wh
               from = omega arith;
               to = omega arith;
               within = omega (arith, ap length e, length-append ys (encode_utf8_all cs));
-              means = m.2 part 0 0 (length ys) (ap (λ l. slice_range l 0 (0 + length ys)) (sym e) ∙ part_of [] ys (encode_utf8_all cs));
+              means = m.2 part 0 0 (length ys) (ap (λ l. slice_range l 0 (0 + length ys)) (sym e)
+                  ∙ part_of [] ys (encode_utf8_all cs));
             },
             m.1,
           )
@@ -100,8 +109,10 @@ module _ (V : List ℕ → Type 0) (P : Meaning → Type 0) (fits : Fits V P) wh
       let to = st.to in
       let within = st.within in
       let ends : s + n ≡ length part = omega arith in
-      let last : drop s part ≡ encode_utf8 k.0 = sym (take_all (s + n - s) (drop s part) (omega (arith, length-drop s part))) ∙ k.2 in
-      let is : part ≡ take s part ++ encode_utf8 k.0 = sym (take-append-drop s part) ∙ ap (λ l. take s part ++ l) last in
+      let last : drop s part ≡ encode_utf8 k.0 =
+      sym (take_all (s + n - s) (drop s part) (omega (arith, length-drop s part))) ∙ k.2 in
+      let is : part ≡ take s part ++ encode_utf8 k.0 = sym (take-append-drop s part)
+      ∙ ap (λ l. take s part ++ l) last in
       let d = cut_after h.0 (take s part) k.0 after (fits.code_points h.0 h.1) k.1 (h.2 ∙ ap (λ l. l ++ after) is) in
       (d.front, fits.front d.front d.back (subst V {y = d.front ++ d.back} d.split h.1), d.before ∙ sym is)
 
@@ -114,11 +125,16 @@ module _ (V : List ℕ → Type 0) (P : Meaning → Type 0) (fits : Fits V P) wh
       let k = fits.meant w.2 w.4 part 0 s n st.means in
       let from = st.from in
       let zero : s ≡ 0 = omega arith in
-      let first : take n part ≡ encode_utf8 k.0 = sym (ap (λ j. slice_range part j (j + n)) zero ∙ ap (λ j. take j part) (let e : 0 + n - 0 ≡ n = omega arith in e)) ∙ k.2 in
-      let is : encode_utf8 k.0 ++ (drop n part ++ more) ≡ part ++ more = sym (append_assoc (encode_utf8 k.0) (drop n part) more) ∙ ap (λ l. (l ++ drop n part) ++ more) (sym first) ∙ ap (λ l. l ++ more) (take-append-drop n part) in
+      let first : take n part ≡ encode_utf8 k.0 =
+      sym (ap (λ j. slice_range part j (j + n)) zero
+      ∙ ap (λ j. take j part) (let e : 0 + n - 0 ≡ n = omega arith in e)) ∙ k.2 in
+      let is : encode_utf8 k.0 ++ (drop n part ++ more) ≡ part ++ more =
+      sym (append_assoc (encode_utf8 k.0) (drop n part) more) ∙ ap (λ l. (l ++ drop n part) ++ more) (sym first)
+      ∙ ap (λ l. l ++ more) (take-append-drop n part) in
       subst Opens is (first_byte k.0 (drop n part ++ more) k.1)
 
-  from_end : (before part more : List ℕ) → Spelt V (before ++ (part ++ more)) → StandsAccepted P part 0 → Spelt V (part ++ more)
+  from_end : (before part more : List ℕ) → Spelt V (before ++ (part ++ more)) → StandsAccepted P part 0
+      → Spelt V (part ++ more)
   from_end before part more h w =
       let d = cut h.0 before (part ++ more) (fits.code_points h.0 h.1) h.2 (opens part more w) in
       (d.back, fits.back d.front d.back (subst V {y = d.front ++ d.back} d.split h.1), d.after)
@@ -150,7 +166,8 @@ scalar_points : (cs : List ℕ) → all_scalars cs ≡ true → AllByRecursion I
 scalar_points [] h = tt
 scalar_points (c ∷ cs) h = let b = and_parts _ _ h in (IsCodePoint-scalar c b.0, scalar_points cs b.1)
 
-utf8_meant : (m : Meaning) → IsWhole m → (buf : List ℕ) (idx s n : ℕ) → Means buf idx s n m → (c : ℕ) × IsCodePoint c × (slice_range buf s (s + n) ≡ encode_utf8 c)
+utf8_meant : (m : Meaning) → IsWhole m → (buf : List ℕ) (idx s n : ℕ) → Means buf idx s n m → (c : ℕ) × IsCodePoint c
+    × (slice_range buf s (s + n) ≡ encode_utf8 c)
 utf8_meant (Whole c) p buf idx s n h = (c, IsCodePoint-scalar c h.0, h.1)
 utf8_meant (LeadSurrogate i) p buf idx s n h = absurd p
 utf8_meant (TrailSurrogate i) p buf idx s n h = absurd p
@@ -179,31 +196,38 @@ spelt_to bs u = (u.0, (u.1, u.2))
 
 -- so a slice of UTF-8 passes the local tests exactly if it is valid
 pub FrontTestIsWhole-utf8 : FrontTestIsWhole IsUtf8 IsWhole
-FrontTestIsWhole-utf8 part whole v f = let k = FrontTestIsWhole-fits _ _ utf8_fits part whole (spelt_from _ v) f in (λ u. k.0 (spelt_from part u), λ w. spelt_to part (k.1 w))
+FrontTestIsWhole-utf8 part whole v f = let k = FrontTestIsWhole-fits _ _ utf8_fits part whole (spelt_from _ v) f in
+    (λ u. k.0 (spelt_from part u), λ w. spelt_to part (k.1 w))
 
 pub EndTestIsWhole-utf8 : EndTestIsWhole IsUtf8 IsWhole
-EndTestIsWhole-utf8 part whole v f = let k = EndTestIsWhole-fits _ _ utf8_fits part whole (spelt_from _ v) f in (λ u. k.0 (spelt_from part u), λ w. spelt_to part (k.1 w))
+EndTestIsWhole-utf8 part whole v f = let k = EndTestIsWhole-fits _ _ utf8_fits part whole (spelt_from _ v) f in
+    (λ u. k.0 (spelt_from part u), λ w. spelt_to part (k.1 w))
 
 pub SliceTestIsWhole-utf8 : SliceTestIsWhole IsUtf8 IsWhole
-SliceTestIsWhole-utf8 part whole v f = let k = SliceTestIsWhole-fits _ _ utf8_fits part whole (spelt_from _ v) f in (λ u. k.0 (spelt_from part u), λ w. spelt_to part (k.1 w))
+SliceTestIsWhole-utf8 part whole v f = let k = SliceTestIsWhole-fits _ _ utf8_fits part whole (spelt_from _ v) f in
+    (λ u. k.0 (spelt_from part u), λ w. spelt_to part (k.1 w))
 
 -- WTF-8: the lists of code points of which no lead is right before a trail
 
 -- what an accepted meaning says of the bytes
-pub wtf8_meant : (m : Meaning) → IsWholeOrSurrogate m → (buf : List ℕ) (idx s n : ℕ) → Means buf idx s n m → (c : ℕ) × IsCodePoint c × (slice_range buf s (s + n) ≡ encode_utf8 c)
+pub wtf8_meant : (m : Meaning) → IsWholeOrSurrogate m → (buf : List ℕ) (idx s n : ℕ) → Means buf idx s n m
+    → (c : ℕ) × IsCodePoint c × (slice_range buf s (s + n) ≡ encode_utf8 c)
 wtf8_meant (Whole c) p buf idx s n h = (c, IsCodePoint-scalar c h.0, h.1)
 wtf8_meant (LeadSurrogate i) p buf idx s n h = (0xD800 + i, omega (arith, h.0), h.1)
 wtf8_meant (TrailSurrogate i) p buf idx s n h = (0xDC00 + i, omega (arith, h.0), h.1)
 wtf8_meant (Prefix k) p buf idx s n h = absurd p
 wtf8_meant Suffix p buf idx s n h = absurd p
 
-wtf8_means : (c : ℕ) → IsCodePoint c → (m : Meaning) × IsWholeOrSurrogate m × ((buf : List ℕ) (idx s n : ℕ) → slice_range buf s (s + n) ≡ encode_utf8 c → Means buf idx s n m)
+wtf8_means : (c : ℕ) → IsCodePoint c → (m : Meaning) × IsWholeOrSurrogate m
+    × ((buf : List ℕ) (idx s n : ℕ) → slice_range buf s (s + n) ≡ encode_utf8 c → Means buf idx s n m)
 wtf8_means c top = ⊎_elim
     (λ (p : c < 0xD800). (Whole c, tt, λ buf idx s n e. (IsScalar-from_bounds c (inl p), e)))
     (λ (p : 0xD800 ≤ c). ⊎_elim
-    (λ (q : c < 0xDC00). let same : c ≡ 0xD800 + (c - 0xD800) = omega arith in (LeadSurrogate (c - 0xD800), tt, λ buf idx s n e. (omega arith, e ∙ ap encode_utf8 same)))
+    (λ (q : c < 0xDC00). let same : c ≡ 0xD800 + (c - 0xD800) = omega arith in
+    (LeadSurrogate (c - 0xD800), tt, λ buf idx s n e. (omega arith, e ∙ ap encode_utf8 same)))
     (λ (q : 0xDC00 ≤ c). ⊎_elim
-    (λ (r : c < 0xE000). let same : c ≡ 0xDC00 + (c - 0xDC00) = omega arith in (TrailSurrogate (c - 0xDC00), tt, λ buf idx s n e. (omega arith, e ∙ ap encode_utf8 same)))
+    (λ (r : c < 0xE000). let same : c ≡ 0xDC00 + (c - 0xDC00) = omega arith in
+    (TrailSurrogate (c - 0xDC00), tt, λ buf idx s n e. (omega arith, e ∙ ap encode_utf8 same)))
     (λ (r : 0xE000 ≤ c). (Whole c, tt, λ buf idx s n e. (IsScalar-from_bounds c (inr (r, top)), e)))
     (cases_lt c 0xE000))
     (cases_lt c 0xDC00))
@@ -224,10 +248,13 @@ wtf8_to bs h = subst IsWtf8 h.2 (IsWtf8-from_points h.0 h.1)
 
 -- so a slice of WTF-8 passes the local tests exactly if it is valid
 pub FrontTestIsWhole-wtf8 : FrontTestIsWhole IsWtf8 IsWholeOrSurrogate
-FrontTestIsWhole-wtf8 part whole v f = let k = FrontTestIsWhole-fits _ _ wtf8_fits part whole (points_of _ v) f in (λ u. k.0 (points_of part u), λ w. wtf8_to part (k.1 w))
+FrontTestIsWhole-wtf8 part whole v f = let k = FrontTestIsWhole-fits _ _ wtf8_fits part whole (points_of _ v) f in
+    (λ u. k.0 (points_of part u), λ w. wtf8_to part (k.1 w))
 
 pub EndTestIsWhole-wtf8 : EndTestIsWhole IsWtf8 IsWholeOrSurrogate
-EndTestIsWhole-wtf8 part whole v f = let k = EndTestIsWhole-fits _ _ wtf8_fits part whole (points_of _ v) f in (λ u. k.0 (points_of part u), λ w. wtf8_to part (k.1 w))
+EndTestIsWhole-wtf8 part whole v f = let k = EndTestIsWhole-fits _ _ wtf8_fits part whole (points_of _ v) f in
+    (λ u. k.0 (points_of part u), λ w. wtf8_to part (k.1 w))
 
 pub SliceTestIsWhole-wtf8 : SliceTestIsWhole IsWtf8 IsWholeOrSurrogate
-SliceTestIsWhole-wtf8 part whole v f = let k = SliceTestIsWhole-fits _ _ wtf8_fits part whole (points_of _ v) f in (λ u. k.0 (points_of part u), λ w. wtf8_to part (k.1 w))
+SliceTestIsWhole-wtf8 part whole v f = let k = SliceTestIsWhole-fits _ _ wtf8_fits part whole (points_of _ v) f in
+    (λ u. k.0 (points_of part u), λ w. wtf8_to part (k.1 w))

@@ -1,5 +1,6 @@
 -- How many bytes units add after another unit, and how many units and bytes a code point has.
-use Rattle.std.proofs.Common.{◌≡◌, ℕ, ◌+◌, ◌<◌, ◌≤◌, true, if◌then◌else◌, List, [], ◌∷◌, ◌++◌, length, refl, ap, ◌∙◌, arith, ⊎_elim, length-append}
+use Rattle.std.proofs.Common.{◌≡◌, ℕ, ◌+◌, ◌<◌, ◌≤◌, true, if◌then◌else◌, List, [], ◌∷◌, ◌++◌, length, refl, ap, ◌∙◌}
+use Rattle.std.proofs.Common.{arith, ⊎_elim, length-append}
 use Rattle.std.specs.List.{AllByRecursion}
 use Rattle.std.specs.Char.{encode_utf8}
 use Rattle.std.specs.Str.{encode_utf8_all}
@@ -15,7 +16,8 @@ use Rattle.tendril_fmt.specs.Proved.Units.{one_unit, two_units, pairs}
 use Rattle.tendril_fmt.proofs.UnitSplits.{IsAlone}
 use Rattle.tendril_fmt.proofs.Wtf8Joins.{surrogates_of}
 
-wtf8-pair : (u v : ℕ) (us : List ℕ) → pairs u v ≡ true → wtf8 (u ∷ v ∷ us) ≡ encode_utf8 (surrogate_pair_char u v) ++ wtf8 us
+wtf8-pair : (u v : ℕ) (us : List ℕ) → pairs u v ≡ true → wtf8 (u ∷ v ∷ us) ≡ encode_utf8 (surrogate_pair_char u v)
+    ++ wtf8 us
 wtf8-pair u v us meet = ap encode_utf8_all (cond-true (pairs u v) _ _ meet)
 
 wtf8-alone : (u : ℕ) (us : List ℕ) → IsAlone u us → wtf8 (u ∷ us) ≡ encode_utf8 u ++ wtf8 us
@@ -42,7 +44,8 @@ length-three u low high = ap length (encode_utf8_3 u low high)
 length-first : (u : ℕ) (us : List ℕ) → length (encode_utf8 u) ≤ length (wtf8 (u ∷ us))
 length-first u [] = omega (arith, length-one u)
 length-first u (v ∷ us) = ⊎_elim
-    (λ meet. let b = surrogates_of u v meet in omega (arith, length-pair u v us meet, length-three u (omega arith) (omega arith)))
+    (λ meet. let b = surrogates_of u v meet in
+    omega (arith, length-pair u v us meet, length-three u (omega arith) (omega arith)))
     (λ apart. omega (arith, length-alone u (v ∷ us) apart))
     (cases_Bool (pairs u v))
 
@@ -50,7 +53,8 @@ trail_alone : (v : ℕ) (us : List ℕ) → 0xDC00 ≤ v → IsAlone v us
 trail_alone v [] h = tt
 trail_alone v (w ∷ us) h = grind (arith, nat_tests)
 
-pub bytes_behind-cons : (last u : ℕ) (us : List ℕ) → bytes_behind last (u ∷ us) ≡ (if pairs last u then 1 else length (encode_utf8 u)) + bytes_behind u us
+pub bytes_behind-cons : (last u : ℕ) (us : List ℕ) → bytes_behind last (u ∷ us)
+    ≡ (if pairs last u then 1 else length (encode_utf8 u)) + bytes_behind u us
 bytes_behind-cons last u us = ⊎_elim
     (λ meet.
     let b = surrogates_of last u meet in
@@ -82,10 +86,12 @@ utf16_fits c = ⊎_elim
     (cases_lt c 0x1_0000)
 
 -- the WTF-8 of ASCII units is these units, whatever follows
-pub wtf8-ascii : (front rest : List ℕ) → AllByRecursion (λ u. u < 0x80) front → wtf8 (front ++ rest) ≡ front ++ wtf8 rest
+pub wtf8-ascii : (front rest : List ℕ) → AllByRecursion (λ u. u < 0x80) front → wtf8 (front ++ rest)
+    ≡ front ++ wtf8 rest
 wtf8-ascii [] rest h = refl
 wtf8-ascii (u ∷ front) rest h =
-    wtf8-alone u (front ++ rest) (alone (front ++ rest)) ∙ ap (λ l. l ++ wtf8 (front ++ rest)) (encode_utf8_1 u h.0) ∙ ap (λ l. u ∷ l) (wtf8-ascii front rest h.1)
+    wtf8-alone u (front ++ rest) (alone (front ++ rest)) ∙ ap (λ l. l ++ wtf8 (front ++ rest)) (encode_utf8_1 u h.0)
+    ∙ ap (λ l. u ∷ l) (wtf8-ascii front rest h.1)
   where
     low : u < 0x80
     low = h.0

@@ -1,5 +1,6 @@
 //! ASCII.
 
+use crate::fmt::ascii_cuts::CutsAtAscii;
 use crate::fmt::chars::{CharFormat, Encoded};
 use crate::fmt::fixup::Fixup;
 use crate::fmt::format::Format;
@@ -85,6 +86,15 @@ impl CharFormat for ASCII {
             None
         }
     }
+}
+
+impl CutsAtAscii for ASCII {
+    ghost use Rattle.std.specs.Prelude.{◌+◌};
+    ghost use Rattle.std.proofs.lemmas.Str.{IsAscii-take, IsAscii-drop};
+
+    ghost ascii_cut = { λ bytes n v _ _. (IsAscii-take bytes n v, IsAscii-drop bytes n v) };
+
+    ghost after_ascii = { λ bytes n v _ _. IsAscii-drop bytes (n + 1) v };
 }
 
 impl SubsetOf<UTF8> for ASCII {

@@ -1,5 +1,6 @@
 //! Any bytes.
 
+use crate::fmt::ascii_cuts::CutsAtAscii;
 use crate::fmt::fixup::Fixup;
 use crate::fmt::format::Format;
 
@@ -29,4 +30,13 @@ impl Format for Bytes {
     fn fixup(_left: &[u8], _right: &[u8]) -> Fixup {
         Fixup::default()
     }
+}
+
+impl CutsAtAscii for Bytes {
+    ghost use Rattle.std.specs.Prelude.{◌+◌};
+    ghost use Rattle.tendril_fmt.specs.Proved.Bytes.{AreBytes-take, AreBytes-drop};
+
+    ghost ascii_cut = { λ bytes n v _ _. (AreBytes-take bytes n v, AreBytes-drop bytes n v) };
+
+    ghost after_ascii = { λ bytes n v _ _. AreBytes-drop bytes (n + 1) v };
 }

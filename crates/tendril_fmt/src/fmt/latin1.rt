@@ -1,5 +1,6 @@
 //! Latin-1: one byte per character.
 
+use crate::fmt::ascii_cuts::CutsAtAscii;
 use crate::fmt::chars::{CharFormat, Encoded};
 use crate::fmt::fixup::Fixup;
 use crate::fmt::format::Format;
@@ -73,4 +74,13 @@ impl CharFormat for Latin1 {
             None
         }
     }
+}
+
+impl CutsAtAscii for Latin1 {
+    ghost use Rattle.std.specs.Prelude.{◌+◌};
+    ghost use Rattle.tendril_fmt.specs.Proved.Bytes.{AreBytes-take, AreBytes-drop};
+
+    ghost ascii_cut = { λ bytes n v _ _. (AreBytes-take bytes n v, AreBytes-drop bytes n v) };
+
+    ghost after_ascii = { λ bytes n v _ _. AreBytes-drop bytes (n + 1) v };
 }

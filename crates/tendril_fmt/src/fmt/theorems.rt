@@ -14,6 +14,7 @@ use crate::fmt::utf8::UTF8;
 use crate::fmt::wtf8::WTF8;
 
 /// Does nothing; its contract states laws of the formats. A proof that needs one gets it by a call.
+#[tactic(auto, using(crate::proofs::Characters::spells_ascii, crate::proofs::Characters::spells_latin1, crate::proofs::Characters::spells_utf8))]
 pub fn laws()
     ensures bytes_join { JoinLaws ⟦<Bytes as Format>⟧.valid ⟦<Bytes as Format>⟧.join }
     ensures ascii_join { JoinLaws ⟦<ASCII as Format>⟧.valid ⟦<ASCII as Format>⟧.join }

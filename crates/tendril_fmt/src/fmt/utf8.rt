@@ -1,5 +1,6 @@
 //! UTF-8.
 
+use crate::fmt::ascii_cuts::CutsAtAscii;
 use crate::fmt::chars::{CharFormat, Encoded};
 use crate::fmt::fixup::Fixup;
 use crate::fmt::format::Format;
@@ -87,6 +88,18 @@ impl CharFormat for UTF8 {
         let mut bytes = [0; 4];
         Some(Encoded::new(character.encode_utf8(&mut bytes).as_bytes()))
     }
+}
+
+impl CutsAtAscii for UTF8 {
+    ghost use Rattle.std.specs.Prelude.{◌+◌};
+    ghost use Rattle.std.proofs.lemmas.Str.{IsCharBoundary-before_ascii, IsCharBoundary-after_ascii, IsUtf8-take, IsUtf8-drop};
+
+    ghost ascii_cut = { λ bytes n v l a. (
+      IsUtf8-take bytes n v (IsCharBoundary-before_ascii bytes n l a),
+      IsUtf8-drop bytes n v (IsCharBoundary-before_ascii bytes n l a),
+    ) };
+
+    ghost after_ascii = { λ bytes n v l a. IsUtf8-drop bytes (n + 1) v (IsCharBoundary-after_ascii bytes n v l a) };
 }
 
 impl SubsetOf<WTF8> for UTF8 {

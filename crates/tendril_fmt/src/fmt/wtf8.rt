@@ -3,6 +3,7 @@ ghost use Rattle.std.specs.Prelude.{◌≡◌, ◌+◌, ◌*◌, ◌-◌, ◌<�
 ghost use Rattle.std.specs.Char.Utf16.{surrogate_pair_char};
 ghost use Rattle.tendril_fmt.specs.CodePoints.{EndsWithCodePoint, BeginsWithCodePoint};
 
+use crate::fmt::ascii_cuts::CutsAtAscii;
 use crate::fmt::fixup::Fixup;
 use crate::fmt::format::Format;
 use crate::fmt::local::{first_four, last_four, wtf8_ends};
@@ -111,4 +112,12 @@ impl Format for WTF8 {
             _ => Fixup::default(),
         }
     }
+}
+
+impl CutsAtAscii for WTF8 {
+    ghost use Rattle.tendril_fmt.specs.Proved.Cuts.{IsWtf8-ascii_cut, IsWtf8-after_ascii};
+
+    ghost ascii_cut = { IsWtf8-ascii_cut };
+
+    ghost after_ascii = { IsWtf8-after_ascii };
 }

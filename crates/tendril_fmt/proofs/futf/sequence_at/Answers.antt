@@ -21,7 +21,8 @@ returns-in_err-meaning-clause-none c =
     let len = c.sequence_len_of-len.ensures in
     let wide = c.if-left-len.false in
     ⊎_elim
-    (λ w. c.in_err-meaning.ensures w.1.0 w.1.1 (ap (λ k. slice_range c.args.buf.now c.args.start (c.args.start + k)) (len ∙ w.0) ∙ w.1.2))
+    (λ w. c.in_err-meaning.ensures w.1.0 w.1.1
+    (ap (λ k. slice_range c.args.buf.now c.args.start (c.args.start + k)) (len ∙ w.0) ∙ w.1.2))
     (λ w. let e = w.0 in let k = w.1 in absurd (omega arith)) q.2
     in
     subst (λ (o : Option Codepoint). IfNone o (NoneStands c.args.buf.now c.args.idx)) (sym c.from_residual.ensures) none

@@ -11,5 +11,8 @@ returns-then-begins_with_character-clause-slice c = λ part whole v slice e f.
 
 pub returns-else-begins_with_character-clause-slice : goal.returns-else-begins_with_character-clause-slice
 returns-else-begins_with_character-clause-slice c = λ part whole v slice e f.
-    let k = utf8_slice_decides part whole c.args.first.now c.args.last.now v slice e f in
-    (λ t. absurd (true≢false (sym t ∙ c.if-begins_with_character.false)), λ h. c.begins_with_character.ensures.1 (k.0 h).0)
+    let k = utf8_slice_decides part whole c.args.first.now c.args.last.now v slice e f in (
+      λ t. absurd (true≢false (sym t ∙ c.if-begins_with_character.false)),
+      λ h. c.begins_with_character.ensures.1
+          (k.0 h).0,
+    )

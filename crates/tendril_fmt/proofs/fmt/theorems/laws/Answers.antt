@@ -1,13 +1,19 @@
 use Rattle.tendril_fmt.specs.Proved.Units.{units-wtf8, wtf8-units, units-join, join_assoc}
-use Rattle.tendril_fmt.proofs.Characters.{SpellText-ascii, SpellText-latin1, SpellText-utf8, PlaceIsLengthBefore-holds}
+use Rattle.tendril_fmt.proofs.Characters.{PlaceIsLengthBefore-holds}
 use Rattle.tendril_fmt.proofs.FourBytes.{RestsOnFourBytes-whole, RestsOnFourBytes-whole_or_surrogate}
-use Rattle.tendril_fmt.proofs.LocalTests.{FrontTestIsWhole-utf8, EndTestIsWhole-utf8, SliceTestIsWhole-utf8, FrontTestIsWhole-wtf8, EndTestIsWhole-wtf8, SliceTestIsWhole-wtf8}
+use Rattle.tendril_fmt.proofs.LocalTests.{FrontTestIsWhole-utf8, EndTestIsWhole-utf8, SliceTestIsWhole-utf8}
+use Rattle.tendril_fmt.proofs.LocalTests.{FrontTestIsWhole-wtf8, EndTestIsWhole-wtf8, SliceTestIsWhole-wtf8}
 use Rattle.tendril_fmt.proofs.Unique.{one_class}
 use Rattle.tendril_fmt.proofs.Wtf8Joins.{join-nil_left, join-nil_right, join_cut}
 use Rattle.tendril_fmt.proofs.fmt.theorems.laws.Goals as goal
 
 pub returns-clause-wtf8_join : goal.returns-clause-wtf8_join
-returns-clause-wtf8_join c = record { associative = join_assoc; unit = λ b w. (join-nil_left b w, join-nil_right b w); cut = join_cut }
+returns-clause-wtf8_join c = record {
+  associative = join_assoc;
+  unit =
+      λ b w. (join-nil_left b w, join-nil_right b w);
+  cut = join_cut;
+}
 
 pub returns-clause-units_round_trip : goal.returns-clause-units_round_trip
 returns-clause-units_round_trip c = units-wtf8
@@ -17,15 +23,6 @@ returns-clause-text_round_trip c = wtf8-units
 
 pub returns-clause-join_appends_units : goal.returns-clause-join_appends_units
 returns-clause-join_appends_units c = units-join
-
-pub returns-clause-ascii_chars : goal.returns-clause-ascii_chars
-returns-clause-ascii_chars c = SpellText-ascii
-
-pub returns-clause-latin1_chars : goal.returns-clause-latin1_chars
-returns-clause-latin1_chars c = SpellText-latin1
-
-pub returns-clause-utf8_chars : goal.returns-clause-utf8_chars
-returns-clause-utf8_chars c = SpellText-utf8
 
 pub returns-clause-place_is_length_before : goal.returns-clause-place_is_length_before
 returns-clause-place_is_length_before c = PlaceIsLengthBefore-holds

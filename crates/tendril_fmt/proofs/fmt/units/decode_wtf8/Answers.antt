@@ -50,4 +50,5 @@ loop-code-preserved c =
 pub returns : goal.returns
 returns c =
     let items = c.loop-code.all.items in
-    sym (append-nil items) ∙ ap (λ l. items ++ l) (sym (units-nil c.loop-code.rest.now c.in_default.ensures)) ∙ c.loop-code.invariant.given
+    sym (append-nil items) ∙ ap (λ l. items ++ l) (sym (units-nil c.loop-code.rest.now c.in_default.ensures))
+    ∙ c.loop-code.invariant.given

@@ -13,15 +13,21 @@ pub returns-in_err-index : goal.returns-in_err-index
 returns-in_err-index c =
     let e = c.in_ok-start.ensures in
     let long : c.in_ok-start.start + 3 ≡ length c.args.bytes.now = omega (arith, e) in
-    rw c.from_residual-in_err-index.ensures (no_lead_encoded c.args.bytes.now c.in_ok-start.start long (subst EncodeNone (rest_slice c.args.bytes.now c.in_ok-start.start) c.in_err-index.ensures))
+    rw c.from_residual-in_err-index.ensures
+    (no_lead_encoded c.args.bytes.now c.in_ok-start.start long
+    (subst EncodeNone (rest_slice c.args.bytes.now c.in_ok-start.start) c.in_err-index.ensures))
 
 pub returns-in-LeadSurrogate : goal.returns-in-LeadSurrogate
 returns-in-LeadSurrogate c =
     let start = c.in_ok-start.start in
-    lead_found c.args.bytes.now start c.in-LeadSurrogate.index (subst (λ m. Encode (drop start c.args.bytes.now) m) c.in-LeadSurrogate.is (subst (λ l. Encode l c.in_ok-index.field-0) (rest_slice c.args.bytes.now start) c.in_ok-index.ensures))
+    lead_found c.args.bytes.now start c.in-LeadSurrogate.index
+    (subst (λ m. Encode (drop start c.args.bytes.now) m) c.in-LeadSurrogate.is
+    (subst (λ l. Encode l c.in_ok-index.field-0) (rest_slice c.args.bytes.now start) c.in_ok-index.ensures))
 
 pub returns-in_default : goal.returns-in_default
 returns-in_default c =
     let e = c.in_ok-start.ensures in
     let long : c.in_ok-start.start + 3 ≡ length c.args.bytes.now = omega (arith, e) in
-    no_lead_other c.args.bytes.now c.in_ok-start.start c.in_ok-index.field-0 long (subst (λ l. Encode l c.in_ok-index.field-0) (rest_slice c.args.bytes.now c.in_ok-start.start) c.in_ok-index.ensures) c.in_default.not-LeadSurrogate
+    no_lead_other c.args.bytes.now c.in_ok-start.start c.in_ok-index.field-0 long
+    (subst (λ l. Encode l c.in_ok-index.field-0) (rest_slice c.args.bytes.now c.in_ok-start.start)
+    c.in_ok-index.ensures) c.in_default.not-LeadSurrogate

@@ -12,7 +12,8 @@ returns-in_err-get c =
 pub returns-in_err-index : goal.returns-in_err-index
 returns-in_err-index c =
     let three = c.in_ok-get.ensures.lookup.0.2 in
-    rw c.from_residual-in_err-index.ensures (no_trail_encoded c.args.bytes.now (subst EncodeNone three c.in_err-index.ensures))
+    rw c.from_residual-in_err-index.ensures
+    (no_trail_encoded c.args.bytes.now (subst EncodeNone three c.in_err-index.ensures))
 
 pub returns-in-TrailSurrogate : goal.returns-in-TrailSurrogate
 returns-in-TrailSurrogate c =
@@ -25,4 +26,5 @@ pub returns-in_default : goal.returns-in_default
 returns-in_default c =
     let three = c.in_ok-get.ensures.lookup.0.2 in
     let m = c.in_ok-index.field-0 in
-    no_trail_other c.args.bytes.now m (subst (λ l. Encode l m) three c.in_ok-index.ensures) c.in_default.not-TrailSurrogate
+    no_trail_other c.args.bytes.now m (subst (λ l. Encode l m) three c.in_ok-index.ensures)
+    c.in_default.not-TrailSurrogate

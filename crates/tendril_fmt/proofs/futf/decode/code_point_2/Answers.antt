@@ -1,7 +1,9 @@
 use Rattle.std.proofs.Common.{arith, sym}
 use Rattle.tendril_fmt.proofs.Decodings.{only_2, spelt_2}
 use Rattle.tendril_fmt.proofs.futf.decode.code_point_2.Goals as goal
-use Rattle.tendril_fmt.proofs.futf.decode.code_point_2.Goals.{then-a-lt194-via-then-a-lt194, then-a-lt194-via-else-a-lt194+then-a-ge224, then-a-lt194-via-else-a-lt194+else-a-ge224+then-not-is_continuation}
+use Rattle.tendril_fmt.proofs.futf.decode.code_point_2.Goals.{then-a-lt194-via-then-a-lt194}
+use Rattle.tendril_fmt.proofs.futf.decode.code_point_2.Goals.{then-a-lt194-via-else-a-lt194+then-a-ge224}
+use Rattle.tendril_fmt.proofs.futf.decode.code_point_2.Goals.{then-a-lt194-via-else-a-lt194+else-a-ge224+then-not-is_continuation}
 
 pub returns-then-a-lt194 : goal.returns-then-a-lt194
 returns-then-a-lt194 c = λ k top e.
@@ -9,7 +11,8 @@ returns-then-a-lt194 c = λ k top e.
     elim c.then-a-lt194.branch [
       | then-a-lt194-via-then-a-lt194 w ↦ absurd (omega arith)
       | then-a-lt194-via-else-a-lt194+then-a-ge224 w ↦ absurd (omega arith)
-      | then-a-lt194-via-else-a-lt194+else-a-ge224+then-not-is_continuation w ↦ let t = w.is_continuation.ensures.1 o.2 in cc
+      | then-a-lt194-via-else-a-lt194+else-a-ge224+then-not-is_continuation w ↦ let t =
+          w.is_continuation.ensures.1 o.2 in cc
     ]
 
 pub returns : goal.returns

@@ -1,7 +1,13 @@
 use Rattle.std.proofs.Common.{arith, sym}
 use Rattle.tendril_fmt.proofs.Decodings.{only_4, spelt_4}
 use Rattle.tendril_fmt.proofs.futf.decode.code_point_4.Goals as goal
-use Rattle.tendril_fmt.proofs.futf.decode.code_point_4.Goals.{then-code-lt65536-via-then-code-lt65536, then-code-lt65536-via-else-code-lt65536+then-code-ge1114112, then-a-lt240-via-then-a-lt240, then-a-lt240-via-else-a-lt240+then-a-ge248, then-a-lt240-via-else-a-lt240+else-a-ge248+then-not-is_continuation, then-a-lt240-via-else-a-lt240+else-a-ge248+else-not-is_continuation+then-not-is_continuation-2, then-a-lt240-via-else-a-lt240+else-a-ge248+else-not-is_continuation+else-not-is_continuation-2+then-not-is_continuation-3}
+use Rattle.tendril_fmt.proofs.futf.decode.code_point_4.Goals.{then-code-lt65536-via-then-code-lt65536}
+use Rattle.tendril_fmt.proofs.futf.decode.code_point_4.Goals.{then-code-lt65536-via-else-code-lt65536+then-code-ge1114112}
+use Rattle.tendril_fmt.proofs.futf.decode.code_point_4.Goals.{then-a-lt240-via-then-a-lt240}
+use Rattle.tendril_fmt.proofs.futf.decode.code_point_4.Goals.{then-a-lt240-via-else-a-lt240+then-a-ge248}
+use Rattle.tendril_fmt.proofs.futf.decode.code_point_4.Goals.{then-a-lt240-via-else-a-lt240+else-a-ge248+then-not-is_continuation}
+use Rattle.tendril_fmt.proofs.futf.decode.code_point_4.Goals.{then-a-lt240-via-else-a-lt240+else-a-ge248+else-not-is_continuation+then-not-is_continuation-2}
+use Rattle.tendril_fmt.proofs.futf.decode.code_point_4.Goals.{then-a-lt240-via-else-a-lt240+else-a-ge248+else-not-is_continuation+else-not-is_continuation-2+then-not-is_continuation-3}
 
 pub returns-then-a-lt240 : goal.returns-then-a-lt240
 returns-then-a-lt240 c = λ k top e.
@@ -9,8 +15,10 @@ returns-then-a-lt240 c = λ k top e.
     elim c.then-a-lt240.branch [
       | then-a-lt240-via-then-a-lt240 w ↦ absurd (omega arith)
       | then-a-lt240-via-else-a-lt240+then-a-ge248 w ↦ absurd (omega arith)
-      | then-a-lt240-via-else-a-lt240+else-a-ge248+then-not-is_continuation w ↦ let t = w.is_continuation.ensures.1 o.2 in cc
-      | then-a-lt240-via-else-a-lt240+else-a-ge248+else-not-is_continuation+then-not-is_continuation-2 w ↦ let t = w.is_continuation-else-not-is_continuation.ensures.1 o.3 in cc
+      | then-a-lt240-via-else-a-lt240+else-a-ge248+then-not-is_continuation w ↦ let t =
+          w.is_continuation.ensures.1 o.2 in cc
+      | then-a-lt240-via-else-a-lt240+else-a-ge248+else-not-is_continuation+then-not-is_continuation-2 w ↦ let t =
+          w.is_continuation-else-not-is_continuation.ensures.1 o.3 in cc
       | then-a-lt240-via-else-a-lt240+else-a-ge248+else-not-is_continuation+else-not-is_continuation-2+then-not-is_continuation-3 w ↦ let t = w.is_continuation-else-not-is_continuation-2.ensures.1 o.4 in cc
     ]
 

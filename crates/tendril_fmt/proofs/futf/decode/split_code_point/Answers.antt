@@ -10,20 +10,26 @@ returns-in_err-first c =
 
 pub returns-then-bytes-len : goal.returns-then-bytes-len
 returns-then-bytes-len c =
-    let first : c.in_ok-first.field-0.now ≡ slice_index c.args.bytes.now 0 = c.in_ok-first.ensures.item.4 (omega arith) 0 in
-    let len : c.sequence_len_of-len.result ≡ sequence_len (slice_index c.args.bytes.now 0) = c.sequence_len_of-len.ensures ∙ ap sequence_len first in
+    let first : c.in_ok-first.field-0.now ≡ slice_index c.args.bytes.now 0 =
+    c.in_ok-first.ensures.item.4 (omega arith) 0 in
+    let len : c.sequence_len_of-len.result ≡ sequence_len (slice_index c.args.bytes.now 0) =
+    c.sequence_len_of-len.ensures ∙ ap sequence_len first in
     none_in_short c.args.bytes.now (omega (arith, len, c.if-bytes-len.true))
 
 pub returns-in_err-decode : goal.returns-in_err-decode
 returns-in_err-decode c =
-    let first : c.in_ok-first.field-0.now ≡ slice_index c.args.bytes.now 0 = c.in_ok-first.ensures.item.4 (omega arith) 0 in
-    let len : c.sequence_len_of-len.result ≡ sequence_len (slice_index c.args.bytes.now 0) = c.sequence_len_of-len.ensures ∙ ap sequence_len first in
-    let none : SplitsIntoNone c.args.bytes.now = none_in_front c.args.bytes.now c.sequence_len_of-len.result len (subst EncodeNone c.split_at.ensures.front c.in_err-decode.ensures) in
+    let first : c.in_ok-first.field-0.now ≡ slice_index c.args.bytes.now 0 =
+    c.in_ok-first.ensures.item.4 (omega arith) 0 in
+    let len : c.sequence_len_of-len.result ≡ sequence_len (slice_index c.args.bytes.now 0) =
+    c.sequence_len_of-len.ensures ∙ ap sequence_len first in
+    let none : SplitsIntoNone c.args.bytes.now = none_in_front c.args.bytes.now c.sequence_len_of-len.result len
+    (subst EncodeNone c.split_at.ensures.front c.in_err-decode.ensures) in
     rw c.from_residual-in_err-decode.ensures none
 
 pub returns : goal.returns
 returns c =
     let m = c.in_ok-decode.field-0 in
     let bytes = c.args.bytes.now in
-    let k = begin_front bytes c.sequence_len_of-len.result m (subst (λ l. Encode l m) c.split_at.ensures.front c.in_ok-decode.ensures) in
+    let k = begin_front bytes c.sequence_len_of-len.result m
+    (subst (λ l. Encode l m) c.split_at.ensures.front c.in_ok-decode.ensures) in
     subst (λ (l : List ℕ). SplitsInto bytes m l) (sym c.split_at.ensures.back) k
