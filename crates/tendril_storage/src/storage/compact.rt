@@ -6,10 +6,9 @@ use crate::storage::{Held, Storage};
 use tendril_block::{Atomicity, MAX_LEN, Tail};
 
 impl<A: Atomicity> Storage<A> {
-    // Whether far more bytes were popped off the start of the block than are left. To append to such bytes, callers
-    // first try to move them, to the start of their block or into a new one, which reuses the space of the popped ones.
-    // A move copies at most half as many bytes as were popped since the last one, so its cost is amortized. A push of y
-    // bytes onto b bytes needs capacity for at most 3 b + 64 + y bytes.
+    // Whether so many bytes were popped off the front that a push should first move the others to the start of the
+    // block, or into a new block. A move copies at most half as many bytes as were popped since the last one, so its
+    // cost is amortized. Thus a push of y bytes onto b bytes never needs more capacity than 3 b + 64 + y.
     pub(super) fn is_mostly_dropped(&self) -> bool {
         match &self.held {
             Held::Inline { .. } => false,

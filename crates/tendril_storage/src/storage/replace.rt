@@ -86,9 +86,9 @@ impl<A: Atomicity> Storage<A> {
         }
     }
 
-    // Appends bytes to the first `keep`, if these are all bytes of a block of more than `NODE_CAPACITY`, this is its
-    // only reference, and it has the spare capacity; returns whether it did. This is the usual case of a push onto a
-    // long text.
+    // Appends `more` to the first `keep` bytes without moving them, and returns whether it did. It does if the block
+    // has no other bytes and no other reference, holds more than `NODE_CAPACITY`, and has the spare capacity: the usual
+    // case of a push onto a long text.
     #[tactic(auto, using(crate::proofs::Views::replaces))]
     #[inline(always)]
     fn try_append_in_place(&mut self, keep: usize, more: &[u8]) -> bool

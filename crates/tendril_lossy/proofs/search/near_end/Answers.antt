@@ -21,7 +21,8 @@ pub returns-in-Some-clause-text : goal.returns-in-Some-clause-text
 returns-in-Some-clause-text c =
     let bs = c.args.bytes.now in
     let at = c.args.at in
-    subst (λ n. IsUtf8 (take (at + n) bs)) (sym c.valid_up_to.ensures) (grow_front bs at _ _ c.requires.text c.in-Err.ensures.cases.1)
+    subst (λ n. IsUtf8 (take (at + n) bs)) (sym c.valid_up_to.ensures)
+    (grow_front bs at _ _ c.requires.text c.in-Err.ensures.cases.1)
 
 pub returns-in-Some-clause-items : goal.returns-in-Some-clause-items
 returns-in-Some-clause-items c =
@@ -31,7 +32,8 @@ returns-in-Some-clause-items c =
     let valid = c.in-Err.ensures.cases.1 in
     let short = valid.short in
     let within = c.requires.within in
-    let le : at + n ≤ length bs = omega (arith, c.valid_up_to.ensures, short, length-take (length bs - at) (drop at bs), length-drop at bs) in
+    let le : at + n ≤ length bs = omega
+    (arith, c.valid_up_to.ensures, short, length-take (length bs - at) (drop at bs), length-drop at bs) in
     at_length bs (at + n) (Broken c.in-Some.len) le
     (window_bad bs (take (at + n) bs) at _ c.in-Err.error.valid_up_to c.in-Some.len c.requires.text (omega arith) valid
     (sym c.in-Err.ensures.fault ∙ sym c.error_len.ensures ∙ c.in-Some.is)
@@ -41,7 +43,8 @@ pub returns-in-None-clause-text : goal.returns-in-None-clause-text
 returns-in-None-clause-text c =
     let bs = c.args.bytes.now in
     let at = c.args.at in
-    subst (λ n. IsUtf8 (take (at + n) bs)) (sym c.valid_up_to.ensures) (grow_front bs at _ _ c.requires.text c.in-Err.ensures.cases.1)
+    subst (λ n. IsUtf8 (take (at + n) bs)) (sym c.valid_up_to.ensures)
+    (grow_front bs at _ _ c.requires.text c.in-Err.ensures.cases.1)
 
 pub returns-in-None-clause-items : goal.returns-in-None-clause-items
 returns-in-None-clause-items c =
@@ -51,7 +54,8 @@ returns-in-None-clause-items c =
     let valid = c.in-Err.ensures.cases.1 in
     let short = valid.short in
     let within = c.requires.within in
-    let le : at + n ≤ length bs = omega (arith, c.valid_up_to.ensures, short, length-take (length bs - at) (drop at bs), length-drop at bs) in
+    let le : at + n ≤ length bs = omega
+    (arith, c.valid_up_to.ensures, short, length-take (length bs - at) (drop at bs), length-drop at bs) in
     at_length bs (at + n) Open le
     (rest_cut bs (take (at + n) bs) at c.in-Err.error.valid_up_to c.requires.text within valid
     (sym c.in-Err.ensures.fault ∙ sym c.error_len.ensures ∙ c.in-None.is)
