@@ -5,7 +5,8 @@ use Rattle.tendril_lossy.proofs.Lossy.{lossy-nil}
 use Rattle.tendril_lossy.proofs.Streams.{only_lossy}
 use Rattle.tendril_lossy.specs.Lossy.{Cut, IsOpen, due, due_of, replaced}
 
-pub due_held : (k : List ℕ) → IsOpen k → 0 < length k → due k ≡ replaced (codes "incomplete byte sequence at end of stream")
+pub due_held : (k : List ℕ) → IsOpen k → 0 < length k
+    → due k ≡ replaced (codes "incomplete byte sequence at end of stream")
 due_held k waits some = ap (flat_map due_of) (sym (only_lossy k (Cut k ∷ []) (some, refl, waits, refl)))
 
 pub due_none : (k : List ℕ) → length k ≡ 0 → due k ≡ []

@@ -62,7 +62,7 @@ pub record Feeds {S : Type 0} (takes : S → Sent → S → Type 0) (piece : Tex
 abbrev pub RefusesCall : {S : Type 0} → (S → Sent → Refusal → S → Type 0) → S → Sent → Refusal → S → Type 0
 RefusesCall refuses mid call refusal new = (refusal ≡ SinkRefused) × ((r : Refusal) × refuses mid call r new)
 
--- the sink returned an error for a call that sends a prefix of `due`, the list still to be sent of the piece
+-- the sink returned an error for `call`, which sends the first of what is `due`: what of the piece isn't sent yet
 pub record SinkRefuses {S : Type 0} (refuses : S → Sent → Refusal → S → Type 0) (piece : Text) (mid : S)
     (due : List Told) (refusal : Refusal) (new : S) : Type 0 where
   pub call : Sent
@@ -71,7 +71,7 @@ pub record SinkRefuses {S : Type 0} (refuses : S → Sent → Refusal → S → 
   pub front : told_of call ++ rest ≡ due
   pub refused : RefusesCall refuses mid call refusal new
 
--- that, or no call was made, since the next text of a long piece couldn't be popped
+-- the sink returned an error, or no call was made, since the next text of a long piece couldn't be popped
 abbrev pub IsStop : {S : Type 0} → (S → Sent → Refusal → S → Type 0) → Text → S → List Told → Refusal → S → Type 0
 IsStop refuses piece mid due refusal new =
     (LongPieceMay piece.bytes refusal × (new ≡ mid)) ⊎ SinkRefuses refuses piece mid due refusal new

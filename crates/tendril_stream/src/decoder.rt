@@ -37,6 +37,8 @@ pub struct Utf8LossyDecoder<S: TendrilSink<Tendril<UTF8, A>>, A: Atomicity = Non
     pub inner_sink: S,
     alloc: Global,
     kept: IncompleteUtf8,
+    // Of the piece before: pieces of one stream are alike.
+    last: LastText,
     failed: bool,
     atomicity: PhantomData<A>,
 }
@@ -61,6 +63,7 @@ impl<S: TendrilSink<Tendril<UTF8, A>>, A: Atomicity> Utf8LossyDecoder<S, A> {
             inner_sink,
             alloc,
             kept: IncompleteUtf8::none(),
+            last: LastText::none(),
             failed: false,
             atomicity: PhantomData,
         }
@@ -137,7 +140,13 @@ impl<S: TendrilSink<Tendril<UTF8, A>>, A: Atomicity> TendrilSink<Tendril<Bytes, 
         if self.failed {
             return Err(Refusal::Failed);
         }
-        let sent = feed(&mut self.inner_sink, self.alloc, &mut self.kept, piece);
+        let sent = feed(
+            &mut self.inner_sink,
+            self.alloc,
+            &mut self.kept,
+            &mut self.last,
+            piece,
+        );
         self.failed = sent.is_err();
         sent
     }
@@ -206,15 +215,15 @@ fn send_some<S: TendrilSink<Tendril<UTF8, A>>, A: Atomicity>(
 fn feed_rest<S: TendrilSink<Tendril<UTF8, A>>, A: Atomicity>(
     sink: &mut S,
     alloc: Global,
+    last: &mut LastText,
     mut piece: Tendril<Bytes, A>,
 ) -> Result<IncompleteUtf8, Refusal>
     ensures ok { IfOk result (λ k.
         Feeds S.takes piece sink.old (due_open piece.bytes) sink.new × (k ≡ kept piece.bytes)) }
     ensures err { IfErr result (λ r. Stops S.takes S.refuses piece sink.old (due_open piece.bytes) r sink.new) }
 {
-    let mut last = LastText::none();
     loop {
-        let (text, ending) = piece.pop_text_after(&mut last)?;
+        let (text, ending) = piece.pop_text_after(last)?;
         send_some(sink, text)?;
         match ending {
             Ending::Whole | Ending::Open => {
@@ -255,6 +264,7 @@ fn feed<S: TendrilSink<Tendril<UTF8, A>>, A: Atomicity>(
     sink: &mut S,
     alloc: Global,
     held: &mut IncompleteUtf8,
+    last: &mut LastText,
     mut piece: Tendril<Bytes, A>,
 ) -> Result<(), Refusal>
     ensures ok { OnOk result (Feeds S.takes piece sink.old (due_open (held.old ++ piece.bytes)) sink.new
@@ -263,7 +273,7 @@ fn feed<S: TendrilSink<Tendril<UTF8, A>>, A: Atomicity>(
         Stops S.takes S.refuses piece sink.old (due_open (held.old ++ piece.bytes)) r sink.new) }
 {
     if resume(sink, alloc, held, &mut piece)? {
-        *held = feed_rest(sink, alloc, piece)?;
+        *held = feed_rest(sink, alloc, last, piece)?;
     }
     Ok(())
 }

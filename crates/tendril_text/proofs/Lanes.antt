@@ -49,7 +49,8 @@ pub select_equal : (v : List ℕ) (b n y z : ℕ) → length v ≡ n
     → sel_l (zip2 eqb v (replicate n b)) (replicate n y) (replicate n z) ≡ map (λ x. cond (eqb x b) y z) v
 select_equal v b n y z long =
     ap (λ ms. sel_l ms (replicate n y) (replicate n z)) (zip2_splat eqb v n b long)
-    ∙ ap (λ m. sel_l (map (λ x. eqb x b) v) (replicate m y) (replicate m z)) (sym long) ∙ select_map (λ x. eqb x b) v y z
+    ∙ ap (λ m. sel_l (map (λ x. eqb x b) v) (replicate m y) (replicate m z)) (sym long)
+    ∙ select_map (λ x. eqb x b) v y z
 
 -- all bits where a lane has the byte
 abbrev marked : ℕ → ℕ → ℕ
@@ -60,10 +61,12 @@ marked4 a b c d x = bit_or (bit_or (bit_or (marked a x) (marked b x)) (marked c 
 
 -- the lanes of four comparisons
 pub joined_marks : (a b c d : ℕ) (v : List ℕ)
-    → zip2 bit_or (zip2 bit_or (zip2 bit_or (map (marked a) v) (map (marked b) v)) (map (marked c) v)) (map (marked d) v)
+    → zip2 bit_or (zip2 bit_or (zip2 bit_or (map (marked a) v) (map (marked b) v)) (map (marked c) v))
+    (map (marked d) v)
     ≡ map (marked4 a b c d) v
 joined_marks a b c d v =
-    ap (λ l. zip2 bit_or (zip2 bit_or l (map (marked c) v)) (map (marked d) v)) (zip2-map bit_or (marked a) (marked b) v)
+    ap (λ l. zip2 bit_or (zip2 bit_or l (map (marked c) v)) (map (marked d) v))
+    (zip2-map bit_or (marked a) (marked b) v)
     ∙ ap (λ l. zip2 bit_or l (map (marked d) v)) (zip2-map bit_or (λ x. bit_or (marked a x) (marked b x)) (marked c) v)
     ∙ zip2-map bit_or (λ x. bit_or (bit_or (marked a x) (marked b x)) (marked c x)) (marked d) v
 

@@ -60,7 +60,8 @@ lacks_front set text n within none k low below passes =
     none k low less (ap set (sym (get_or-take n text k 0 less)) ∙ passes)
 
 takes_split : (set : ℕ → Bool) (text part rest : List ℕ) (n ending : ℕ) → EndsBefore set text n
-    → (n < length text → ending ≡ 1) → (n ≡ length text → ending ≡ 0) → part ≡ take n text → rest ≡ drop (n + ending) text
+    → (n < length text → ending ≡ 1) → (n ≡ length text → ending ≡ 0) → part ≡ take n text
+    → rest ≡ drop (n + ending) text
     → TakesSplit set text part rest (ending == 0)
 takes_split set text part rest n ending ends ended last front end = ⊎_elim
     (λ all. let none = last all in
@@ -83,7 +84,8 @@ takes_split set text part rest n ending ends ended last front end = ⊎_elim
 
 -- `takes_split`, if the end was found in a slice of the text's bytes
 pub split_of : (set : ℕ → Bool) (slice text part rest : List ℕ) (n ending : ℕ) → slice ≡ text → EndsBefore set slice n
-    → (n < length slice → ending ≡ 1) → (n ≡ length slice → ending ≡ 0) → part ≡ take n text → rest ≡ drop (n + ending) text
+    → (n < length slice → ending ≡ 1) → (n ≡ length slice → ending ≡ 0) → part ≡ take n text
+    → rest ≡ drop (n + ending) text
     → TakesSplit set text part rest (ending == 0)
 split_of set slice text part rest n ending same ends ended last =
     takes_split set text part rest n ending (subst (λ b. EndsBefore set b n) same ends)

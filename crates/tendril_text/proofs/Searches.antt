@@ -1,5 +1,8 @@
 -- Tables of bytes, and the indexes that a search for them skips.
-use Rattle.std.proofs.Common.{◌≡◌, ◌≢◌, ◌⊎◌, ◌↔◌, ℕ, zero, suc, ◌<◌, ◌≤◌, ◌+◌, ◌-◌, ◌==◌, ◌||◌, Bool, true, false, List, ◌++◌, length, take, drop, set, get_or, replicate, IsUtf8, IsFalse, Contains, refl, sym, subst, ap, ◌∙◌, arith, true≢false, inl, inr, ⊎_elim, eq-or-lt_of_le, length-append, length-take, length-drop, get_or-take, get_or-drop, take_at}
+use Rattle.std.proofs.Common.{◌≡◌, ◌≢◌, ◌⊎◌, ◌↔◌, ℕ, zero, suc, ◌<◌, ◌≤◌, ◌+◌, ◌-◌, ◌==◌, ◌||◌, Bool, true, false, List}
+use Rattle.std.proofs.Common.{◌++◌, length, take, drop, set, get_or, replicate, IsUtf8, IsFalse, Contains, refl, sym}
+use Rattle.std.proofs.Common.{subst, ap, ◌∙◌, arith, true≢false, inl, inr, ⊎_elim, eq-or-lt_of_le, length-append}
+use Rattle.std.proofs.Common.{length-take, length-drop, get_or-take, get_or-drop, take_at}
 use Rattle.std.proofs.lemmas.Bool.{cases_eq, cases_lt, eq-eqb, or_left, or_right}
 use Rattle.std.proofs.lemmas.Grind.{get_or_default_zero, get_or-set_at}
 use Rattle.std.proofs.lemmas.List.{get_or-set_other, get_or-replicate, get_or_past, length-replicate}
@@ -20,24 +23,35 @@ none_yet bytes count = record {
   where
     none : (b : ℕ) → (b < count) ⊎ (count ≤ b) → has_byte (replicate count false) b ≡ false
     none b (inl l) = get_or-replicate count b false false l
-    none b (inr l) = get_or_past (replicate count false) b false (subst (λ n. n ≤ b) (sym (length-replicate count false)) l)
+    none b (inr l) = get_or_past (replicate count false) b false
+        (subst (λ n. n ≤ b) (sym (length-replicate count false)) l)
 
-pub one_more : (bytes : List ℕ) (n : ℕ) (table : List Bool) → n < length bytes → get_or bytes n 0 < length table → IsTableOf bytes n table → IsTableOf bytes (n + 1) (set table (get_or bytes n 0) true)
+pub one_more : (bytes : List ℕ) (n : ℕ) (table : List Bool) → n < length bytes → get_or bytes n 0 < length table
+    → IsTableOf bytes n table → IsTableOf bytes (n + 1) (set table (get_or bytes n 0) true)
 one_more bytes n table within room h = record {
   from = λ b is. from b is (cases_eq b (get_or bytes n 0));
   to = λ k l. to k l (cases_eq (get_or bytes k 0) (get_or bytes n 0));
 }
   where
-    from : (b : ℕ) → has_byte (set table (get_or bytes n 0) true) b ≡ true → (b ≡ get_or bytes n 0) ⊎ (b ≢ get_or bytes n 0) → Contains bytes b
+    from : (b : ℕ) → has_byte (set table (get_or bytes n 0) true) b ≡ true → (b ≡ get_or bytes n 0)
+        ⊎ (b ≢ get_or bytes n 0) → Contains bytes b
     from b is (inl e) = (n, within, get_or_default_zero bytes n b within ∙ sym e)
     from b is (inr ne) = h.from b (sym (get_or-set_other table (get_or bytes n 0) b true false ne) ∙ is)
 
-    to : (k : ℕ) → k < n + 1 → (get_or bytes k 0 ≡ get_or bytes n 0) ⊎ (get_or bytes k 0 ≢ get_or bytes n 0) → has_byte (set table (get_or bytes n 0) true) (get_or bytes k 0) ≡ true
+    to : (k : ℕ) → k < n + 1 → (get_or bytes k 0 ≡ get_or bytes n 0) ⊎ (get_or bytes k 0 ≢ get_or bytes n 0)
+        → has_byte (set table (get_or bytes n 0) true) (get_or bytes k 0) ≡ true
     to k l (inl e) = get_or-set_at table (get_or bytes n 0) (get_or bytes k 0) true false e room
-    to k l (inr ne) = get_or-set_other table (get_or bytes n 0) (get_or bytes k 0) true false ne ∙ h.to k (⊎_elim (λ e. absurd (ne (ap (λ j. get_or bytes j 0) e))) (λ less. less) (eq-or-lt_of_le (let le : k ≤ n = omega (arith, l) in le)))
+    to k l (inr ne) = get_or-set_other table (get_or bytes n 0) (get_or bytes k 0) true false ne
+        ∙ h.to k (⊎_elim (λ e. absurd (ne (ap (λ j. get_or bytes j 0) e))) (λ less. less)
+        (eq-or-lt_of_le (let le : k ≤ n = omega (arith, l) in le)))
 
-pub members_of : (bytes : List ℕ) (table : List Bool) (n : ℕ) → length bytes ≤ n → IsTableOf bytes n table → (b : ℕ) → (has_byte table b ≡ true) ↔ Contains bytes b
-members_of bytes table n all h b = (h.from b, λ c. subst (λ x. has_byte table x ≡ true) (sym (get_or_default_zero bytes c.0 b c.1) ∙ c.2) (h.to c.0 (let l = c.1 in omega (arith, l, all))))
+pub members_of : (bytes : List ℕ) (table : List Bool) (n : ℕ) → length bytes ≤ n → IsTableOf bytes n table → (b : ℕ)
+    → (has_byte table b ≡ true) ↔ Contains bytes b
+members_of bytes table n all h b = (
+  h.from b,
+  λ c. subst (λ x. has_byte table x ≡ true) (sym (get_or_default_zero bytes c.0 b c.1) ∙ c.2)
+      (h.to c.0 (let l = c.1 in omega (arith, l, all))),
+)
 
 -- sets of one to four bytes
 
@@ -45,28 +59,36 @@ pub not_yes : (b : Bool) → IsFalse b → b ≡ true → ⊥
 not_yes b is_not is = true≢false (sym is ∙ is_not)
 
 is_one : (a b c d x : ℕ) → (x ≡ a) ⊎ ((x ≡ b) ⊎ ((x ≡ c) ⊎ (x ≡ d))) → is_byte4 a b c d x ≡ true
-is_one a b c d x (inl e) = or_left (x == a || x == b || x == c) (x == d) (or_left (x == a || x == b) (x == c) (or_left (x == a) (x == b) (eq-eqb x a e)))
-is_one a b c d x (inr (inl e)) = or_left (x == a || x == b || x == c) (x == d) (or_left (x == a || x == b) (x == c) (or_right (x == a) (x == b) (eq-eqb x b e)))
-is_one a b c d x (inr (inr (inl e))) = or_left (x == a || x == b || x == c) (x == d) (or_right (x == a || x == b) (x == c) (eq-eqb x c e))
+is_one a b c d x (inl e) = or_left (x == a || x == b || x == c) (x == d)
+    (or_left (x == a || x == b) (x == c) (or_left (x == a) (x == b) (eq-eqb x a e)))
+is_one a b c d x (inr (inl e)) =
+    or_left (x == a || x == b || x == c) (x == d)
+    (or_left (x == a || x == b) (x == c) (or_right (x == a) (x == b) (eq-eqb x b e)))
+is_one a b c d x (inr (inr (inl e))) =
+    or_left (x == a || x == b || x == c) (x == d) (or_right (x == a || x == b) (x == c) (eq-eqb x c e))
 is_one a b c d x (inr (inr (inr e))) = or_right (x == a || x == b || x == c) (x == d) (eq-eqb x d e)
 
 -- each index into these bytes is one of the four
 abbrev pub Covers : List ℕ → ℕ → ℕ → ℕ → ℕ → Type 0
 Covers bytes i j k l = (m : ℕ) → m < length bytes → (m ≡ i) ⊎ ((m ≡ j) ⊎ ((m ≡ k) ⊎ (m ≡ l)))
 
-pub few : (bytes : List ℕ) (table : List Bool) (i j k l : ℕ) → Covers bytes i j k l → ((b : ℕ) → (has_byte table b ≡ true) ↔ Contains bytes b) → (b : ℕ) → has_byte table b ≡ true → is_byte4 (get_or bytes i 0) (get_or bytes j 0) (get_or bytes k 0) (get_or bytes l 0) b ≡ true
+pub few : (bytes : List ℕ) (table : List Bool) (i j k l : ℕ) → Covers bytes i j k l
+    → ((b : ℕ) → (has_byte table b ≡ true) ↔ Contains bytes b) → (b : ℕ) → has_byte table b ≡ true
+    → is_byte4 (get_or bytes i 0) (get_or bytes j 0) (get_or bytes k 0) (get_or bytes l 0) b ≡ true
 few bytes table i j k l covers members b is =
     let c = (members b).0 is in
     let e : b ≡ get_or bytes c.0 0 = sym c.2 ∙ get_or_default_zero bytes c.0 b c.1 in
     is_one _ _ _ _ b (there c.0 e (covers c.0 c.1))
   where
-    there : (m : ℕ) → b ≡ get_or bytes m 0 → (m ≡ i) ⊎ ((m ≡ j) ⊎ ((m ≡ k) ⊎ (m ≡ l))) → (b ≡ get_or bytes i 0) ⊎ ((b ≡ get_or bytes j 0) ⊎ ((b ≡ get_or bytes k 0) ⊎ (b ≡ get_or bytes l 0)))
+    there : (m : ℕ) → b ≡ get_or bytes m 0 → (m ≡ i) ⊎ ((m ≡ j) ⊎ ((m ≡ k) ⊎ (m ≡ l))) → (b ≡ get_or bytes i 0)
+        ⊎ ((b ≡ get_or bytes j 0) ⊎ ((b ≡ get_or bytes k 0) ⊎ (b ≡ get_or bytes l 0)))
     there m e (inl p) = inl (e ∙ ap (λ n. get_or bytes n 0) p)
     there m e (inr (inl p)) = inr (inl (e ∙ ap (λ n. get_or bytes n 0) p))
     there m e (inr (inr (inl p))) = inr (inr (inl (e ∙ ap (λ n. get_or bytes n 0) p)))
     there m e (inr (inr (inr p))) = inr (inr (inr (e ∙ ap (λ n. get_or bytes n 0) p)))
 
-pub covers : (bytes : List ℕ) (j k l : ℕ) → (1 < length bytes → j ≡ 1) → (2 < length bytes → k ≡ 2) → (3 < length bytes → l ≡ 3) → length bytes ≤ 4 → Covers bytes 0 j k l
+pub covers : (bytes : List ℕ) (j k l : ℕ) → (1 < length bytes → j ≡ 1) → (2 < length bytes → k ≡ 2)
+    → (3 < length bytes → l ≡ 3) → length bytes ≤ 4 → Covers bytes 0 j k l
 covers bytes j k l p q r all zero w = inl refl
 covers bytes j k l p q r all (suc zero) w = inr (inl (sym (p w)))
 covers bytes j k l p q r all (suc (suc zero)) w = inr (inr (inl (sym (q w))))
@@ -74,22 +96,34 @@ covers bytes j k l p q r all (suc (suc (suc zero))) w = inr (inr (inr (sym (r w)
 covers bytes j k l p q r all (suc (suc (suc (suc m)))) w = absurd (omega (arith, w, all))
 
 -- bytes that are none of the four have no byte of the table
-pub passes_more : (table : List Bool) (bytes : List ℕ) (a b c d at n : ℕ) → ((x : ℕ) → has_byte table x ≡ true → is_byte4 a b c d x ≡ true) → Nowhere (Passes (has_byte table) bytes) 0 at → ((k : ℕ) → k < n → is_byte4 a b c d (get_or bytes (at + k) 0) ≡ false) → Nowhere (Passes (has_byte table) bytes) 0 (at + n)
+pub passes_more : (table : List Bool) (bytes : List ℕ) (a b c d at n : ℕ)
+    → ((x : ℕ) → has_byte table x ≡ true → is_byte4 a b c d x ≡ true) → Nowhere (Passes (has_byte table) bytes) 0 at
+    → ((k : ℕ) → k < n → is_byte4 a b c d (get_or bytes (at + k) 0) ≡ false)
+    → Nowhere (Passes (has_byte table) bytes) 0 (at + n)
 passes_more table bytes a b c d at n few before none k low high is = ⊎_elim
     (λ l. before k low l is)
     (λ l.
     let e : at + (k - at) ≡ k = omega (arith, l) in
     let w : k - at < n = omega (arith, l, high) in
-    not_yes (is_byte4 a b c d (get_or bytes k 0)) (subst (λ m. is_byte4 a b c d (get_or bytes m 0) ≡ false) e (none (k - at) w)) (few (get_or bytes k 0) is))
+    not_yes (is_byte4 a b c d (get_or bytes k 0))
+    (subst (λ m. is_byte4 a b c d (get_or bytes m 0) ≡ false) e (none (k - at) w)) (few (get_or bytes k 0) is))
     (cases_lt k at)
 
-read_block : (bytes : List ℕ) (at n k : ℕ) → k < n → get_or (take (at + n - at) (drop at bytes)) k 0 ≡ get_or bytes (at + k) 0
+read_block : (bytes : List ℕ) (at n k : ℕ) → k < n → get_or (take (at + n - at) (drop at bytes)) k 0
+    ≡ get_or bytes (at + k) 0
 read_block bytes at n k l =
     let count : at + n - at ≡ n = omega arith in
     ap (λ m. get_or (take m (drop at bytes)) k 0) count ∙ get_or-take n (drop at bytes) k 0 l ∙ get_or-drop at bytes k 0
 
-pub passes_block : (table : List Bool) (bytes : List ℕ) (a b c d at n : ℕ) → ((x : ℕ) → has_byte table x ≡ true → is_byte4 a b c d x ≡ true) → Nowhere (Passes (has_byte table) bytes) 0 at → at + n ≤ length bytes → ((k : ℕ) → k < length (take (at + n - at) (drop at bytes)) → is_byte4 a b c d (get_or (take (at + n - at) (drop at bytes)) k 0) ≡ false) → Nowhere (Passes (has_byte table) bytes) 0 (at + n)
-passes_block table bytes a b c d at n few before within none = passes_more table bytes a b c d at n few before (λ k l. subst (λ x. is_byte4 a b c d x ≡ false) (read_block bytes at n k l) (none k (omega (arith, l, within, length-take (at + n - at) (drop at bytes), length-drop at bytes))))
+pub passes_block : (table : List Bool) (bytes : List ℕ) (a b c d at n : ℕ)
+    → ((x : ℕ) → has_byte table x ≡ true → is_byte4 a b c d x ≡ true) → Nowhere (Passes (has_byte table) bytes) 0 at
+    → at + n ≤ length bytes → ((k : ℕ) → k < length (take (at + n - at) (drop at bytes))
+    → is_byte4 a b c d (get_or (take (at + n - at) (drop at bytes)) k 0) ≡ false)
+    → Nowhere (Passes (has_byte table) bytes) 0 (at + n)
+passes_block table bytes a b c d at n few before within none =
+    passes_more table bytes a b c d at n few before
+    (λ k l. subst (λ x. is_byte4 a b c d x ≡ false) (read_block bytes at n k l)
+    (none k (omega (arith, l, within, length-take (at + n - at) (drop at bytes), length-drop at bytes))))
 
 pub block_size : (bytes : List ℕ) (at n : ℕ) → at + n ≤ length bytes → length (take (at + n - at) (drop at bytes)) ≡ n
 block_size bytes at n within = omega (arith, within, length-take (at + n - at) (drop at bytes), length-drop at bytes)
@@ -104,8 +138,10 @@ passes_part table bytes a b c d at n m few before less none =
     (λ k l. subst (λ x. is_byte4 a b c d x ≡ false) (read_block bytes at n k (omega (arith, l, less))) (none k l))
 
 -- what follows a valid prefix is valid
-pub IsUtf8-rest : (bs front : List ℕ) → IsUtf8 bs → IsUtf8 front → bs ≡ front ++ drop (length front) bs → IsUtf8 (drop (length front) bs)
+pub IsUtf8-rest : (bs front : List ℕ) → IsUtf8 bs → IsUtf8 front → bs ≡ front ++ drop (length front) bs
+    → IsUtf8 (drop (length front) bs)
 IsUtf8-rest bs front v f e =
-    let first : take (length front) bs ≡ front = ap (take (length front)) e ∙ take_at front (drop (length front) bs) (length front) refl in
+    let first : take (length front) bs ≡ front = ap (take (length front)) e
+    ∙ take_at front (drop (length front) bs) (length front) refl in
     let within : length front ≤ length bs = omega (arith, ap length e, length-append front (drop (length front) bs)) in
     IsUtf8-drop bs (length front) v (IsCharBoundary-from_take bs (length front) v within (subst IsUtf8 (sym first) f))

@@ -64,7 +64,8 @@ module _ (Ends : List ℕ → List ℕ → Type 0) where
       let ending = takes.0 in
       let before = flat_map with_ending so.ended in
       let last = flat_map-append with_ending so.ended ((piece, ending) ∷ []) in
-      let more : flat_map with_ending (so.ended ++ (piece, ending) ∷ []) ++ rest' ≡ before ++ (piece ++ (ending ++ rest')) =
+      let more : flat_map with_ending (so.ended ++ (piece, ending) ∷ []) ++ rest'
+      ≡ before ++ (piece ++ (ending ++ rest')) =
       ap (λ l. l ++ rest') (last ∙ ap (λ l. before ++ l) (append-nil (piece ++ ending)))
       ∙ append_assoc before (piece ++ ending) rest' ∙ ap (λ l. before ++ l) (append_assoc piece ending rest') in
       record {
@@ -157,7 +158,8 @@ lines_push lines line text rest rest' so takes = ⊎_elim
     so
 
 -- if nothing is left, they are all lines
-pub lines_all : (lines : List (List ℕ)) (text rest : List ℕ) → LinesSoFar lines text rest → rest ≡ [] → AreLines lines text
+pub lines_all : (lines : List (List ℕ)) (text rest : List ℕ) → LinesSoFar lines text rest → rest ≡ []
+    → AreLines lines text
 lines_all lines text rest so none = ⊎_elim
     (λ taken. record {
       ended = lines;

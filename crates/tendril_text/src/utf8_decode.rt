@@ -21,6 +21,9 @@ const FEW_BEFORE: u32 = 16;
 // After this much text no broken sequence is expected to be near.
 const MANY_BEFORE: u32 = 1024;
 
+// After this much text none is expected in the whole piece.
+const MOST_BEFORE: u32 = 2048;
+
 const REPLACEMENT: &str = "\u{FFFD}";
 
 /// Converts a text to the type that a closure takes, which is the text's own type: no other type implements this.
@@ -54,7 +57,7 @@ pub struct LastText {
 }
 
 impl LastText {
-    /// Returns the value for the start of a piece: no text yet, and no broken sequence expected near.
+    /// Returns the value for the start of a stream: no text yet, and no broken sequence expected near.
     ///
     /// ```
     /// let mut last = LastText::none();
@@ -76,7 +79,8 @@ impl LastText {
         match self.len {
             0..FEW_BEFORE => 16,
             FEW_BEFORE..MANY_BEFORE => 128,
-            _ => 1024,
+            MANY_BEFORE..MOST_BEFORE => 1024,
+            _ => 4096,
         }
     }
 }

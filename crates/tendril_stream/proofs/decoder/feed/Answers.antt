@@ -11,11 +11,15 @@ returns-in_ok-held-clause-ok g c =
     let piece = c.args.piece in
     let rest = c.resume.new.piece in
     let all = due_open (c.args.held.now ++ piece.bytes) in
-    let r = subst (λ done. ResumesPiece g.S.TendrilSink.takes c.args.sink.now c.args.held.now piece done c.resume.new.sink c.resume.new.kept rest) c.if-branch.true c.in_ok-resume.ensures.ok in
+    let r = subst (λ done. ResumesPiece g.S.TendrilSink.takes c.args.sink.now c.args.held.now piece done
+    c.resume.new.sink c.resume.new.kept rest) c.if-branch.true c.in_ok-resume.ensures.ok in
     let f = c.in_ok-held.ensures.ok in (
-      Feeds-same g.S.TendrilSink.takes piece c.args.sink.now c.feed_rest.new.sink (r.0 ++ due_open rest.bytes) all (sym r.2)
-          (Feeds-append g.S.TendrilSink.takes piece c.args.sink.now c.resume.new.sink c.feed_rest.new.sink r.0 (due_open rest.bytes) r.1
-          (Feeds-through g.S.TendrilSink.takes g.S.TendrilSink.refuses piece rest r.5 r.6 c.resume.new.sink c.feed_rest.new.sink (due_open rest.bytes) f.0)),
+      Feeds-same g.S.TendrilSink.takes piece c.args.sink.now c.feed_rest.new.sink (r.0 ++ due_open rest.bytes) all
+          (sym r.2)
+          (Feeds-append g.S.TendrilSink.takes piece c.args.sink.now c.resume.new.sink c.feed_rest.new.sink r.0
+          (due_open rest.bytes) r.1
+          (Feeds-through g.S.TendrilSink.takes g.S.TendrilSink.refuses piece rest r.5 r.6 c.resume.new.sink
+          c.feed_rest.new.sink (due_open rest.bytes) f.0)),
       f.1 ∙ sym r.3,
     )
 
@@ -24,8 +28,12 @@ returns-in_err-held-clause-err g c =
     let piece = c.args.piece in
     let rest = c.resume.new.piece in
     let all = due_open (c.args.held.now ++ piece.bytes) in
-    let r = subst (λ done. ResumesPiece g.S.TendrilSink.takes c.args.sink.now c.args.held.now piece done c.resume.new.sink c.resume.new.kept rest) c.if-branch.true c.in_ok-resume.ensures.ok in
-    let q = err_from_is_err_and c.from_residual-in_err-held.result c.from_residual-in_err-held.ensures.1 in rw (q.1, q.2) (
-    Stops-after g.S.TendrilSink.takes g.S.TendrilSink.refuses piece c.args.sink.now c.resume.new.sink c.feed_rest.new.sink r.0 (due_open rest.bytes) all _ r.1
-    (Stops-through g.S.TendrilSink.takes g.S.TendrilSink.refuses piece rest r.5 r.6 c.resume.new.sink c.feed_rest.new.sink (due_open rest.bytes) _ c.in_err-held.ensures.err)
+    let r = subst (λ done. ResumesPiece g.S.TendrilSink.takes c.args.sink.now c.args.held.now piece done
+    c.resume.new.sink c.resume.new.kept rest) c.if-branch.true c.in_ok-resume.ensures.ok in
+    let q = err_from_is_err_and c.from_residual-in_err-held.result c.from_residual-in_err-held.ensures.1 in
+    rw (q.1, q.2) (
+    Stops-after g.S.TendrilSink.takes g.S.TendrilSink.refuses piece c.args.sink.now c.resume.new.sink
+    c.feed_rest.new.sink r.0 (due_open rest.bytes) all _ r.1
+    (Stops-through g.S.TendrilSink.takes g.S.TendrilSink.refuses piece rest r.5 r.6 c.resume.new.sink
+    c.feed_rest.new.sink (due_open rest.bytes) _ c.in_err-held.ensures.err)
     (sym r.2))

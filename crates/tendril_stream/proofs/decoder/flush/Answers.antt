@@ -10,17 +10,23 @@ use Rattle.tendril_stream.proofs.decoder.flush.Goals as goal
 pub returns-then-is_empty-clause-ok : goal.returns-then-is_empty-clause-ok
 returns-then-is_empty-clause-ok g c =
     let none : length c.kept.result.now ≡ 0 = grind (arith, nat_tests) in
-    Feeds-same g.S.TendrilSink.takes no_piece c.args.sink.now c.args.sink.now [] (due c.args.held.now) (sym (due_none c.args.held.now (sym (ap length c.kept.ensures.bytes) ∙ none))) (Feeds-none g.S.TendrilSink.takes no_piece c.args.sink.now)
+    Feeds-same g.S.TendrilSink.takes no_piece c.args.sink.now c.args.sink.now [] (due c.args.held.now)
+    (sym (due_none c.args.held.now (sym (ap length c.kept.ensures.bytes) ∙ none)))
+    (Feeds-none g.S.TendrilSink.takes no_piece c.args.sink.now)
 
 pub returns-clause-err : goal.returns-clause-err
 returns-clause-err g c =
     let some : 0 < length c.kept.result.now = grind (arith, nat_tests) in
     let held = due_held c.args.held.now c.kept.ensures.waits (subst (λ l. 0 < length l) c.kept.ensures.bytes some) in
     IfErr-weaker c.replace.result _ _ (λ refusal stops.
-    Stops-more g.S.TendrilSink.takes g.S.TendrilSink.refuses no_piece c.args.sink.now c.replace.new.sink (replaced (codes "incomplete byte sequence at end of stream")) [] (due c.args.held.now) refusal stops (append-nil _ ∙ sym held)) (c.replace.ensures.err no_piece)
+    Stops-more g.S.TendrilSink.takes g.S.TendrilSink.refuses no_piece c.args.sink.now c.replace.new.sink
+    (replaced (codes "incomplete byte sequence at end of stream")) [] (due c.args.held.now) refusal stops
+    (append-nil _ ∙ sym held)) (c.replace.ensures.err no_piece)
 
 pub returns-clause-ok : goal.returns-clause-ok
 returns-clause-ok g c =
     let some : 0 < length c.kept.result.now = grind (arith, nat_tests) in
     let held = due_held c.args.held.now c.kept.ensures.waits (subst (λ l. 0 < length l) c.kept.ensures.bytes some) in
-    on_ok_weaker c.replace.result (Feeds-same g.S.TendrilSink.takes no_piece c.args.sink.now c.replace.new.sink (replaced (codes "incomplete byte sequence at end of stream")) (due c.args.held.now) (sym held)) (c.replace.ensures.ok no_piece)
+    on_ok_weaker c.replace.result (Feeds-same g.S.TendrilSink.takes no_piece c.args.sink.now c.replace.new.sink
+    (replaced (codes "incomplete byte sequence at end of stream")) (due c.args.held.now) (sym held))
+    (c.replace.ensures.ok no_piece)

@@ -9,25 +9,42 @@ use Rattle.tendril_stream.proofs.decoder.replace.Goals as goal
 
 pub returns-in-Err-clause-err : goal.returns-in-Err-clause-err
 returns-in-Err-clause-err g c = λ piece.
-    Stops-call g.S.TendrilSink.takes g.S.TendrilSink.refuses piece c.args.sink.now (Fault c.args.words.now) (Char 0xFFFD ∷ []) (replaced c.args.words.now) SinkRefused c.error.new.self
+    Stops-call g.S.TendrilSink.takes g.S.TendrilSink.refuses piece c.args.sink.now (Fault c.args.words.now)
+    (Char 0xFFFD ∷ []) (replaced c.args.words.now) SinkRefused c.error.new.self
     tt refl (refl, (c.in-Err.field-0, c.in-Err.ensures.err))
 
 pub returns-clause-err : goal.returns-clause-err
 returns-clause-err g c = λ piece.
     let t = c.from_short_str.result in
-    let is : IsReplacement t = record { bytes = c.from_short_str.ensures.bytes; copied = c.from_short_str.ensures.copied ∙ sym (ap length c.from_short_str.ensures.bytes) } in
+    let is : IsReplacement t = record {
+      bytes = c.from_short_str.ensures.bytes;
+      copied =
+          c.from_short_str.ensures.copied ∙ sym (ap length c.from_short_str.ensures.bytes);
+    } in
     IfErr-weaker c.send.result _ _ (λ refusal refuses.
-    Stops-after g.S.TendrilSink.takes g.S.TendrilSink.refuses piece c.args.sink.now c.error.new.self c.send.new.sink (Mark c.args.words.now ∷ []) (Char 0xFFFD ∷ []) (replaced c.args.words.now) refusal
-    (Feeds-one g.S.TendrilSink.takes piece c.args.sink.now (Fault c.args.words.now) c.error.new.self tt c.in_default.ensures.ok)
-    (Stops-call g.S.TendrilSink.takes g.S.TendrilSink.refuses piece c.error.new.self (Piece t) [] (Char 0xFFFD ∷ []) refusal c.send.new.sink (replacement-handed piece t is) (ap (λ cs. map Char cs ++ []) (replacement-chars t is)) refuses)
+    Stops-after g.S.TendrilSink.takes g.S.TendrilSink.refuses piece c.args.sink.now c.error.new.self c.send.new.sink
+    (Mark c.args.words.now ∷ []) (Char 0xFFFD ∷ []) (replaced c.args.words.now) refusal
+    (Feeds-one g.S.TendrilSink.takes piece c.args.sink.now (Fault c.args.words.now) c.error.new.self tt
+    c.in_default.ensures.ok)
+    (Stops-call g.S.TendrilSink.takes g.S.TendrilSink.refuses piece c.error.new.self (Piece t) []
+    (Char 0xFFFD ∷ []) refusal c.send.new.sink (replacement-handed piece t is)
+    (ap (λ cs. map Char cs ++ []) (replacement-chars t is)) refuses)
     refl) c.send.ensures.err
 
 pub returns-clause-ok : goal.returns-clause-ok
 returns-clause-ok g c = λ piece.
     let t = c.from_short_str.result in
-    let is : IsReplacement t = record { bytes = c.from_short_str.ensures.bytes; copied = c.from_short_str.ensures.copied ∙ sym (ap length c.from_short_str.ensures.bytes) } in
+    let is : IsReplacement t = record {
+      bytes = c.from_short_str.ensures.bytes;
+      copied =
+          c.from_short_str.ensures.copied ∙ sym (ap length c.from_short_str.ensures.bytes);
+    } in
     on_ok_weaker c.send.result (λ takes.
-    Feeds-append g.S.TendrilSink.takes piece c.args.sink.now c.error.new.self c.send.new.sink (Mark c.args.words.now ∷ []) (Char 0xFFFD ∷ [])
-    (Feeds-one g.S.TendrilSink.takes piece c.args.sink.now (Fault c.args.words.now) c.error.new.self tt c.in_default.ensures.ok)
-    (Feeds-same g.S.TendrilSink.takes piece c.error.new.self c.send.new.sink (told_of (Piece t)) (Char 0xFFFD ∷ []) (ap (map Char) (replacement-chars t is))
-    (Feeds-one g.S.TendrilSink.takes piece c.error.new.self (Piece t) c.send.new.sink (replacement-handed piece t is) takes))) c.send.ensures.ok
+    Feeds-append g.S.TendrilSink.takes piece c.args.sink.now c.error.new.self c.send.new.sink
+    (Mark c.args.words.now ∷ []) (Char 0xFFFD ∷ [])
+    (Feeds-one g.S.TendrilSink.takes piece c.args.sink.now (Fault c.args.words.now) c.error.new.self tt
+    c.in_default.ensures.ok)
+    (Feeds-same g.S.TendrilSink.takes piece c.error.new.self c.send.new.sink (told_of (Piece t)) (Char 0xFFFD ∷ [])
+    (ap (map Char) (replacement-chars t is))
+    (Feeds-one g.S.TendrilSink.takes piece c.error.new.self (Piece t) c.send.new.sink (replacement-handed piece t is)
+    takes))) c.send.ensures.ok

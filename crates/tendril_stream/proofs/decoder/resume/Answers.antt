@@ -15,8 +15,17 @@ use Rattle.tendril_stream.proofs.decoder.resume.Goals as goal
 pub returns-then-is_empty-clause-ok : goal.returns-then-is_empty-clause-ok
 returns-then-is_empty-clause-ok g c =
     let p = c.args.piece.now.bytes in
-    let nil : c.args.kept.now ≡ [] = sym c.kept.ensures.bytes ∙ nil_from_length c.kept.result.now (grind (arith, nat_tests)) in
-    ([], Feeds-none g.S.TendrilSink.takes c.args.piece.now c.args.sink.now, ap (λ l. due_open (l ++ p)) nil, ap (λ l. kept (l ++ p)) nil, nil, inl refl, (0, refl))
+    let nil : c.args.kept.now ≡ [] = sym c.kept.ensures.bytes
+    ∙ nil_from_length c.kept.result.now (grind (arith, nat_tests)) in (
+      [],
+      Feeds-none g.S.TendrilSink.takes c.args.piece.now c.args.sink.now,
+      ap (λ l. due_open (l ++ p)) nil,
+      ap
+          (λ l. kept (l ++ p)) nil,
+      nil,
+      inl refl,
+      (0, refl),
+    )
 
 pub returns-in_default-clause-ok : goal.returns-in_default-clause-ok
 returns-in_default-clause-ok g c =
@@ -27,9 +36,14 @@ pub returns-in_err-replace-in-Err-clause-err : goal.returns-in_err-replace-in-Er
 returns-in_err-replace-in-Err-clause-err g c =
     let k = c.args.kept.now in
     let p = c.args.piece.now.bytes in
-    let h = subst (λ f. MatchResult f (λ t. CompletesTo k p t c.complete_from.new.piece.bytes) (λ b. BreaksAt k p b c.complete_from.new.piece.bytes)) c.in-Err.is c.in-Some.ensures.completed in
+    let h = subst (λ f. MatchResult f (λ t. CompletesTo k p t c.complete_from.new.piece.bytes)
+    (λ b. BreaksAt k p b c.complete_from.new.piece.bytes)) c.in-Err.is c.in-Some.ensures.completed in
     let a = after_broken k p c.in-Err.field-0 c.complete_from.new.piece.bytes h in
-    let q = err_from_is_err_and c.from_residual-in_err-replace-in-Err.result c.from_residual-in_err-replace-in-Err.ensures.1 in rw (q.1, q.2) (Stops-more g.S.TendrilSink.takes g.S.TendrilSink.refuses c.args.piece.now c.args.sink.now c.replace.new.sink (replaced (codes "invalid byte sequence")) (due_open c.complete_from.new.piece.bytes) (due_open (k ++ p)) _ (c.in_err-replace-in-Err.ensures.err c.args.piece.now) (sym a.0))
+    let q = err_from_is_err_and c.from_residual-in_err-replace-in-Err.result
+    c.from_residual-in_err-replace-in-Err.ensures.1 in
+    rw (q.1, q.2) (Stops-more g.S.TendrilSink.takes g.S.TendrilSink.refuses c.args.piece.now c.args.sink.now
+    c.replace.new.sink (replaced (codes "invalid byte sequence")) (due_open c.complete_from.new.piece.bytes)
+    (due_open (k ++ p)) _ (c.in_err-replace-in-Err.ensures.err c.args.piece.now) (sym a.0))
 
 pub returns-in_err-send-in-Ok-clause-err : goal.returns-in_err-send-in-Ok-clause-err
 returns-in_err-send-in-Ok-clause-err g c =
@@ -39,12 +53,16 @@ returns-in_err-send-in-Ok-clause-err g c =
     let t = c.from_short_str.result in
     let held : 0 < length c.kept.result.now = grind (arith, nat_tests) in
     let some : 0 < length k = subst (λ l. 0 < length l) c.kept.ensures.bytes held in
-    let h = subst (λ f. MatchResult f (λ t. CompletesTo k p t rest) (λ b. BreaksAt k p b rest)) c.in-Ok.is c.in-Some.ensures.completed in
+    let h = subst (λ f. MatchResult f (λ t. CompletesTo k p t rest) (λ b. BreaksAt k p b rest)) c.in-Ok.is
+    c.in-Some.ensures.completed in
     let is : t.bytes ≡ c.in-Ok.text = c.from_short_str.ensures.bytes ∙ c.as_str.ensures in
     let whole : CompletesTo k p t.bytes rest = subst (λ l. CompletesTo k p l rest) (sym is) h in
     let a = after_text k p t.bytes rest whole in
-    let fit = short_handed c.args.piece.now t k p rest some whole (c.from_short_str.ensures.copied ∙ sym (ap length c.from_short_str.ensures.bytes)) in
-    let q = err_from_is_err_and c.from_residual.result c.from_residual.ensures.1 in rw (q.1, q.2) (Stops-call g.S.TendrilSink.takes g.S.TendrilSink.refuses c.args.piece.now c.args.sink.now (Piece t) (due_open rest) (due_open (k ++ p)) _ c.send.new.sink fit (sym a.0) c.in_err-send-in-Ok.ensures.err)
+    let fit = short_handed c.args.piece.now t k p rest some whole (c.from_short_str.ensures.copied
+    ∙ sym (ap length c.from_short_str.ensures.bytes)) in
+    let q = err_from_is_err_and c.from_residual.result c.from_residual.ensures.1 in
+    rw (q.1, q.2) (Stops-call g.S.TendrilSink.takes g.S.TendrilSink.refuses c.args.piece.now c.args.sink.now
+    (Piece t) (due_open rest) (due_open (k ++ p)) _ c.send.new.sink fit (sym a.0) c.in_err-send-in-Ok.ensures.err)
 
 pub returns-in_ok-send-in-Ok-clause-ok : goal.returns-in_ok-send-in-Ok-clause-ok
 returns-in_ok-send-in-Ok-clause-ok g c =
@@ -54,18 +72,37 @@ returns-in_ok-send-in-Ok-clause-ok g c =
     let t = c.from_short_str.result in
     let held : 0 < length c.kept.result.now = grind (arith, nat_tests) in
     let some : 0 < length k = subst (λ l. 0 < length l) c.kept.ensures.bytes held in
-    let h = subst (λ f. MatchResult f (λ t. CompletesTo k p t rest) (λ b. BreaksAt k p b rest)) c.in-Ok.is c.in-Some.ensures.completed in
+    let h = subst (λ f. MatchResult f (λ t. CompletesTo k p t rest) (λ b. BreaksAt k p b rest)) c.in-Ok.is
+    c.in-Some.ensures.completed in
     let is : t.bytes ≡ c.in-Ok.text = c.from_short_str.ensures.bytes ∙ c.as_str.ensures in
     let whole : CompletesTo k p t.bytes rest = subst (λ l. CompletesTo k p l rest) (sym is) h in
     let a = after_text k p t.bytes rest whole in
-    let fit = short_handed c.args.piece.now t k p rest some whole (c.from_short_str.ensures.copied ∙ sym (ap length c.from_short_str.ensures.bytes)) in
-    (map Char (chars t.bytes), Feeds-one g.S.TendrilSink.takes c.args.piece.now c.args.sink.now (Piece t) c.send.new.sink fit c.in_ok-send-in-Ok.ensures.ok, a.0, a.1, c.in-Some.ensures.emptied, rest_kept c.args.piece.now c.complete_from.new.piece c.in-Some.ensures.copied, (length t.bytes - length k, whole.left))
+    let fit = short_handed c.args.piece.now t k p rest some whole (c.from_short_str.ensures.copied
+    ∙ sym (ap length c.from_short_str.ensures.bytes)) in (
+      map Char (chars t.bytes),
+      Feeds-one g.S.TendrilSink.takes c.args.piece.now c.args.sink.now
+          (Piece t) c.send.new.sink fit c.in_ok-send-in-Ok.ensures.ok,
+      a.0,
+      a.1,
+      c.in-Some.ensures.emptied,
+      rest_kept
+          c.args.piece.now c.complete_from.new.piece c.in-Some.ensures.copied,
+      (length t.bytes - length k, whole.left),
+    )
 
 pub returns-in_ok-replace-in-Err-clause-ok : goal.returns-in_ok-replace-in-Err-clause-ok
 returns-in_ok-replace-in-Err-clause-ok g c =
     let k = c.args.kept.now in
     let p = c.args.piece.now.bytes in
     let rest = c.complete_from.new.piece.bytes in
-    let h = subst (λ f. MatchResult f (λ t. CompletesTo k p t rest) (λ b. BreaksAt k p b rest)) c.in-Err.is c.in-Some.ensures.completed in
-    let a = after_broken k p c.in-Err.field-0 rest h in
-    (replaced (codes "invalid byte sequence"), c.in_ok-replace-in-Err.ensures.ok c.args.piece.now, a.0, a.1, c.in-Some.ensures.emptied, rest_kept c.args.piece.now c.complete_from.new.piece c.in-Some.ensures.copied, (length c.in-Err.field-0 - length k, h.left))
+    let h = subst (λ f. MatchResult f (λ t. CompletesTo k p t rest) (λ b. BreaksAt k p b rest)) c.in-Err.is
+    c.in-Some.ensures.completed in
+    let a = after_broken k p c.in-Err.field-0 rest h in (
+      replaced (codes "invalid byte sequence"),
+      c.in_ok-replace-in-Err.ensures.ok c.args.piece.now,
+      a.0,
+      a.1,
+      c.in-Some.ensures.emptied,
+      rest_kept c.args.piece.now c.complete_from.new.piece c.in-Some.ensures.copied,
+      (length c.in-Err.field-0 - length k, h.left),
+    )

@@ -8,4 +8,5 @@ pub decode_pieces_into-requires-clause-new : goal.decode_pieces_into-requires-cl
 decode_pieces_into-requires-clause-new g c = ap (λ l. told (sent l)) c.new.ensures
 
 pub returns-clause-ok : goal.returns-clause-ok
-returns-clause-ok g c = IfOk-weaker c.decode_pieces_into.result _ _ (λ out h. (h.0, h.1, h.2, h.3, h.4, ap (λ l. told (sent l)) h.5.2 ∙ h.5.1)) c.decode_pieces_into.ensures.ok
+returns-clause-ok g c = IfOk-weaker c.decode_pieces_into.result _ _
+    (λ out h. (h.0, h.1, h.2, h.3, h.4, ap (λ l. told (sent l)) h.5.2 ∙ h.5.1)) c.decode_pieces_into.ensures.ok

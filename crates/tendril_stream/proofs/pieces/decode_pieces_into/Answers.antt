@@ -9,8 +9,18 @@ pub returns-clause-ok : goal.returns-clause-ok
 returns-clause-ok g c = IfOk-weaker c.from_iter.result _ _ (λ out h.
     let d = c.new.result in
     let a = h.1 in
-    let all = stands_from_nothing g.S.TendrilSink.takes g.S.Tracks.after g.met.S.Tracks.goes_on (λ d. d.inner_sink) (λ d. d.kept) (λ d. d.failed) a.sent d h.0 c.args.sink c.new.ensures.sink c.new.ensures.kept c.requires.new a.calls in
-    (a.iterator, a.last, a.sent, a.made, a.yields, ends_at g.S.TendrilSink.takes g.S.Tracks.after g.met.S.Tracks.goes_on g.S.TendrilSink.finishes h.0.inner_sink h.0.kept (bytes_of a.sent) out all h.2.1)) c.from_iter.ensures.ok
+    let all = stands_from_nothing g.S.TendrilSink.takes g.S.Tracks.after g.met.S.Tracks.goes_on (λ d. d.inner_sink)
+    (λ d. d.kept) (λ d. d.failed) a.sent d h.0 c.args.sink c.new.ensures.sink c.new.ensures.kept c.requires.new
+    a.calls in (
+      a.iterator,
+      a.last,
+      a.sent,
+      a.made,
+      a.yields,
+      ends_at g.S.TendrilSink.takes g.S.Tracks.after
+          g.met.S.Tracks.goes_on g.S.TendrilSink.finishes h.0.inner_sink h.0.kept (bytes_of a.sent) out all h.2.1,
+    ))
+    c.from_iter.ensures.ok
 
 pub returns-clause-refusal : goal.returns-clause-refusal
 returns-clause-refusal g c = IfErr-weaker c.from_iter.result _ _ (λ r h.
@@ -18,7 +28,9 @@ returns-clause-refusal g c = IfErr-weaker c.from_iter.result _ _ (λ r h.
     ⊎_elim
     (λ k.
     let a = k.1 in
-    let at = stands_from_nothing g.S.TendrilSink.takes g.S.Tracks.after g.met.S.Tracks.goes_on (λ d. d.inner_sink) (λ d. d.kept) (λ d. d.failed) a.sent d a.sunk c.args.sink c.new.ensures.sink c.new.ensures.kept c.requires.new a.calls in
+    let at = stands_from_nothing g.S.TendrilSink.takes g.S.Tracks.after g.met.S.Tracks.goes_on (λ d. d.inner_sink)
+    (λ d. d.kept) (λ d. d.failed) a.sent d a.sunk c.args.sink c.new.ensures.sink c.new.ensures.kept c.requires.new
+    a.calls in
     let running = unfailed (λ d. d.failed) _ a.sent d a.sunk c.new.ensures.failed a.calls in
     record {
       iterator = a.iterator;
@@ -27,11 +39,20 @@ returns-clause-refusal g c = IfErr-weaker c.from_iter.result _ _ (λ r h.
       last = a.last;
       sink = a.sunk.inner_sink;
       tells = at.tells;
-      stop = inl (a.next, a.yields, k.0.inner_sink, stops_at_piece g.S.TendrilSink.takes g.S.TendrilSink.refuses (λ d. d.inner_sink) (λ d. d.kept) (λ d. d.failed) a.sunk a.next r k.0 (bytes_of a.sent) running at.keeps a.refused);
+      stop = inl (
+        a.next,
+        a.yields,
+        k.0.inner_sink,
+        stops_at_piece g.S.TendrilSink.takes g.S.TendrilSink.refuses
+            (λ d. d.inner_sink) (λ d. d.kept) (λ d. d.failed) a.sunk a.next r k.0 (bytes_of a.sent) running at.keeps
+            a.refused,
+      );
     })
     (λ k.
     let a = k.1 in
-    let at = stands_from_nothing g.S.TendrilSink.takes g.S.Tracks.after g.met.S.Tracks.goes_on (λ d. d.inner_sink) (λ d. d.kept) (λ d. d.failed) a.sent d k.0 c.args.sink c.new.ensures.sink c.new.ensures.kept c.requires.new a.calls in
+    let at = stands_from_nothing g.S.TendrilSink.takes g.S.Tracks.after g.met.S.Tracks.goes_on (λ d. d.inner_sink)
+    (λ d. d.kept) (λ d. d.failed) a.sent d k.0 c.args.sink c.new.ensures.sink c.new.ensures.kept c.requires.new
+    a.calls in
     let running = unfailed (λ d. d.failed) _ a.sent d k.0 c.new.ensures.failed a.calls in
     record {
       iterator = a.iterator;
@@ -40,6 +61,10 @@ returns-clause-refusal g c = IfErr-weaker c.from_iter.result _ _ (λ r h.
       last = a.last;
       sink = k.0.inner_sink;
       tells = at.tells;
-      stop = inr (a.yields, stops_at_end g.S.TendrilSink.takes g.S.TendrilSink.refuses (λ d. d.inner_sink) (λ d. d.kept) (λ d. d.failed) g.S.TendrilSink.ends k.0 r (bytes_of a.sent) running at.keeps k.2);
+      stop = inr (
+        a.yields,
+        stops_at_end g.S.TendrilSink.takes g.S.TendrilSink.refuses (λ d. d.inner_sink)
+            (λ d. d.kept) (λ d. d.failed) g.S.TendrilSink.ends k.0 r (bytes_of a.sent) running at.keeps k.2,
+      );
     })
     h) c.from_iter.ensures.err

@@ -7,5 +7,6 @@ loop-byte-init c = (refl, none_yet c.args.bytes.now 256)
 
 pub returns-clause-members : goal.returns-clause-members
 returns-clause-members c =
-    let all : length c.args.bytes.now ≤ c.loop-byte.byte-index = omega (arith, c.loop-byte-test.false, c.loop-byte.auto.byte-index-end) in
+    let all : length c.args.bytes.now ≤ c.loop-byte.byte-index =
+    omega (arith, c.loop-byte-test.false, c.loop-byte.auto.byte-index-end) in
     members_of c.args.bytes.now c.loop-byte.members c.loop-byte.byte-index all c.loop-byte.invariant.1

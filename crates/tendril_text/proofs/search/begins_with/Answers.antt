@@ -6,14 +6,17 @@ use Rattle.tendril_text.proofs.search.begins_with.Goals as goal
 
 pub returns-clause-begins : goal.returns-clause-begins
 returns-clause-begins c =
-    let starts = starts_is Decides-eqb c.args.bytes.now c.args.prefix.now c.starts_with.result (rw c.as_bytes.ensures.value at c.starts_with.ensures.value) in (
+    let starts = starts_is Decides-eqb c.args.bytes.now c.args.prefix.now c.starts_with.result
+    (rw c.as_bytes.ensures.value at c.starts_with.ensures.value) in (
       λ is. (drop (length c.args.prefix.now) c.args.bytes.now, starts.0 is),
       λ front. starts.1 front.0 front.1,
     )
 
 pub returns-clause-bytes : goal.returns-clause-bytes
-returns-clause-bytes c = (starts_is Decides-eqb c.args.bytes.now c.args.prefix.now c.starts_with.result (rw c.as_bytes.ensures.value at c.starts_with.ensures.value)).0
+returns-clause-bytes c = (starts_is Decides-eqb c.args.bytes.now c.args.prefix.now c.starts_with.result
+    (rw c.as_bytes.ensures.value at c.starts_with.ensures.value)).0
 
 pub returns-clause-valid : goal.returns-clause-valid
 returns-clause-valid c = λ is. IsUtf8-rest c.args.bytes.now c.args.prefix.now c.requires c.utf8.prefix
-    ((starts_is Decides-eqb c.args.bytes.now c.args.prefix.now c.starts_with.result (rw c.as_bytes.ensures.value at c.starts_with.ensures.value)).0 is)
+    ((starts_is Decides-eqb c.args.bytes.now c.args.prefix.now c.starts_with.result
+    (rw c.as_bytes.ensures.value at c.starts_with.ensures.value)).0 is)

@@ -1,4 +1,8 @@
-use Rattle.tendril_stream.proofs.Walks.{refl, [], ◌∷◌, proved, vstruct, vnil, named, ‵, raw, ◌⊛◌, ◌$◌, ◌∵◌, !, qed, move, keep, split, fjoin, suffices, done, no_more, returns, enter, agg, alloc_all, pass_all, free_all, look_at, sets, usize, yes, owns, shr_vals, shr_Tells, types_at, pure_i, plain, nothing, alive, Stays, says, stay_dropped, Goes-dropped, ends_at}
+use Rattle.tendril_stream.proofs.Walks.{refl, [], ◌∷◌, proved, vstruct, vnil, named, ‵, raw, ◌⊛◌, ◌$◌, ◌∵◌, !, qed}
+use Rattle.tendril_stream.proofs.Walks.{move, keep, split, fjoin, suffices, done, no_more, returns, enter, agg}
+use Rattle.tendril_stream.proofs.Walks.{alloc_all, pass_all, free_all, look_at, sets, usize, yes, owns, shr_vals}
+use Rattle.tendril_stream.proofs.Walks.{shr_Tells, types_at, pure_i, plain, nothing, alive, Stays, says, stay_dropped}
+use Rattle.tendril_stream.proofs.Walks.{Goes-dropped, ends_at}
 use Rattle.std.proofs.Common.{List, ◌++◌}
 use denote.Builtin.{RefOf, SliceRefOf, u8}
 use denote.Slice.{shr_slice_vals, shr_slice_Tells}
@@ -29,15 +33,23 @@ after_spec 𝓤 𝓛 𝓜 𝓡 wired =
       ),
     ) f.Key.name code.function (code.unfolded 𝓤 𝓛.H 𝓜 𝓡 wired)
     (λ κs. (shr_vals, (shr_vals, (shr_slice_vals, tt))))
-    (λ κs. (shr_Tells (named 0) κs.0 made.the_row, (shr_Tells (named 1) κs.1.0 ReadRow, (shr_slice_Tells (named 2) κs.1.1.0 u8, tt))))
+    (λ κs. (
+      shr_Tells (named 0) κs.0 made.the_row,
+      (shr_Tells (named 1) κs.1.0 ReadRow, (shr_slice_Tells (named 2) κs.1.1.0 u8, tt)),
+    ))
     (λ κs qs bounds a g are.
     let l : List OneRead = a.0.now.reads ++ read_of a.1.0.now a.1.1.0.now ∷ [] in
-    let vss : denote.RattleType.Valss (types_at f.signature.params κs) = (shr_vals a.0, (shr_vals a.1.0, (shr_slice_vals a.1.1.0, tt))) in
-    qed 𝓛 ((raw (alive 𝓛 f.signature κs qs) ⊛ ‵ (owns (types_at f.signature.params κs) a vss)) ∷ raw ((c κs a).requires g) ∷ []) ∵
+    let vss : denote.RattleType.Valss (types_at f.signature.params κs) =
+    (shr_vals a.0, (shr_vals a.1.0, (shr_slice_vals a.1.1.0, tt))) in
+    qed 𝓛 ((raw (alive 𝓛 f.signature κs qs) ⊛ ‵ (owns (types_at f.signature.params κs) a vss)) ∷ raw
+    ((c κs a).requires g) ∷ []) ∵
     keep ! (0 ∷ []) $ split ! $ keep ! (0 ∷ []) $
-    enter ! _ _ _ _ _ $ alloc_all ! (λ x. pass_all ! refl ((tt, tt), ((tt, tt), ((tt, (tt, (record { fits = are.1.1.0.0.1.0 }, tt))), tt))) $
+    enter ! _ _ _ _ _ $ alloc_all !
+    (λ x. pass_all ! refl ((tt, tt), ((tt, tt), ((tt, (tt, (record { fits = are.1.1.0.0.1.0 }, tt))), tt))) $
     sets ! (agg ! (no_more !)) refl (tt, tt) $
     returns ! (look_at ! 0 refl) $ free_all ! refl $
-    suffices ! _ (ends_at 𝓛 f.ended stayed c ((κs, qs, bounds, a, vss), g) (vstruct vnil) (record { reads = l }) (tt, (tt, (tt, tt))) (tt, (tt, (tt, tt)))) $ says ! refl $
-    pure_i ! (made.the_row.own_val (record { reads = l }) (vstruct vnil ∷ [])) ((λ vss. (tt, tt)), tt) ((tt, (refl, tt)), tt) $
+    suffices ! _ (ends_at 𝓛 f.ended stayed c ((κs, qs, bounds, a, vss), g) (vstruct vnil) (record { reads = l })
+    (tt, (tt, (tt, tt))) (tt, (tt, (tt, tt)))) $ says ! refl $
+    pure_i ! (made.the_row.own_val (record { reads = l }) (vstruct vnil ∷ [])) ((λ vss. (tt, tt)), tt)
+    ((tt, (refl, tt)), tt) $
     nothing ! $ nothing ! $ fjoin ! $ nothing ! $ fjoin ! $ nothing ! $ fjoin ! $ move ! (2 ∷ 0 ∷ 1 ∷ []) $ done !))

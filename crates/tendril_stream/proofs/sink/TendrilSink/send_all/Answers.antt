@@ -5,7 +5,9 @@ use Rattle.tendril_stream.proofs.sink.TendrilSink.send_all.Goals as goal
 
 pub loop-text-preserved : goal.loop-text-preserved
 loop-text-preserved g c =
-    FoldsTo-push (λ s x t. g.Self.TendrilSink.takes s (Piece (g.T.StreamText.text x)) t) c.args.self.now c.loop-text.yielded c.loop-text.self c.in-Some.text c.process.new.self c.loop-text.invariant c.in_ok-process.ensures.ok
+    FoldsTo-push (λ s x t. g.Self.TendrilSink.takes s (Piece (g.T.StreamText.text x)) t) c.args.self.now
+    c.loop-text.yielded c.loop-text.self c.in-Some.text c.process.new.self c.loop-text.invariant
+    c.in_ok-process.ensures.ok
 
 pub returns-in_err-process-clause-err : goal.returns-in_err-process-clause-err
 returns-in_err-process-clause-err g c =

@@ -11,6 +11,7 @@ loop-item-preserved g c =
       record {
         items = before.items ++ c.in-Some.item ∷ [];
         yielded = Yields-push g.I.Iterator.next_gives _ _ _ _ _ before.yielded c.in-Some.ensures.steps;
-        text = grown g.I.Item.Pushable.bytes g.F.Format.join c.args.self.now _ _ _ before.text c.in_ok-push_to.field-0 c.push_to.result _ c.in_ok-push_to.was c.push_to.ensures;
+        text = grown g.I.Item.Pushable.bytes g.F.Format.join c.args.self.now _ _ _ before.text c.in_ok-push_to.field-0
+            c.push_to.result _ c.in_ok-push_to.was c.push_to.ensures;
       },
     )

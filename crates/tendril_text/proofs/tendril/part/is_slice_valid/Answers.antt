@@ -5,4 +5,5 @@ use Rattle.tendril_text.proofs.tendril.part.is_slice_valid.Goals as goal
 pub returns : goal.returns
 returns g c =
     let count : c.args.offset + c.args.count - c.args.offset ≡ c.args.count = omega arith in
-    (rw count at c.validate_subseq.ensures) c.args.bytes.now c.requires.valid (IsSliceOf-take_drop c.args.bytes.now c.args.offset c.args.count)
+    (rw count at c.validate_subseq.ensures) c.args.bytes.now c.requires.valid
+    (IsSliceOf-take_drop c.args.bytes.now c.args.offset c.args.count)

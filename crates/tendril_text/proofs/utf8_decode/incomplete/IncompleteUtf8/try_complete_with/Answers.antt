@@ -9,8 +9,10 @@ returns-clause-ok g c =
     let input = c.args.input.now.bytes in
     let rest = c.complete_from.new.piece.bytes in
     let says : Says k input rest c.match-completed.text.now = elim c.match-completed.branch [
-      | in-Ok w ↦ says_text k input rest c.match-completed.text.now w.in-Ok.text c.in-Some.completed c.in-Some.ensures.completed w.in-Ok.is (ap (λ b. b.now) w.text-is ∙ w.as_str-text.ensures)
-      | in-Err w ↦ says_replacement k input rest c.match-completed.text.now w.in-Err.field-0 c.in-Some.completed c.in-Some.ensures.completed w.in-Err.is (ap (λ b. b.now) w.text-is)
+      | in-Ok w ↦ says_text k input rest c.match-completed.text.now w.in-Ok.text c.in-Some.completed
+          c.in-Some.ensures.completed w.in-Ok.is (ap (λ b. b.now) w.text-is ∙ w.as_str-text.ensures)
+      | in-Err w ↦ says_replacement k input rest c.match-completed.text.now w.in-Err.field-0 c.in-Some.completed
+          c.in-Some.ensures.completed w.in-Err.is (ap (λ b. b.now) w.text-is)
     ] in
     let handed = subst (λ t. Says k input rest t) (sym c.short.ensures.bytes) says in
     record {
