@@ -85,7 +85,8 @@ module _ (case : Case) (text bytes pattern : List ℕ) (within : length text ≤
         count = length text + h.count;
         within = omega (arith, size, short);
         in_pattern = omega (arith, rest_size, within, in_rest);
-        other = λ both. h.other (same_after case text (take (length text) pattern) (take h.count bytes) (take h.count rest)
+        other = λ both. h.other (same_after case text (take (length text) pattern) (take h.count bytes)
+            (take h.count rest)
             front_size
             (subst (λ l. AreSame case (text ++ take h.count bytes) l) (pattern_cut h.count)
             (subst (λ l. AreSame case l (take (length text + h.count) pattern)) (cut h.count) both)));
@@ -111,7 +112,8 @@ module _ (t : Text) (xs : List Text) (count : ℕ) (q : IsQueue t xs) (short : c
 
   pub left_of_all : (left : Text) → left.bytes ≡ drop count t.bytes
       → left.bytes ++ queued_bytes xs ≡ drop count (t.bytes ++ queued_bytes xs)
-  left_of_all left e = ap (λ b. b ++ queued_bytes xs) e ∙ sym (drop-append-le count t.bytes (queued_bytes xs) (omega (arith, short)))
+  left_of_all left e = ap (λ b. b ++ queued_bytes xs) e
+      ∙ sym (drop-append-le count t.bytes (queued_bytes xs) (omega (arith, short)))
 
   pub left_queue : (left : Text) → left.bytes ≡ drop count t.bytes → IsQueue left xs
   left_queue left e =
@@ -134,7 +136,8 @@ module _ (t : Text) (xs : List Text) (count : ℕ) (q : IsQueue t xs) (long : le
       length-append t.bytes (queued_bytes xs) in
       omega (arith, there, all)
 
-  pub rest_valid : IsUtf8 (take count (t.bytes ++ queued_bytes xs)) → IsUtf8 (take (count - length t.bytes) (queued_bytes xs))
+  pub rest_valid : IsUtf8 (take count (t.bytes ++ queued_bytes xs))
+      → IsUtf8 (take (count - length t.bytes) (queued_bytes xs))
   rest_valid valid =
       valid_after t.bytes (take (count - length t.bytes) (queued_bytes xs)) (subst IsUtf8
       (ap (λ m. take m (t.bytes ++ queued_bytes xs)) (sym sum)

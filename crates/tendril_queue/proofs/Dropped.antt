@@ -91,7 +91,8 @@ cuts_valid xs [] t count left some is h d = absurd (omega arith)
 cuts_valid xs (y ∷ rest) t count left some is h d =
     let same : t.bytes ≡ y.bytes = ap (λ (x : Text). x.bytes) is in
     let short : left ≤ length y.bytes = omega (arith, h, ap length same) in
-    let front : take left (queued_bytes (y ∷ rest)) ≡ take left y.bytes = take-append-le left y.bytes (queued_bytes rest) short in
+    let front : take left (queued_bytes (y ∷ rest)) ≡ take left y.bytes =
+    take-append-le left y.bytes (queued_bytes rest) short in
     let valid = (All-head IsQueued y rest d.each).valid in
     subst (λ l. IsUtf8 (drop left l)) (sym same) (IsUtf8-drop y.bytes left valid
     (IsCharBoundary-from_take y.bytes left valid short (subst IsUtf8 front d.valid)))
@@ -100,7 +101,8 @@ cuts_valid xs (y ∷ rest) t count left some is h d =
 pub dropped_within : (xs ys : List Text) (t cut : Text) (count left : ℕ) → 0 < length ys → t ≡ get_or ys 0 t
     → left < length t.bytes → IsDropping xs ys count left → cut.bytes ≡ drop left t.bytes → Keeps t cut
     → IsUtf8 cut.bytes
-    → AreQueued (set ys 0 cut) × (queued_bytes (set ys 0 cut) ≡ drop count (queued_bytes xs)) × DropsFront xs (set ys 0 cut)
+    → AreQueued (set ys 0 cut) × (queued_bytes (set ys 0 cut) ≡ drop count (queued_bytes xs))
+    × DropsFront xs (set ys 0 cut)
 dropped_within xs ys t cut count left some is h d e keeps valid =
     let all : t.bytes ≡ take left t.bytes ++ cut.bytes = sym (take-append-drop left t.bytes)
     ∙ ap (λ l. take left t.bytes ++ l) (sym e) in
@@ -111,5 +113,11 @@ dropped_within xs ys t cut count left some is h d e keeps valid =
       left_each ys (set ys 0 cut) t cut l d.each valid,
       sym (drop_at (take left t.bytes) (queued_bytes (set ys 0 cut)) left front)
           ∙ ap (drop left) (sym (left_bytes ys (set ys 0 cut) t cut l (take left t.bytes) all)) ∙ d.bytes,
-      record { gone = d.gone; others = ys; had = d.had; has = inr (record { first = t; left = cut; leaves = l; keeps = keeps }) },
+      record {
+        gone = d.gone;
+        others = ys;
+        had = d.had;
+        has =
+            inr (record { first = t; left = cut; leaves = l; keeps = keeps });
+      },
     )

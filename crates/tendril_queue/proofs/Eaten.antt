@@ -40,4 +40,5 @@ module _ (case : Case) (p pattern : List ℕ) (t : Text) (xs : List Text) (r : E
         is = begins.is;
         texts = loses;
       } in
-      subst (λ q. Eats (AreSame case) pattern q r has) view (subst (λ e. Eats (AreSame case) pattern had e has) (sym is) made)
+      subst (λ q. Eats (AreSame case) pattern q r has) view
+      (subst (λ e. Eats (AreSame case) pattern had e has) (sym is) made)

@@ -160,7 +160,8 @@ pub all_none : (t : Text) (xs : List Text) → t.bytes ≡ [] → all_texts t xs
 all_none t xs none = ap (λ l. l ++ xs) (unless_empty_none t (ap length none))
 
 pub all_valid : (t : Text) (xs : List Text) → IsQueue t xs → IsUtf8 (queued_bytes (all_texts t xs))
-all_valid t xs q = subst IsUtf8 (sym (all_bytes t xs)) (IsUtf8-append t.bytes (queued_bytes xs) q.valid (joined_valid xs q.each))
+all_valid t xs q = subst IsUtf8 (sym (all_bytes t xs))
+    (IsUtf8-append t.bytes (queued_bytes xs) q.valid (joined_valid xs q.each))
 
 -- a text that has bytes is a first one for each rest
 pub first_some : (t : Text) (xs : List Text) → IsUtf8 t.bytes → 0 < length t.bytes → AreQueued xs → IsQueue t xs
@@ -209,7 +210,8 @@ both_some None p q step = tt
 
 -- the first character of the first text is that of all texts
 pub first_char : (t : Text) (xs : List Text) (c : ℕ) → IsQueue t xs
-    → (rest : List ℕ) × (chars t.bytes ≡ c ∷ rest) → (rest : List ℕ) × (chars (queued_bytes (all_texts t xs)) ≡ c ∷ rest)
+    → (rest : List ℕ) × (chars t.bytes ≡ c ∷ rest)
+    → (rest : List ℕ) × (chars (queued_bytes (all_texts t xs)) ≡ c ∷ rest)
 first_char t xs c q h = (
   h.0 ++ chars (queued_bytes xs),
   ap chars (all_bytes t xs) ∙ chars-append t.bytes (queued_bytes xs) q.valid

@@ -69,17 +69,20 @@ module _ (case : Case) (pattern : List ℕ) (xs : List Text) (t : Text) (index a
   front p n =
       ap₂ take (ap (λ m. m + count) p.len) (joined_at xs t index n.there n.is)
       ∙ take-append-add (queued_bytes (take index xs)) (t.bytes ++ queued_bytes (drop (index + 1) xs)) count
-      ∙ ap (λ l. queued_bytes (take index xs) ++ l) (take-append-le count t.bytes (queued_bytes (drop (index + 1) xs)) n.in_text)
+      ∙ ap (λ l. queued_bytes (take index xs) ++ l)
+      (take-append-le count t.bytes (queued_bytes (drop (index + 1) xs)) n.in_text)
 
   front_len : IsPassed case pattern xs index at → length (take at pattern) ≡ at
   front_len p = length-take-le at pattern p.within
 
-  pattern_front : IsPassed case pattern xs index at → take (at + count) pattern ≡ take at pattern ++ take count (drop at pattern)
+  pattern_front : IsPassed case pattern xs index at → take (at + count) pattern
+      ≡ take at pattern ++ take count (drop at pattern)
   pattern_front p =
       ap₂ take (ap (λ m. m + count) (sym (front_len p))) (sym (take-append-drop at pattern))
       ∙ take-append-add (take at pattern) (drop at pattern) count
 
-  total : IsPassed case pattern xs index at → IsNext case pattern xs t index at count → at + count ≤ length (queued_bytes xs)
+  total : IsPassed case pattern xs index at → IsNext case pattern xs t index at count
+      → at + count ≤ length (queued_bytes xs)
   total p n =
       let rest = queued_bytes (drop (index + 1) xs) in
       let size : length (queued_bytes xs) ≡ length (queued_bytes (take index xs)) + (length t.bytes + length rest) =
@@ -134,7 +137,8 @@ module _ (case : Case) (pattern : List ℕ) (xs : List Text) (t : Text) (index a
       let len = p.len in
       let all : take count t.bytes ≡ t.bytes = take_all count t.bytes (omega (arith, whole)) in
       record {
-        len = ap₂ (λ x y. x + y) len whole ∙ sym (length-append (queued_bytes (take index xs)) t.bytes) ∙ ap length (sym next);
+        len = ap₂ (λ x y. x + y) len whole ∙ sym (length-append (queued_bytes (take index xs)) t.bytes)
+            ∙ ap length (sym next);
         within = omega (arith, goes_on);
         more = λ _. goes_on;
         same = subst (λ l. AreSame case l (take (at + count) pattern)) (ap (λ l. queued_bytes
@@ -152,8 +156,12 @@ module _ (pattern bytes text : List ℕ) (at count : ℕ) (read : bytes ≡ text
       → (count ≤ length text) × (at + count ≤ length pattern) × (at + count < length pattern → count ≡ length text)
   bounds within is =
       let left : length rest ≡ length pattern - at = ap length (take_rest pattern at) ∙ length-drop at pattern in
-      let size : length bytes ≡ length text = ap length read in
-      (omega (arith, is, left, size), omega (arith, is, left, size, within), λ h. omega (arith, is, left, size, within, h))
+      let size : length bytes ≡ length text = ap length read in (
+        omega (arith, is, left, size),
+        omega (arith, is, left, size, within),
+        λ h. omega
+            (arith, is, left, size, within, h),
+      )
 
   pub same_parts : (case : Case) → AreSame case (take count bytes) (take count rest)
       → AreSame case (take count text) (take count (drop at pattern))

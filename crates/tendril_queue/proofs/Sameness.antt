@@ -38,10 +38,12 @@ after_same : (a b c d : List ℕ) → length a ≡ length b → a ++ c ≡ b ++ 
 after_same a b c d len e = sym (drop_at a c (length a) refl) ∙ ap (drop (length a)) e ∙ drop_at b d (length a) (sym len)
 
 -- what follows prefixes of the same length
-pub same_after : (case : Case) (a b c d : List ℕ) → length a ≡ length b → AreSame case (a ++ c) (b ++ d) → AreSame case c d
+pub same_after : (case : Case) (a b c d : List ℕ) → length a ≡ length b → AreSame case (a ++ c) (b ++ d)
+    → AreSame case c d
 same_after Matters a b c d len e = after_same a b c d len e
 same_after AsciiIgnored a b c d len e =
-    after_same (map to_ascii_lowercase a) (map to_ascii_lowercase b) (map to_ascii_lowercase c) (map to_ascii_lowercase d)
+    after_same (map to_ascii_lowercase a) (map to_ascii_lowercase b) (map to_ascii_lowercase c)
+    (map to_ascii_lowercase d)
     (length-map a to_ascii_lowercase ∙ len ∙ sym (length-map b to_ascii_lowercase))
     (sym (map-append to_ascii_lowercase a c) ∙ e ∙ map-append to_ascii_lowercase b d)
 

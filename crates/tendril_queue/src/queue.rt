@@ -79,7 +79,7 @@ impl<A: Atomicity> TextQueue<A> {
 
     /// Appends a text, in amortized constant time. An empty text is dropped.
     ///
-    /// Returns `Memory` and the text if the list of texts can't grow.
+    /// Returns `Memory` and the text if the list of texts can't grow: never if the queue is empty.
     ///
     /// ```
     /// let mut queue: TextQueue = TextQueue::new(alloc);
@@ -91,6 +91,7 @@ impl<A: Atomicity> TextQueue<A> {
         ensures bytes { OnOk result (self.new.bytes ≡ self.old.bytes ++ text.bytes) }
         ensures texts { OnOk result (self.new.texts ≡ self.old.texts ++ unless_empty text) }
         ensures err { IfErr result (λ e. (e.0 ≡ Refusal.Memory) × (e.1 ≡ text) × (0 < length text.bytes)) }
+        ensures some { OnErr result (0 < length self.old.bytes) }
         ensures unchanged { OnErr result (self.new ≡ self.old) }
     {
         if text.as_byte_slice().is_empty() {
@@ -108,7 +109,7 @@ impl<A: Atomicity> TextQueue<A> {
 
     /// Puts a text at the front, to be read next, in amortized constant time. An empty text is dropped.
     ///
-    /// Returns `Memory` and the text if the list of texts can't grow.
+    /// Returns `Memory` and the text if the list of texts can't grow: never if the queue is empty.
     ///
     /// ```
     /// let mut queue: TextQueue = TextQueue::new(alloc);
@@ -120,6 +121,7 @@ impl<A: Atomicity> TextQueue<A> {
         ensures bytes { OnOk result (self.new.bytes ≡ text.bytes ++ self.old.bytes) }
         ensures texts { OnOk result (self.new.texts ≡ unless_empty text ++ self.old.texts) }
         ensures err { IfErr result (λ e. (e.0 ≡ Refusal.Memory) × (e.1 ≡ text) × (0 < length text.bytes)) }
+        ensures some { OnErr result (0 < length self.old.bytes) }
         ensures unchanged { OnErr result (self.new ≡ self.old) }
     {
         if text.as_byte_slice().is_empty() {

@@ -25,15 +25,19 @@ module _ {S : Type 0} (tokens : S → List Token) (left : S → List ℕ) where
   After start a told = joined_sources (tokens a) ++ left a ≡ start ++ encode_utf8_all (characters told)
 
   pub goes_on : (start : List ℕ) → FollowsCalls Takes (After start)
-  goes_on start told a e b is_sent was call = spelled_on start told e (tokens a) (left a) (tokens b) (left b) is_sent was call
+  goes_on start told a e b is_sent was call = spelled_on start told e (tokens a) (left a) (tokens b)
+      (left b) is_sent was call
 
   -- all was read into a new decoder over it
-  pub whole : {D O : Type 0} (inner : D → S) (held : D → List ℕ) (failed : D → Bool) (out_tokens : O → List Token) (start : List ℕ) (sink : S) (d last : D) (these : List OneRead) (out : O)
+  pub whole : {D O : Type 0} (inner : D → S) (held : D → List ℕ) (failed : D → Bool) (out_tokens : O → List Token)
+      (start : List ℕ) (sink : S) (d last : D) (these : List OneRead) (out : O)
       → inner d ≡ sink → held d ≡ [] → failed d ≡ false → After start sink []
       → Receives (DecoderTakes Takes inner held failed) d these last
       → Ends Takes (λ a o. TokensSpell (tokens a) (left a) (out_tokens o) []) (inner last) (held last) out
       → joined_sources (out_tokens out) ≡ start ++ encode_utf8_all (characters (due (given these)))
   whole inner held failed out_tokens start sink d last these out is none alive new receives ended =
-      let stands = stands_read Takes inner held failed (After start) (goes_on start) sink d last these is none alive new receives in
-      let e = ends_at Takes (After start) (goes_on start) (λ a o. TokensSpell (tokens a) (left a) (out_tokens o) []) (inner last) (held last) (given these) out stands.0 ended in
+      let stands = stands_read Takes inner held failed (After start) (goes_on start) sink d last these is none alive
+      new receives in
+      let e = ends_at Takes (After start) (goes_on start) (λ a o. TokensSpell (tokens a) (left a) (out_tokens o) [])
+      (inner last) (held last) (given these) out stands.0 ended in
       sym (append-nil (joined_sources (out_tokens out))) ∙ e.2 ∙ e.1

@@ -50,7 +50,8 @@ returns-clause-bytes g c =
     let size = ap length c.pop_front-2.ensures.bytes ∙ length-drop (length c.as_byte_slice-here.result.now) t.bytes in
     let none = nil_from_length left.bytes (omega (arith, size, len)) in
     rest_of_all t xs c.args.count c.requires.queue long ys left c.refill.new.first zs (subst
-    (λ n. queued_bytes ys ≡ drop (c.args.count - n) (queued_bytes xs)) len c.drop_in.ensures.bytes) none c.refill.ensures.texts
+    (λ n. queued_bytes ys ≡ drop (c.args.count - n) (queued_bytes xs)) len c.drop_in.ensures.bytes) none
+    c.refill.ensures.texts
 
 pub returns-clause-texts : goal.returns-clause-texts
 returns-clause-texts g c =

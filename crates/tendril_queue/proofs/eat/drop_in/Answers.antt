@@ -27,7 +27,8 @@ returns-then-left-first-clause-each g c =
     let len = ap length c.as_byte_slice-first.ensures.value in
     let short : c.loop-left.left < length c.index.result.now.bytes = omega arith in
     let less = subst (λ (x : Text). c.loop-left.left < length x.bytes) same short in
-    let valid = cuts_valid c.args.texts.now.items ys t c.args.count c.loop-left.left some c.index_mut.ensures.value less d in
+    let valid = cuts_valid c.args.texts.now.items ys t c.args.count c.loop-left.left some c.index_mut.ensures.value
+    less d in
     (dropped_within c.args.texts.now.items ys t c.pop_front.new.self c.args.count c.loop-left.left some
     c.index_mut.ensures.value less d
     c.pop_front.ensures.bytes c.pop_front.ensures.copied (subst IsUtf8 (sym c.pop_front.ensures.bytes) valid)).0
@@ -42,7 +43,8 @@ returns-then-left-first-clause-texts g c =
     let len = ap length c.as_byte_slice-first.ensures.value in
     let short : c.loop-left.left < length c.index.result.now.bytes = omega arith in
     let less = subst (λ (x : Text). c.loop-left.left < length x.bytes) same short in
-    let valid = cuts_valid c.args.texts.now.items ys t c.args.count c.loop-left.left some c.index_mut.ensures.value less d in
+    let valid = cuts_valid c.args.texts.now.items ys t c.args.count c.loop-left.left some c.index_mut.ensures.value
+    less d in
     (dropped_within c.args.texts.now.items ys t c.pop_front.new.self c.args.count c.loop-left.left some
     c.index_mut.ensures.value less d
     c.pop_front.ensures.bytes c.pop_front.ensures.copied (subst IsUtf8 (sym c.pop_front.ensures.bytes) valid)).2

@@ -29,7 +29,8 @@ returns-clause-bytes g c =
     let some : 0 < length t.bytes = omega (arith, shorter) in
     let ys = all_texts c.refill.new.first c.refill.new.rest.items in
     let l = leaves_first t left xs ys some c.refill.ensures.texts in
-    rw (← c.self.view_is) (left_bytes (all_texts t xs) ys t left l (encode_utf8 character) c.in_ok-character.ensures.bytes)
+    rw (← c.self.view_is) (left_bytes (all_texts t xs) ys t left l
+    (encode_utf8 character) c.in_ok-character.ensures.bytes)
 
 pub returns-clause-texts : goal.returns-clause-texts
 returns-clause-texts g c =

@@ -12,7 +12,8 @@ returns-clause-part g c =
     let xs = c.self.inside.rest.items in
     let left = c.pop_except_from.new.self in
     let ys = all_texts c.refill.new.first c.refill.new.rest.items in
-    rw (← c.self.view_is) (both_some c.in_ok-found.found c.in_ok-found.ensures.part c.in_ok-found.ensures.shorter (λ part p h. record {
+    rw (← c.self.view_is) (both_some c.in_ok-found.found c.in_ok-found.ensures.part c.in_ok-found.ensures.shorter
+    (λ part p h. record {
       first = t;
       left = left;
       leaves = leaves_first t left xs ys (omega (arith, h)) c.refill.ensures.texts;
@@ -25,7 +26,8 @@ returns-clause-joined g c =
     let xs = c.self.inside.rest.items in
     let left = c.pop_except_from.new.self in
     let ys = all_texts c.refill.new.first c.refill.new.rest.items in
-    rw (← c.self.view_is) (both_some c.in_ok-found.found c.in_ok-found.ensures.joined c.in_ok-found.ensures.shorter (λ part e h.
+    rw (← c.self.view_is) (both_some c.in_ok-found.found c.in_ok-found.ensures.joined c.in_ok-found.ensures.shorter
+    (λ part e h.
     left_bytes (all_texts t xs) ys t left (leaves_first t left xs ys (omega (arith, h)) c.refill.ensures.texts)
     (part_bytes encode_utf8 part) e))
 

@@ -4,4 +4,5 @@ use Rattle.use_tokens.proofs.tokenizer.Tokenizer.take_last_open.Goals as goal
 
 pub returns-in_err-push_front-clause-err : goal.returns-in_err-push_front-clause-err
 returns-in_err-push_front-clause-err g c =
-    none_sent c.from_residual.result (g.K.TokenSink.tokens c.args.self.now.sink) (c.args.open.bytes ++ c.args.self.now.input.bytes)
+    none_sent c.from_residual.result (g.K.TokenSink.tokens c.args.self.now.sink)
+    (c.args.open.bytes ++ c.args.self.now.input.bytes)

@@ -4,12 +4,15 @@ use Rattle.use_tokens.proofs.tokenizer.Tokenizer.take_open.Goals as goal
 
 pub split_to-requires-clause-front_valid : goal.split_to-requires-clause-front_valid
 split_to-requires-clause-front_valid g c =
-    (cut_behind c.args.text.bytes 0 c.as_byte_slice.ensures.valid c.requires.some (subst (λ b. b < 128) (sym c.requires.open) (omega arith))).0
+    (cut_behind c.args.text.bytes 0 c.as_byte_slice.ensures.valid c.requires.some
+    (subst (λ b. b < 128) (sym c.requires.open) (omega arith))).0
 
 pub split_to-requires-clause-rest_valid : goal.split_to-requires-clause-rest_valid
 split_to-requires-clause-rest_valid g c =
-    (cut_behind c.args.text.bytes 0 c.as_byte_slice.ensures.valid c.requires.some (subst (λ b. b < 128) (sym c.requires.open) (omega arith))).1
+    (cut_behind c.args.text.bytes 0 c.as_byte_slice.ensures.valid c.requires.some
+    (subst (λ b. b < 128) (sym c.requires.open) (omega arith))).1
 
 pub returns-in_err-open-in-None-clause-err : goal.returns-in_err-open-in-None-clause-err
 returns-in_err-open-in-None-clause-err g c =
-    none_sent c.from_residual.result (g.K.TokenSink.tokens c.args.self.now.sink) (c.args.text.bytes ++ c.args.self.now.input.bytes)
+    none_sent c.from_residual.result (g.K.TokenSink.tokens c.args.self.now.sink)
+    (c.args.text.bytes ++ c.args.self.now.input.bytes)

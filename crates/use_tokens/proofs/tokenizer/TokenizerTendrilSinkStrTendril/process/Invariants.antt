@@ -5,7 +5,8 @@ use Rattle.use_tokens.proofs.tokenizer.TokenizerTendrilSinkStrTendril.process.Gi
 abbrev pub invariant-parts : goal.invariant-parts
 invariant-parts g l =
     let tokens = g.K.TokenSink.tokens in
-    TokensSpell (tokens l.fn.self.sink) (pending l.fn.self.state l.fn.self.input ++ l.fn.text.bytes) (tokens l.self.sink) (pending l.self.state l.self.input)
+    TokensSpell (tokens l.fn.self.sink) (pending l.fn.self.state l.fn.self.input ++ l.fn.text.bytes)
+    (tokens l.self.sink) (pending l.self.state l.self.input)
 
 abbrev pub decreases-parts : goal.decreases-parts
 decreases-parts g l = length l.self.input.bytes
