@@ -9,13 +9,18 @@ front_at : (b x : List ℕ) (at n : ℕ) → n ≤ length x → x ≡ take (leng
 front_at b x at n h is = ap (λ l. take n l) is ∙ take-take n (length x) (drop at b) h
 
 -- one more slice is equal
-pub same_more : (a b x y : List ℕ) (at n : ℕ) → n ≤ length x → n ≤ length y → x ≡ take (length x) (drop at a) → y ≡ take (length y) (drop at b) → take n x ≡ take n y → take at a ≡ take at b → take (at + n) a ≡ take (at + n) b
+pub same_more : (a b x y : List ℕ) (at n : ℕ) → n ≤ length x → n ≤ length y → x ≡ take (length x) (drop at a)
+    → y ≡ take (length y) (drop at b) → take n x ≡ take n y → take at a ≡ take at b → take (at + n) a ≡ take (at + n) b
 same_more a b x y at n h k is is' part same =
-    take-add at n a ∙ ap (λ l. l ++ take n (drop at a)) same ∙ ap (λ l. take at b ++ l) (sym (front_at a x at n h is) ∙ part ∙ front_at b y at n k is') ∙ sym (take-add at n b)
+    take-add at n a ∙ ap (λ l. l ++ take n (drop at a)) same
+    ∙ ap (λ l. take at b ++ l) (sym (front_at a x at n h is) ∙ part ∙ front_at b y at n k is')
+    ∙ sym (take-add at n b)
 
 -- if all bytes are equal, each slice is
-pub same_part : (a b x y : List ℕ) (at n : ℕ) → n ≤ length x → n ≤ length y → x ≡ take (length x) (drop at a) → y ≡ take (length y) (drop at b) → a ≡ b → take n x ≡ take n y
-same_part a b x y at n h k is is' same = front_at a x at n h is ∙ ap (λ l. take n (drop at l)) same ∙ sym (front_at b y at n k is')
+pub same_part : (a b x y : List ℕ) (at n : ℕ) → n ≤ length x → n ≤ length y → x ≡ take (length x) (drop at a)
+    → y ≡ take (length y) (drop at b) → a ≡ b → take n x ≡ take n y
+same_part a b x y at n h k is is' same = front_at a x at n h is ∙ ap (λ l. take n (drop at l)) same
+    ∙ sym (front_at b y at n k is')
 
 -- a comparison doesn't say that equal slices differ
 pub told_equal : (r p : Bool) → r ≡ not p → r ≡ true → p ≡ true → IsTrue false

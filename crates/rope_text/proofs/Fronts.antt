@@ -1,5 +1,6 @@
 -- Bytes that are dropped at the front of a rope.
-use Rattle.std.proofs.Common.{◌≡◌, ◌⊎◌, ℕ, ◌+◌, ◌<◌, ◌≤◌, List, [], ◌∷◌, ◌++◌, length, drop, slice_index, Option, Some, None, sym, ap, ◌∙◌, subst, arith, append_assoc, inl, inr}
+use Rattle.std.proofs.Common.{◌≡◌, ◌⊎◌, ℕ, ◌+◌, ◌<◌, ◌≤◌, List, [], ◌∷◌, ◌++◌, length, drop, slice_index, Option, Some}
+use Rattle.std.proofs.Common.{None, sym, ap, ◌∙◌, subst, arith, append_assoc, inl, inr}
 use Rattle.std.specs.Prelude.{encode_utf8, IfSome, IfNone, OnSome}
 use Rattle.std.proofs.lemmas.Bool.{cases_lt}
 use Rattle.std.proofs.lemmas.List.{length-append, length-drop, get_or-drop}
@@ -41,8 +42,10 @@ loses_twice gone kept a b c had f g = elim (cases_lt 0 (length f.left.bytes)) [
           had = f.had;
           has = g.has ∙ ap (λ l. piece_of g.left ++ l) (sym rest);
           lost = f.lost ++ g.lost;
-          bytes = f.bytes ∙ ap (λ l. f.lost ++ l) (ap (λ (t : Text). t.bytes) first ∙ g.bytes) ∙ sym (append_assoc f.lost g.lost g.left.bytes);
-          keeps = Keeps-Keeps f.first f.left g.left (omega arith) f.keeps (subst (λ t. Keeps t g.left) (sym first) g.keeps);
+          bytes = f.bytes ∙ ap (λ l. f.lost ++ l) (ap (λ (t : Text). t.bytes) first ∙ g.bytes)
+              ∙ sym (append_assoc f.lost g.lost g.left.bytes);
+          keeps = Keeps-Keeps f.first f.left g.left (omega arith) f.keeps
+              (subst (λ t. Keeps t g.left) (sym first) g.keeps);
         });
       }
   | inr none ↦
@@ -69,8 +72,10 @@ pub record AreDropped (b : List ℕ) (ps : List Text) (n : ℕ) (rope : RopeText
   pub pieces : LosesPieces ps rope.pieces
 
 -- one ASCII byte more
-pub dropped_more : (b : List ℕ) (ps : List Text) (n : ℕ) (old new : RopeText) (r : Option ℕ) → n < length b → slice_index b n < 128
-    → IfSome r (λ c. old.bytes ≡ encode_utf8 c ++ new.bytes) → OnSome r (LosesFront old.pieces new.pieces) → IfNone r ((old.bytes ≡ []) × (new ≡ old))
+pub dropped_more : (b : List ℕ) (ps : List Text) (n : ℕ) (old new : RopeText) (r : Option ℕ) → n < length b
+    → slice_index b n < 128
+    → IfSome r (λ c. old.bytes ≡ encode_utf8 c ++ new.bytes) → OnSome r (LosesFront old.pieces new.pieces)
+    → IfNone r ((old.bytes ≡ []) × (new ≡ old))
     → AreDropped b ps n old → AreDropped b ps (n + 1) new
 dropped_more b ps n old new None within ascii some front none h =
     absurd (let size = ap length h.bytes ∙ length-drop n b in let empty = ap length none.0 in omega arith)

@@ -24,15 +24,20 @@ IsLonger_none old t h = record {
 }
 
 -- a text that isn't empty is appended
-pub longer_by : (xs zs : List Text) (t : Text) (rope : RopeText) → zs ≡ xs ++ t ∷ [] → 0 < length t.bytes → record { bytes = bytes_of_all xs; pieces = xs } ≡ rope → IsLonger rope t.bytes (piece_of t) (record { bytes = bytes_of_all zs; pieces = zs })
+pub longer_by : (xs zs : List Text) (t : Text) (rope : RopeText) → zs ≡ xs ++ t ∷ [] → 0 < length t.bytes
+    → record { bytes = bytes_of_all xs; pieces = xs } ≡ rope
+    → IsLonger rope t.bytes (piece_of t) (record { bytes = bytes_of_all zs; pieces = zs })
 longer_by xs zs t rope e some is = record {
   bytes = ap bytes_of_all e ∙ joined_push xs t ∙ ap (λ (r : RopeText). r.bytes ++ t.bytes) is;
   pieces = e ∙ ap (λ (r : RopeText). r.pieces ++ t ∷ []) is ∙ ap (λ l. rope.pieces ++ l) (sym (piece_of_some t some));
 }
 
 -- the pieces of another rope are appended
-pub longer_all : (xs ys zs : List Text) (rope more : RopeText) → zs ≡ xs ++ ys → record { bytes = bytes_of_all xs; pieces = xs } ≡ rope → record { bytes = bytes_of_all ys; pieces = ys } ≡ more → IsLonger rope more.bytes more.pieces (record { bytes = bytes_of_all zs; pieces = zs })
+pub longer_all : (xs ys zs : List Text) (rope more : RopeText) → zs ≡ xs ++ ys
+    → record { bytes = bytes_of_all xs; pieces = xs } ≡ rope → record { bytes = bytes_of_all ys; pieces = ys } ≡ more
+    → IsLonger rope more.bytes more.pieces (record { bytes = bytes_of_all zs; pieces = zs })
 longer_all xs ys zs rope more e is is' = record {
-  bytes = ap bytes_of_all e ∙ joined-append xs ys ∙ ap (λ (r : RopeText). r.bytes ++ bytes_of_all ys) is ∙ ap (λ (r : RopeText). rope.bytes ++ r.bytes) is';
+  bytes = ap bytes_of_all e ∙ joined-append xs ys ∙ ap (λ (r : RopeText). r.bytes ++ bytes_of_all ys) is
+      ∙ ap (λ (r : RopeText). rope.bytes ++ r.bytes) is';
   pieces = e ∙ ap (λ (r : RopeText). r.pieces ++ ys) is ∙ ap (λ (r : RopeText). rope.pieces ++ r.pieces) is';
 }

@@ -1,5 +1,6 @@
 -- What the contracts of the calls that build a slice imply.
-use Rattle.std.proofs.Common.{◌≡◌, ℕ, ◌+◌, ◌<◌, ◌≤◌, List, [], ◌∷◌, length, take, drop, Result, Ok, Err, Bool, true, false, not, refl, sym, ap, ◌∙◌, subst, arith, inl, inr}
+use Rattle.std.proofs.Common.{◌≡◌, ℕ, ◌+◌, ◌<◌, ◌≤◌, List, [], ◌∷◌, length, take, drop, Result, Ok, Err, Bool, true}
+use Rattle.std.proofs.Common.{false, not, refl, sym, ap, ◌∙◌, subst, arith, inl, inr}
 use Rattle.std.specs.Prelude.{IsUtf8, All, OnErr, OnOk, is_ok, map}
 use Rattle.std.specs.Str.{IsCharBoundary}
 use Rattle.std.proofs.lemmas.List.{drop_at, drop-drop}
@@ -20,12 +21,14 @@ use Rattle.tendril_text.specs.Parts.{Slices}
 use Rattle.tendril_text.specs.Texts.{Text, Shares}
 
 -- the only error of a slice is Count, for more than 8 bytes
-pub slice_refused : (b : List ℕ) (offset count : ℕ) (e : SubtendrilError) → Slices b offset count (Err e) → (refusal_of e ≡ Count) × (8 < count)
+pub slice_refused : (b : List ℕ) (offset count : ℕ) (e : SubtendrilError) → Slices b offset count (Err e)
+    → (refusal_of e ≡ Count) × (8 < count)
 slice_refused b offset count e (inl x) = absurd x
 slice_refused b offset count e (inr y) = y.1
 
 -- if a rope isn't too long for the bytes, the only error is Memory
-pub growth_refused : (more : List ℕ) (parts : List Text) (old new : RopeText) (r : Refusal) → length old.bytes + length more ≤ MAX_TOTAL → Grows more parts old (Err r) new → RoomMay (length more) r
+pub growth_refused : (more : List ℕ) (parts : List Text) (old new : RopeText) (r : Refusal)
+    → length old.bytes + length more ≤ MAX_TOTAL → Grows more parts old (Err r) new → RoomMay (length more) r
 growth_refused more parts old new r fits h = by h.0
   where
     by : Refused (TotalMust (length old.bytes + length more)) (RoomMay (length more)) r → RoomMay (length more) r
@@ -34,22 +37,32 @@ growth_refused more parts old new r fits h = by h.0
     by (inr y) = y.1
 
 -- the bytes from an offset in a piece on
-pub drop_joined : (xs : List Text) (first from at : ℕ) → length (bytes_of_all (take first xs)) + from ≡ at → drop from (bytes_of_all (drop first xs)) ≡ drop at (bytes_of_all xs)
+pub drop_joined : (xs : List Text) (first from at : ℕ) → length (bytes_of_all (take first xs)) + from ≡ at
+    → drop from (bytes_of_all (drop first xs)) ≡ drop at (bytes_of_all xs)
 drop_joined xs first from at e =
-    sym (ap (λ n. drop n (bytes_of_all xs)) (sym e) ∙ sym (drop-drop from (length (bytes_of_all (take first xs))) (bytes_of_all xs)) ∙ ap (λ l. drop from (drop (length (bytes_of_all (take first xs))) l)) (joined_both xs first) ∙ ap (λ l. drop from l) (drop_at (bytes_of_all (take first xs)) (bytes_of_all (drop first xs)) (length (bytes_of_all (take first xs))) refl))
+    sym (ap (λ n. drop n (bytes_of_all xs)) (sym e)
+    ∙ sym (drop-drop from (length (bytes_of_all (take first xs))) (bytes_of_all xs))
+    ∙ ap (λ l. drop from (drop (length (bytes_of_all (take first xs))) l)) (joined_both xs first)
+    ∙ ap (λ l. drop from l) (drop_at (bytes_of_all (take first xs)) (bytes_of_all (drop first xs))
+    (length (bytes_of_all (take first xs))) refl))
 
 -- the slice that `share` returns is the slice that `sub_rope` returns
-pub sub_rope_from : (rope : RopeText) (first from offset count : ℕ) (result : Result RopeText Refusal) → rope.bytes ≡ bytes_of_all rope.pieces → length (bytes_of_all (take first rope.pieces)) + from ≡ offset → offset + count ≤ length rope.bytes → IsUtf8 (take count (drop offset rope.bytes)) → SharesPart rope.pieces first from count result → SubRope rope offset count result
+pub sub_rope_from : (rope : RopeText) (first from offset count : ℕ) (result : Result RopeText Refusal) → rope.bytes
+    ≡ bytes_of_all rope.pieces → length (bytes_of_all (take first rope.pieces)) + from ≡ offset
+    → offset + count ≤ length rope.bytes → IsUtf8 (take count (drop offset rope.bytes))
+    → SharesPart rope.pieces first from count result → SubRope rope offset count result
 sub_rope_from rope first from offset count (Ok made) is e there valid h = (
   (there, (valid, tt)),
   record {
-    bytes = h.1.bytes ∙ ap (λ l. take count l) (drop_joined rope.pieces first from offset e ∙ ap (λ l. drop offset l) (sym is));
+    bytes = h.1.bytes ∙ ap (λ l. take count l) (drop_joined rope.pieces first from offset e
+        ∙ ap (λ l. drop offset l) (sym is));
     cut_so = h.1.cut_so ∙ sym (shares_of_past rope.pieces first from offset count e);
     shares = h.1.shares;
   },
 )
 sub_rope_from rope first from offset count (Err r) is e there valid (inl x) = absurd x
-sub_rope_from rope first from offset count (Err r) is e there valid (inr y) = inr ((there, (valid, tt)), subst (λ n. PartMay rope.pieces n count r) e y.1)
+sub_rope_from rope first from offset count (Err r) is e there valid (inr y) =
+    inr ((there, (valid, tt)), subst (λ n. PartMay rope.pieces n count r) e y.1)
 
 shares_listed : (b : List ℕ) (t : Text) → Shares t → All Shares (listed_unless_empty b t)
 shares_listed [] t h = All-nil Shares
@@ -77,12 +90,14 @@ pub where_refused : {T E : Type 0} (r : Result T E) (P : Type 0) (b : Bool) → 
 where_refused (Ok x) P b e is h = absurd (true_not_false (e ∙ ap not is))
 where_refused (Err x) P b e is h = h
 
-pub where_answered : {T E : Type 0} (r : Result T E) (P : Type 0) (b : Bool) → is_ok r ≡ not b → b ≡ false → OnOk r P → P
+pub where_answered : {T E : Type 0} (r : Result T E) (P : Type 0) (b : Bool) → is_ok r ≡ not b → b ≡ false → OnOk r P
+    → P
 where_answered (Ok x) P b e is h = h
 where_answered (Err x) P b e is h = absurd (true_not_false (sym (e ∙ ap not is)))
 
 -- a slice of no bytes, at any offset
-sub_rope_nothing : (rope made : RopeText) (offset : ℕ) → offset ≤ length rope.bytes → made.bytes ≡ [] → made.pieces ≡ [] → SubRope rope offset 0 (Ok made)
+sub_rope_nothing : (rope made : RopeText) (offset : ℕ) → offset ≤ length rope.bytes → made.bytes ≡ [] → made.pieces
+    ≡ [] → SubRope rope offset 0 (Ok made)
 sub_rope_nothing rope made offset there none no_pieces = (
   (omega arith, (IsUtf8-nil, tt)),
   record {
@@ -92,5 +107,7 @@ sub_rope_nothing rope made offset there none no_pieces = (
   },
 )
 
-pub sub_rope_none : (rope made : RopeText) (offset count : ℕ) → count ≡ 0 → offset ≤ length rope.bytes → made.bytes ≡ [] → made.pieces ≡ [] → SubRope rope offset count (Ok made)
-sub_rope_none rope made offset count is there none no_pieces = subst (λ n. SubRope rope offset n (Ok made)) (sym is) (sub_rope_nothing rope made offset there none no_pieces)
+pub sub_rope_none : (rope made : RopeText) (offset count : ℕ) → count ≡ 0 → offset ≤ length rope.bytes → made.bytes
+    ≡ [] → made.pieces ≡ [] → SubRope rope offset count (Ok made)
+sub_rope_none rope made offset count is there none no_pieces = subst (λ n. SubRope rope offset n (Ok made)) (sym is)
+    (sub_rope_nothing rope made offset there none no_pieces)

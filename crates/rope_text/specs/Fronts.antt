@@ -1,4 +1,4 @@
--- What leaves a rope at its front: the bytes before one of a set, and lines.
+-- Pops from the front of a rope: the bytes before one of a set, and lines.
 use Rattle.std.specs.Prelude.{
   ℕ,
   ◌≡◌,
@@ -27,41 +27,42 @@ use Rattle.tendril_text.specs.Search.{EndsBefore}
 use Rattle.tendril_text.specs.Splits.{TakesLine}
 use Rattle.tendril_text.specs.Texts.{Text}
 
--- a rope was cut before its first byte of the set, which it doesn't begin with, or at its end
+-- a rope was cut before its first byte of the set, or at its end if it has none; it doesn't begin with that byte
 pub record CutsBefore (set : ℕ → Bool) (old front rest : RopeText) : Type 0 where
   pub count : ℕ
   pub ends : EndsBefore set old.bytes count
   pub some : 0 < count
   pub cut : IsCutAt count old front rest
 
--- no state rules out what may stop a cut before the first byte of the set, or at the end
+-- the errors that are permitted for a cut before the first byte of the set, or at the end
 pub record CutBeforeMay (set : ℕ → Bool) (rope : RopeText) (r : Refusal) : Type 0 where
   pub count : ℕ
   pub ends : EndsBefore set rope.bytes count
   pub may : SplitMay rope.pieces count r
 
--- the last of some pieces, of which the first may have lost bytes at its front
+-- some of the first pieces are gone, and the first that is left may have lost a prefix
 pub record LosesPieces (old new : List Text) : Type 0 where
   pub gone : List Text
   pub kept : List Text
   pub had : old ≡ gone ++ kept
   pub has : (new ≡ kept) ⊎ LosesFront kept new
 
--- a rope was cut behind its first line, and what follows lost the line ending
+-- a rope was cut after its first line, and the line ending was dropped
 pub record CutsLine (old line rest : RopeText) : Type 0 where
   pub takes : TakesLine old.bytes line.bytes rest.bytes
-  pub behind : RopeText
-  pub cut : IsCutAt (length line.bytes) old line behind
-  pub loses : LosesPieces behind.pieces rest.pieces
+  pub after : RopeText
+  pub cut : IsCutAt (length line.bytes) old line after
+  pub loses : LosesPieces after.pieces rest.pieces
 
--- no state rules out what may stop a cut behind the first line
+-- the errors that are permitted for a cut after the first line
 pub record CutLineMay (rope : RopeText) (r : Refusal) : Type 0 where
   pub line : List ℕ
   pub rest : List ℕ
   pub takes : TakesLine rope.bytes line rest
   pub may : SplitMay rope.pieces (length line) r
 
--- the next line of a rope comes: none once a cut was refused or nothing is left
+-- The next line of a rope: None after an error, or if nothing is left. `refused` and `then` say, before and after the
+-- call, whether a call returned an error.
 abbrev pub NextCutLine : RopeText → Bool → Option (Result RopeText Refusal) → RopeText → Bool → Type 0
 NextCutLine rope refused None rest then =
     ((refused ≡ true) ⊎ (rope.bytes ≡ [])) × (rest ≡ rope) × (then ≡ refused)

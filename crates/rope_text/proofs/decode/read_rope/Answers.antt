@@ -15,8 +15,10 @@ returns-clause-ok g c = IfOk-weaker c.read_decoded.result _ _ (λ out h.
     let d = c.new-decoder.result in
     let all = h.3 in
     let stands = stands_read TakesSent (λ d. d.inner_sink) (λ d. d.kept) (λ d. d.failed) HasCharacters goes_on_by
-    c.new.result d all.last h.0 c.new-decoder.ensures.sink c.new-decoder.ensures.kept c.new-decoder.ensures.failed (new_has c.new.result c.new.ensures.bytes) all.receives in
-    let e = ends_at _ HasCharacters goes_on_by (λ a o. o ≡ a) all.last.inner_sink all.last.kept (given h.0) out stands.0 all.finished.1 in
+    c.new.result d all.last h.0 c.new-decoder.ensures.sink c.new-decoder.ensures.kept c.new-decoder.ensures.failed
+    (new_has c.new.result c.new.ensures.bytes) all.receives in
+    let e = ends_at _ HasCharacters goes_on_by (λ a o. o ≡ a) all.last.inner_sink all.last.kept
+    (given h.0) out stands.0 all.finished.1 in
     (h.0, h.1, h.2, ap (λ (r : RopeText). chars r.bytes) e.2 ∙ e.1.1, all.ends, all.within)) c.read_decoded.ensures.ok
 
 pub returns-clause-stopped : goal.returns-clause-stopped
@@ -28,7 +30,8 @@ returns-clause-stopped g c = IfErr-weaker c.read_decoded.result _ _ (λ s h. (
       ⊎_elim
       (λ k.
       let stands = stands_read TakesSent (λ d. d.inner_sink) (λ d. d.kept) (λ d. d.failed) HasCharacters goes_on_by
-      c.new.result d k.sink h.0 c.new-decoder.ensures.sink c.new-decoder.ensures.kept c.new-decoder.ensures.failed (new_has c.new.result c.new.ensures.bytes) k.receives in
+      c.new.result d k.sink h.0 c.new-decoder.ensures.sink c.new-decoder.ensures.kept c.new-decoder.ensures.failed
+      (new_has c.new.result c.new.ensures.bytes) k.receives in
       (k.stops, (k.sink, k.back, stands.1, stands.0)))
       (λ v. ⊎_elim
       (λ k. absurd (process_clash _ _ _ _ _ _ k.piece s.refusal k.refused.1 own))
@@ -36,6 +39,8 @@ returns-clause-stopped g c = IfErr-weaker c.read_decoded.result _ _ (λ s h. (
       v)
       h.2,
   let d = c.new-decoder.result in
-      stream_stops _ _ (λ d. d.inner_sink) (λ d. d.kept) (λ d. d.failed) _ HasCharacters goes_on_by c.new.result d c.args.max_reads h.0 s.refusal s.sink
-      c.new-decoder.ensures.sink c.new-decoder.ensures.kept c.new-decoder.ensures.failed (new_has c.new.result c.new.ensures.bytes) h.2,
+      stream_stops _ _ (λ d. d.inner_sink) (λ d. d.kept) (λ d. d.failed) _ HasCharacters goes_on_by c.new.result d
+      c.args.max_reads h.0 s.refusal s.sink
+      c.new-decoder.ensures.sink c.new-decoder.ensures.kept c.new-decoder.ensures.failed
+      (new_has c.new.result c.new.ensures.bytes) h.2,
 )) c.read_decoded.ensures.stopped

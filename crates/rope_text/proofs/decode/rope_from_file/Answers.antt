@@ -10,5 +10,15 @@ pub returns-in-Err-clause-stopped : goal.returns-in-Err-clause-stopped
 returns-in-Err-clause-stopped g c =
     let d = c.new-in-Err-2.result in
     let made = c.new-in-Err-2.ensures in
-    let has : HasCharacters d.inner_sink [] = subst (λ (r : RopeText). HasCharacters r []) (sym made.sink) (new_has c.new-in-Err.result c.new-in-Err.ensures.bytes) in
-    inl (refl, (d, refl, made.failed, subst (λ k. StandsAt HasCharacters d.inner_sink k []) (sym made.kept) (stands_at_nothing _ HasCharacters goes_on_by d.inner_sink has)))
+    let has : HasCharacters d.inner_sink [] = subst (λ (r : RopeText). HasCharacters r []) (sym made.sink)
+    (new_has c.new-in-Err.result c.new-in-Err.ensures.bytes) in
+    inl (
+      refl,
+      (
+        d,
+        refl,
+        made.failed,
+        subst (λ k. StandsAt HasCharacters d.inner_sink k []) (sym made.kept)
+            (stands_at_nothing _ HasCharacters goes_on_by d.inner_sink has),
+      ),
+    )

@@ -9,7 +9,8 @@ use Rattle.rope_text.proofs.rope.Rope.find_byte.Goals as goal
 pub overflow_add-result : goal.overflow_add-result
 overflow_add-result g c =
     let rope = c.args.self.now in
-    let piece = piece_is c.self.inside.pieces.items rope c.loop-index.index c.index.result.now c.self.view_is (omega arith) c.index.ensures in
+    let piece = piece_is c.self.inside.pieces.items rope c.loop-index.index c.index.result.now c.self.view_is
+    (omega arith) c.index.ensures in
     let is = ap length piece.1 in
     let high = c.in-Some.ensures.0.high in
     let within = in_joined rope.pieces c.loop-index.index c.in-Some.at piece.0 (omega arith) in
@@ -22,22 +23,28 @@ overflow_add-result g c =
 pub returns-in-Some-clause-first : goal.returns-in-Some-clause-first
 returns-in-Some-clause-first g c =
     let rope = c.args.self.now in
-    let piece = piece_is c.self.inside.pieces.items rope c.loop-index.index c.index.result.now c.self.view_is (omega arith) c.index.ensures in
+    let piece = piece_is c.self.inside.pieces.items rope c.loop-index.index c.index.result.now c.self.view_is
+    (omega arith) c.index.ensures in
     let found = c.in-Some.ensures in
     rw (joined_pieces c.self.inside.pieces.items rope c.self.view_is)
-    (found_in (is_byte c.args.byte) rope.pieces c.loop-index.index c.in-Some.at _ c.index.result.now.bytes piece.0 piece.1 (omega (arith, c.start_of.ensures)) found.0 found.1 c.loop-index.invariant)
+    (found_in (is_byte c.args.byte) rope.pieces c.loop-index.index c.in-Some.at _ c.index.result.now.bytes piece.0
+    piece.1 (omega (arith, c.start_of.ensures)) found.0 found.1 c.loop-index.invariant)
 
 pub returns-in-Some-clause-cut : goal.returns-in-Some-clause-cut
-returns-in-Some-clause-cut g c = λ small. byte_cut c.args.byte c.args.self.now.bytes (Some (c.start_of.result + c.in-Some.at)) small (returns-in-Some-clause-first g c)
+returns-in-Some-clause-cut g c = λ small. byte_cut c.args.byte c.args.self.now.bytes
+    (Some (c.start_of.result + c.in-Some.at)) small (returns-in-Some-clause-first g c)
 
 pub loop-index-preserved : goal.loop-index-preserved
 loop-index-preserved g c =
     let rope = c.args.self.now in
-    let piece = piece_is c.self.inside.pieces.items rope c.loop-index.index c.index.result.now c.self.view_is (omega arith) c.index.ensures in
-    none_in_more (is_byte c.args.byte) rope.pieces c.loop-index.index c.index.result.now.bytes piece.0 piece.1 c.in_default.ensures c.loop-index.invariant
+    let piece = piece_is c.self.inside.pieces.items rope c.loop-index.index c.index.result.now c.self.view_is
+    (omega arith) c.index.ensures in
+    none_in_more (is_byte c.args.byte) rope.pieces c.loop-index.index c.index.result.now.bytes piece.0 piece.1
+    c.in_default.ensures c.loop-index.invariant
 
 pub returns-clause-first : goal.returns-clause-first
 returns-clause-first g c =
     let rope = c.args.self.now in
     let size = ap (λ (r : RopeText). length r.pieces) c.self.view_is in
-    rw (joined_pieces c.self.inside.pieces.items rope c.self.view_is) (none_in_all (is_byte c.args.byte) rope.pieces c.loop-index.index (omega arith) c.loop-index.invariant)
+    rw (joined_pieces c.self.inside.pieces.items rope c.self.view_is)
+    (none_in_all (is_byte c.args.byte) rope.pieces c.loop-index.index (omega arith) c.loop-index.invariant)

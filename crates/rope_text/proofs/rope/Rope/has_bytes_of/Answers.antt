@@ -13,8 +13,10 @@ returns-then-ne g c =
     let n = c.min-count.result in (
       λ t. not_so t,
       λ same.
-          let part = same_part c.args.self.now.bytes c.args.other.now.bytes a b c.loop-at.at n (omega arith) (omega arith) c.rest_at-mine.ensures.bytes c.rest_at-others.ensures.bytes same in
-          told_equal c.ne.result (pointwise nat_eq (take n a) (take n b)) c.ne.ensures c.if-ne.true ((bytes_decides (take n a) (take n b)).1 part),
+          let part = same_part c.args.self.now.bytes c.args.other.now.bytes a b c.loop-at.at n (omega arith)
+          (omega arith) c.rest_at-mine.ensures.bytes c.rest_at-others.ensures.bytes same in
+          told_equal c.ne.result (pointwise nat_eq (take n a) (take n b)) c.ne.ensures c.if-ne.true
+          ((bytes_decides (take n a) (take n b)).1 part),
     )
 
 pub overflow_add-at : goal.overflow_add-at
@@ -34,5 +36,6 @@ loop-at-preserved g c =
     let part = (bytes_decides (take n a) (take n b)).0 equal in
     record {
       within = let w = c.rest_at-mine.ensures.within in omega arith;
-      same = same_more c.args.self.now.bytes c.args.other.now.bytes a b c.loop-at.at n (omega arith) (omega arith) c.rest_at-mine.ensures.bytes c.rest_at-others.ensures.bytes part c.loop-at.invariant.same;
+      same = same_more c.args.self.now.bytes c.args.other.now.bytes a b c.loop-at.at n (omega arith)
+          (omega arith) c.rest_at-mine.ensures.bytes c.rest_at-others.ensures.bytes part c.loop-at.invariant.same;
     }

@@ -9,7 +9,8 @@ returns-clause-pieces g c =
     let count = c.self.invariant.counts in (
       λ t.
           let none : c.self.inside.total ≡ 0 = grind arith in
-          subst (λ (r : RopeText). r.pieces ≡ []) c.self.view_is (no_pieces xs c.self.invariant.each (sym count ∙ none)),
+          subst (λ (r : RopeText). r.pieces ≡ []) c.self.view_is
+          (no_pieces xs c.self.invariant.each (sym count ∙ none)),
       λ e.
           let empty : xs ≡ [] = ap (λ (r : RopeText). r.pieces) c.self.view_is ∙ e in
           eq-eqb c.self.inside.total 0 (count ∙ ap (λ l. length (bytes_of_all l)) empty),

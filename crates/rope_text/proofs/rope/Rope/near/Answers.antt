@@ -30,8 +30,11 @@ passed-requires g c =
 pub loop-count-preserved : goal.loop-count-preserved
 loop-count-preserved g c = record {
   start = c.passed.ensures.start;
-  left = AreLeft-more c.args.self.now.pieces c.loop-count.low c.loop-count.count c.args.at (c.loop-count.count / 4) c.passed.result (omega arith) c.passed.ensures.most c.passed.ensures.end c.loop-count.invariant.left;
+  left = AreLeft-more c.args.self.now.pieces c.loop-count.low c.loop-count.count c.args.at
+      (c.loop-count.count / 4) c.passed.result (omega arith) c.passed.ensures.most c.passed.ensures.end
+      c.loop-count.invariant.left;
 }
 
 pub returns-clause-end : goal.returns-clause-end
-returns-clause-end g c = AreLeft-few c.args.self.now.pieces c.loop-count.low c.loop-count.count c.args.at (omega arith) c.loop-count.invariant.left
+returns-clause-end g c = AreLeft-few c.args.self.now.pieces c.loop-count.low c.loop-count.count c.args.at
+    (omega arith) c.loop-count.invariant.left

@@ -17,5 +17,6 @@ loop-index-preserved g c =
     let rope = c.args.self.now in
     let all = ap length (joined_pieces c.self.inside.pieces.items rope c.self.view_is) in
     let start = c.end_of.ensures in
-    let passed : length (Rattle.rope_text.specs.Ropes.bytes_of_all (Rattle.std.proofs.Common.take (c.loop-index.index + 1) rope.pieces)) ≤ c.args.at = omega arith in
+    let passed : length (Rattle.rope_text.specs.Ropes.bytes_of_all
+    (Rattle.std.proofs.Common.take (c.loop-index.index + 1) rope.pieces)) ≤ c.args.at = omega arith in
     record { there = begins_before rope.pieces (c.loop-index.index + 1) c.args.at passed (omega arith); start = passed }

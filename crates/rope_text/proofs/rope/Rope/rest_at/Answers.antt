@@ -13,9 +13,12 @@ returns-clause-within g c =
     let found = c.locate-index.ensures in
     let index = c.locate-index.result.0 in
     let within = c.locate-index.result.1 in
-    let read = subst (λ (r : RopeText). c.index.result.now ≡ get_or r.pieces index c.index.result.now) c.self.view_is c.index.ensures in
-    let is : c.as_byte_slice.result.now ≡ (piece_at xs index).bytes = c.as_byte_slice.ensures.value ∙ ap (λ (t : Text). t.bytes) (get_or_read xs index c.index.result.now found.piece read no_text) in
-    let stands = rest_stands xs index within c.args.at c.as_byte_slice.result.now is found.piece found.within found.place in
+    let read = subst (λ (r : RopeText). c.index.result.now ≡ get_or r.pieces index c.index.result.now) c.self.view_is
+    c.index.ensures in
+    let is : c.as_byte_slice.result.now ≡ (piece_at xs index).bytes = c.as_byte_slice.ensures.value
+    ∙ ap (λ (t : Text). t.bytes) (get_or_read xs index c.index.result.now found.piece read no_text) in
+    let stands = rest_stands xs index within c.args.at c.as_byte_slice.result.now is found.piece found.within
+    found.place in
     rw (joined_pieces c.self.inside.pieces.items rope c.self.view_is) stands.within
 
 pub returns-clause-bytes : goal.returns-clause-bytes
@@ -25,7 +28,10 @@ returns-clause-bytes g c =
     let found = c.locate-index.ensures in
     let index = c.locate-index.result.0 in
     let within = c.locate-index.result.1 in
-    let read = subst (λ (r : RopeText). c.index.result.now ≡ get_or r.pieces index c.index.result.now) c.self.view_is c.index.ensures in
-    let is : c.as_byte_slice.result.now ≡ (piece_at xs index).bytes = c.as_byte_slice.ensures.value ∙ ap (λ (t : Text). t.bytes) (get_or_read xs index c.index.result.now found.piece read no_text) in
-    let stands = rest_stands xs index within c.args.at c.as_byte_slice.result.now is found.piece found.within found.place in
+    let read = subst (λ (r : RopeText). c.index.result.now ≡ get_or r.pieces index c.index.result.now) c.self.view_is
+    c.index.ensures in
+    let is : c.as_byte_slice.result.now ≡ (piece_at xs index).bytes = c.as_byte_slice.ensures.value
+    ∙ ap (λ (t : Text). t.bytes) (get_or_read xs index c.index.result.now found.piece read no_text) in
+    let stands = rest_stands xs index within c.args.at c.as_byte_slice.result.now is found.piece found.within
+    found.place in
     rw (joined_pieces c.self.inside.pieces.items rope c.self.view_is) stands.bytes

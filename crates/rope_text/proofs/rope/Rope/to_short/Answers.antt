@@ -16,7 +16,8 @@ loop-at-preserved g c =
     let len = ap length after in
     record {
       within = c.rest_at-rest.ensures.within;
-      same = take-put_mid at (at + length rest - at) c.loop-at.bytes c.copy_from_slice.new.self (at + length rest) (omega arith) (omega arith)
+      same = take-put_mid at (at + length rest - at) c.loop-at.bytes c.copy_from_slice.new.self (at + length rest)
+          (omega arith) (omega arith)
           ∙ ap (λ l. l ++ c.copy_from_slice.new.self) c.loop-at.invariant.same
           ∙ ap (λ l. take at b ++ l) (after ∙ c.rest_at-rest.ensures.bytes)
           ∙ sym (take-add at (length rest) b);
@@ -28,5 +29,6 @@ from_byte_slice_without_validating-requires g c =
     let size = ap (λ (r : RopeText). length r.bytes) c.self.view_is in
     let within = c.loop-at.invariant.within in
     let past = c.loop-at-test.false in
-    let valid = subst (λ (r : RopeText). IsUtf8 r.bytes) c.self.view_is (joined_valid c.self.inside.pieces.items c.self.invariant.each) in
+    let valid = subst (λ (r : RopeText). IsUtf8 r.bytes) c.self.view_is
+    (joined_valid c.self.inside.pieces.items c.self.invariant.each) in
     rw (c.loop-at.invariant.same, take_all c.loop-at.at c.args.self.now.bytes (omega arith)) valid
