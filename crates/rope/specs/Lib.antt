@@ -13,7 +13,6 @@ pub use Rattle.rope_run.specs.RopePrinted
 pub use Rattle.rope_run.specs.RopeRows
 pub use Rattle.rope_run.specs.RopeSteps
 pub use Rattle.tendril_run.specs.Cells
-pub use Rattle.tendril_run.specs.CellOf
 pub use Rattle.tendril_run.specs.Steps
 pub use Rattle.tendril_lines.specs.Lines
 pub use Rattle.tendril_lines.specs.Printed

@@ -6,17 +6,25 @@ use Rattle.rope_run.specs.declared.command.RopeCommand.{RopeCommand}
 use Rattle.rope_run.specs.declared.command.RopeCommand.TheVariants.{OnSlots, RopeNew}
 use Rattle.tendril_lines.specs.Lines.{words_of}
 use Rattle.tendril_lines.specs.Shapes.{Spells}
+use Rattle.tendril_lines.specs.declared.change.ByteEdit.TheVariants as byte_edit
+use Rattle.tendril_lines.specs.declared.change.Change.TheVariants as change
+use Rattle.tendril_lines.specs.declared.change.Conversion.TheVariants as conversion
+use Rattle.tendril_lines.specs.declared.change.Edit.TheVariants as edit
 use Rattle.tendril_lines.specs.declared.command.Command.{Command}
-use Rattle.tendril_lines.specs.declared.command.Command.TheVariants.{New}
+use Rattle.tendril_lines.specs.declared.command.Command.TheVariants.{New, Change}
 use Rattle.tendril_lines.specs.declared.shape.Values.{Values}
 
 -- the word is the verb of a command on ropes
 abbrev pub is_rope_verb : List ℕ → Bool
 is_rope_verb word = list_any (bytes_eq word)
-    (codes "rope" ∷ codes "rpush" ∷ codes "rjoin" ∷ codes "rlen" ∷ codes "rpop" ∷ codes "rsub" ∷ codes "rtake" ∷ codes "rdrop" ∷ [])
+    (codes "rope" ∷ codes "rpush" ∷ codes "rjoin" ∷ codes "rlen" ∷ codes "rpop" ∷ codes "rsub" ∷ codes "rtake" ∷ codes
+    "rdrop" ∷ [])
 
 slots_verb : (c : Command) → is_rope_verb (words_of c).0 ≡ false
 slots_verb (New kind) = refl
+slots_verb (Change slot (change.Edit edit.Clear)) = refl
+slots_verb (Change slot (change.EditBytes (byte_edit.PushZeros count))) = refl
+slots_verb (Change slot (change.Convert (conversion.Reinterpret kind))) = refl
 slots_verb other = refl
 
 -- no command on slots has a verb of ropes

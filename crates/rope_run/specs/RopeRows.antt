@@ -19,7 +19,7 @@ use Rattle.rope_text.specs.Growth.{TotalMust, RoomMay}
 use Rattle.tendril_block.specs.Outcomes.{LengthMust, SliceMust, CountMay}
 use Rattle.tendril_block.specs.declared.refusal.Refusal.{Refusal}
 use Rattle.tendril_block.specs.declared.refusal.Refusal.TheVariants.{WrongFormat}
-use Rattle.tendril_lines.specs.declared.command.Kind.TheVariants.{Utf8}
+use Rattle.tendril_lines.specs.declared.kind.Kind.TheVariants.{Utf8}
 use Rattle.tendril_run.specs.Cells.{Cell}
 use Rattle.tendril_run.specs.Cells as slots
 use Rattle.tendril_run.specs.Characters.{first_of, without_first}

@@ -2,8 +2,8 @@
 use Rattle.std.specs.Prelude.{ℕ, List, codes}
 use Rattle.tendril_lines.specs.declared.command.Comparison.{Comparison}
 use Rattle.tendril_lines.specs.declared.command.Comparison.TheVariants.{Less, Equal, Greater, Differ}
-use Rattle.tendril_lines.specs.declared.command.Kind.{Kind}
-use Rattle.tendril_lines.specs.declared.command.Kind.TheVariants.{Bytes, Ascii, Utf8, Wtf8, Latin1}
+use Rattle.tendril_lines.specs.declared.kind.Kind.{Kind}
+use Rattle.tendril_lines.specs.declared.kind.Kind.TheVariants.{Bytes, Ascii, Utf8, Wtf8, Latin1}
 
 -- the name of a format
 abbrev pub kind_name : Kind → List ℕ

@@ -1,18 +1,10 @@
 //! Commands on a table, and their replies.
 
 use crate::byte_list::ByteList;
+use crate::change::Change;
+use crate::kind::Kind;
 use crate::unit_list::UnitList;
 use tendril_block::Refusal;
-
-/// A format, by its name.
-#[derive(Clone, Copy, Debug, PartialEq, Eq)]
-pub enum Kind {
-    Bytes,
-    Ascii,
-    Utf8,
-    Wtf8,
-    Latin1,
-}
 
 /// How the bytes of two texts compare. Only texts in UTF-8 and texts of bytes have an order.
 #[derive(Clone, Copy, Debug, PartialEq, Eq)]
@@ -35,42 +27,20 @@ pub enum Command {
     PushBytes(usize, ByteList),
     /// Pushes the text of the second slot onto the first slot's text, if both have the same format.
     PushTendril(usize, usize),
-    /// Pushes the character onto the slot's text, if its format has it.
-    PushChar(usize, char),
-    /// Pushes a number of zeros onto the slot's bytes.
-    PushZeros(usize, u32),
+    /// Changes the text of the slot.
+    Change(usize, Change),
     /// Adds a slot with a slice of the text: the offset, and the number of bytes.
     Slice(usize, u32, u32),
-    /// Drops a number of bytes from the front of the slot's text.
-    PopFront(usize, u32),
-    /// Drops a number of bytes from the back of the slot's text.
-    PopBack(usize, u32),
     /// Pops the first character of the slot's text.
     PopChar(usize),
     /// Moves the longest prefix of the slot's text with characters of one class to a new slot.
     PopRun(usize),
     /// Adds a slot with the same text.
     Clone(usize),
-    /// Clears the slot's text.
-    Clear(usize),
-    /// Reserves spare capacity in the slot's text, for a number of bytes.
-    Reserve(usize, u32),
-    /// Changes the format of the slot's bytes to another, if they are valid in it.
-    Reinterpret(usize, Kind),
-    /// Changes the format of the slot's bytes to a larger one.
-    ToSuperset(usize, Kind),
-    /// Changes the format of the slot's bytes to a smaller one, if they are valid in it.
-    ToSubset(usize, Kind),
-    /// Sets the byte at an index of the slot's bytes.
-    WriteByte(usize, u32, u8),
     /// Compares the texts of two slots, if both have the same format.
     Compare(usize, usize),
     /// Returns the slot's format and bytes.
     Text(usize),
-    /// Replaces the slot's text by a clone that was made sendable and taken back. No thread is started.
-    ThroughSend(usize),
-    /// Drops the slot. Its number isn't used again.
-    Drop(usize),
     /// Adds a slot with the text of these 16-bit units, in WTF-8.
     FromUnits(UnitList),
     /// Returns the 16-bit units of the slot's text, which is in WTF-8.

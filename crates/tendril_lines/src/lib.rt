@@ -4,8 +4,10 @@
 #![tactic(auto)]
 
 mod byte_list;
+mod change;
 mod command;
 mod hexadecimal;
+mod kind;
 mod line;
 mod line_command;
 mod numbers;
@@ -15,8 +17,10 @@ mod split;
 mod unit_list;
 
 pub use byte_list::ByteList;
-pub use command::{Command, Comparison, Kind, Reply};
+pub use change::{ByteEdit, Change, Conversion, Edit};
+pub use command::{Command, Comparison, Reply};
 pub use hexadecimal::{byte, bytes, hex_of};
+pub use kind::Kind;
 pub use line::parse_line;
 pub use line_command::{LineCommand, parse};
 pub use numbers::{long_number, number, scalar};

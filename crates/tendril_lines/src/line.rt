@@ -6,7 +6,12 @@ ghost use Rattle.tendril_lines.specs.declared.shape.Value.TheVariants.{Byte, Byt
 ghost use Rattle.tendril_lines.specs.declared.shape.Values.TheVariants.{One, Two, Three};
 
 use crate::byte_list::ByteList;
-use crate::command::{Command, Kind};
+use crate::change::ByteEdit::{PushZeros, WriteByte};
+use crate::change::Change;
+use crate::change::Conversion::{Reinterpret, ToSubset, ToSuperset};
+use crate::change::Edit::{Clear, PopBack, PopFront, Reserve};
+use crate::command::Command;
+use crate::kind::Kind;
 use crate::line_command::{LineCommand, parse};
 use crate::shape::{Value, Values, Word};
 use crate::unit_list::UnitList;
@@ -127,10 +132,10 @@ fn of_slot(verb: &[u8], slot: usize) -> Option<Command>
         b"pop" => Some(Command::PopChar(slot)),
         b"run" => Some(Command::PopRun(slot)),
         b"clone" => Some(Command::Clone(slot)),
-        b"clear" => Some(Command::Clear(slot)),
+        b"clear" => Some(Command::Change(slot, Change::Edit(Clear))),
         b"text" => Some(Command::Text(slot)),
-        b"send" => Some(Command::ThroughSend(slot)),
-        b"drop" => Some(Command::Drop(slot)),
+        b"send" => Some(Command::Change(slot, Change::ThroughSend)),
+        b"drop" => Some(Command::Change(slot, Change::Drop)),
         b"units" => Some(Command::Units(slot)),
         _ => None,
     }
@@ -168,10 +173,10 @@ fn of_slot_and_number(verb: &[u8], slot: usize, count: u32) -> Option<Command>
     ensures { (c : _) → (result ≡ Some c) ↔ Spells (words_of c) verb.now (Two (Slot slot) (Number count)) }
 {
     match verb {
-        b"zeros" => Some(Command::PushZeros(slot, count)),
-        b"front" => Some(Command::PopFront(slot, count)),
-        b"back" => Some(Command::PopBack(slot, count)),
-        b"reserve" => Some(Command::Reserve(slot, count)),
+        b"zeros" => Some(Command::Change(slot, Change::EditBytes(PushZeros(count)))),
+        b"front" => Some(Command::Change(slot, Change::Edit(PopFront(count)))),
+        b"back" => Some(Command::Change(slot, Change::Edit(PopBack(count)))),
+        b"reserve" => Some(Command::Change(slot, Change::Edit(Reserve(count)))),
         _ => None,
     }
 }
@@ -180,7 +185,7 @@ fn of_slot_and_character(verb: &[u8], slot: usize, character: char) -> Option<Co
     ensures { (c : _) → (result ≡ Some c) ↔ Spells (words_of c) verb.now (Two (Slot slot) (Character character)) }
 {
     match verb {
-        b"char" => Some(Command::PushChar(slot, character)),
+        b"char" => Some(Command::Change(slot, Change::PushChar(character))),
         _ => None,
     }
 }
@@ -189,9 +194,9 @@ fn of_slot_and_format(verb: &[u8], slot: usize, kind: Kind) -> Option<Command>
     ensures { (c : _) → (result ≡ Some c) ↔ Spells (words_of c) verb.now (Two (Slot slot) (Format kind)) }
 {
     match verb {
-        b"as" => Some(Command::Reinterpret(slot, kind)),
-        b"up" => Some(Command::ToSuperset(slot, kind)),
-        b"down" => Some(Command::ToSubset(slot, kind)),
+        b"as" => Some(Command::Change(slot, Change::Convert(Reinterpret(kind)))),
+        b"up" => Some(Command::Change(slot, Change::Convert(ToSuperset(kind)))),
+        b"down" => Some(Command::Change(slot, Change::Convert(ToSubset(kind)))),
         _ => None,
     }
 }
@@ -229,7 +234,7 @@ fn of_slot_and_byte(verb: &[u8], slot: usize, index: u32, byte: u8) -> Option<Co
         ↔ Spells (words_of c) verb.now (Three (Slot slot) (Number index) (Byte byte)) }
 {
     match verb {
-        b"set" => Some(Command::WriteByte(slot, index, byte)),
+        b"set" => Some(Command::Change(slot, Change::EditBytes(WriteByte(index, byte)))),
         _ => None,
     }
 }

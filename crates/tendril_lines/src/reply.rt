@@ -1,10 +1,10 @@
 //! The lines of replies.
 ghost use Rattle.std.specs.Prelude.{◌≡◌, ◌++◌, IfOk, IfErr, string_bytes, codes};
 ghost use Rattle.std.specs.Fmt.{decimal};
-ghost use Rattle.tendril_lines.specs.Names.{kind_name, comparison_name};
+ghost use Rattle.tendril_lines.specs.Names.{comparison_name};
 ghost use Rattle.tendril_lines.specs.Printed.{printed};
 
-use crate::command::{Comparison, Kind, Reply};
+use crate::command::{Comparison, Reply};
 use crate::hexadecimal::hex_of;
 use crate::unit_list::hex_of_units;
 use std::alloc::{AllocError, Global};
@@ -28,7 +28,7 @@ pub fn print_reply(alloc: Global, reply: &Reply) -> Result<String, Refusal>
         Reply::Run(Some((slot, class))) => run_text(alloc, *slot, *class)?,
         Reply::Compared(comparison) => String::from_str(alloc, name_of_comparison(*comparison))?,
         Reply::Text(kind, bytes) => {
-            let name = name_of_kind(*kind);
+            let name = kind.name();
             let digits = hex_of(alloc, bytes.as_slice())?;
             format!(in alloc; "{name} {digits}")?
         }
@@ -60,17 +60,5 @@ fn name_of_comparison(comparison: Comparison) -> &'static str
         Comparison::Equal => "equal",
         Comparison::Greater => "greater",
         Comparison::Differ => "differ",
-    }
-}
-
-fn name_of_kind(kind: Kind) -> &'static str
-    ensures { result.now ≡ kind_name kind }
-{
-    match kind {
-        Kind::Bytes => "bytes",
-        Kind::Ascii => "ascii",
-        Kind::Utf8 => "utf8",
-        Kind::Wtf8 => "wtf8",
-        Kind::Latin1 => "latin1",
     }
 }

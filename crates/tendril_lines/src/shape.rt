@@ -1,11 +1,10 @@
 //! The kinds and the values of the words after a verb.
 ghost use Rattle.std.specs.Prelude.{◌≡◌, ◌↔◌, [], ◌∷◌, map, Some, IfOk};
-ghost use Rattle.tendril_lines.specs.Names.{kind_name};
 ghost use Rattle.tendril_lines.specs.Shapes.{AreWords, IsWord, list_of, shape_of, word_of};
 
 use crate::byte_list::ByteList;
-use crate::command::Kind;
 use crate::hexadecimal::{byte, bytes};
+use crate::kind::Kind;
 use crate::numbers::{long_number, number, scalar};
 use crate::unit_list::{UnitList, units};
 use std::alloc::{AllocError, Global};
@@ -133,23 +132,9 @@ fn read_value(alloc: Global, kind: Word, word: &[u8]) -> Result<Option<Value>, A
         Word::Number => Ok(number(word).map(|number| Value::Number(number))),
         Word::Long => Ok(long_number(word).map(|number| Value::Long(number))),
         Word::Character => Ok(scalar(word).map(|character| Value::Character(character))),
-        Word::Format => Ok(format_of(word).map(|format| Value::Format(format))),
+        Word::Format => Ok(Kind::from_name(word).map(|format| Value::Format(format))),
         Word::Bytes => Ok(bytes(alloc, word)?.map(|bytes| Value::Bytes(bytes))),
         Word::Byte => Ok(byte(alloc, word)?.map(|byte| Value::Byte(byte))),
         Word::Units16 => Ok(units(alloc, word)?.map(|units| Value::Units16(units))),
-    }
-}
-
-// The format of a name.
-fn format_of(word: &[u8]) -> Option<Kind>
-    ensures { (kind : _) → (result ≡ Some kind) ↔ (word.now ≡ kind_name kind) }
-{
-    match word {
-        b"bytes" => Some(Kind::Bytes),
-        b"ascii" => Some(Kind::Ascii),
-        b"utf8" => Some(Kind::Utf8),
-        b"wtf8" => Some(Kind::Wtf8),
-        b"latin1" => Some(Kind::Latin1),
-        _ => None,
     }
 }

@@ -1,16 +1,13 @@
--- The characters of a cell's text, and its longest prefix of one class.
+-- The first character of a text, and its longest prefix of one class.
 use Rattle.std.specs.Prelude.{
   ℕ,
   ◌≡◌,
-  ◌<◌,
   ◌==◌,
   List,
   [],
   ◌∷◌,
   length,
   drop,
-  chars,
-  encode_utf8,
   Option,
   Some,
   None,
@@ -19,35 +16,8 @@ use Rattle.std.specs.Prelude.{
 }
 use Rattle.tendril_block.specs.Outcomes.{NoneMust, CountMay, Outcome}
 use Rattle.tendril_block.specs.declared.refusal.Refusal.{Refusal}
-use Rattle.std.specs.Char.{IsScalar}
 use Rattle.std.specs.List.{take_while}
 use Rattle.tendril_fmt.specs.Chars.{encodings}
-use Rattle.tendril_lines.specs.declared.command.Kind.{Kind}
-use Rattle.tendril_lines.specs.declared.command.Kind.TheVariants.{Ascii, Utf8, Latin1}
-
--- the formats whose texts are characters
-abbrev pub HasChars : Kind → Type 0
-HasChars Ascii = Unit {0}
-HasChars Utf8 = Unit {0}
-HasChars Latin1 = Unit {0}
-HasChars kind = ⊥
-
--- the characters of a text
-abbrev pub chars_in : Kind → List ℕ → List ℕ
-chars_in Utf8 b = chars b
-chars_in kind b = b
-
--- the characters that a format has
-abbrev pub IsCharIn : Kind → ℕ → Type 0
-IsCharIn Ascii c = c < 128
-IsCharIn Utf8 c = IsScalar c
-IsCharIn Latin1 c = c < 256
-IsCharIn kind c = ⊥
-
--- the bytes of a character
-abbrev pub encoding_in : Kind → ℕ → List ℕ
-encoding_in Utf8 c = encode_utf8 c
-encoding_in kind c = c ∷ []
 
 -- the first character
 abbrev pub first_of : List ℕ → Option ℕ

@@ -5,13 +5,12 @@ use Rattle.std.specs.Ordering.{nat_cmp}
 use Rattle.std.specs.declared.cmp.Ordering.{Ordering}
 use Rattle.std.specs.declared.cmp.Ordering.TheVariants as ordering
 use Rattle.tendril_block.specs.declared.refusal.Refusal.TheVariants.{WrongFormat}
-use Rattle.tendril_run.specs.Cells.{Cell}
+use Rattle.tendril_run.specs.Cells.{Cell, is_ordered}
 use Rattle.tendril_run.specs.OneCell.{on_told}
 use Rattle.tendril_run.specs.Rules.{Rule, always, first}
 use Rattle.tendril_lines.specs.declared.command.Comparison.{Comparison}
 use Rattle.tendril_lines.specs.declared.command.Comparison.TheVariants.{Less, Equal, Greater, Differ}
-use Rattle.tendril_lines.specs.declared.command.Kind.{Kind}
-use Rattle.tendril_lines.specs.declared.command.Kind.TheVariants.{Bytes, Utf8}
+use Rattle.tendril_lines.specs.declared.kind.Kind.{Kind}
 use Rattle.tendril_lines.specs.declared.command.Reply.{Reply}
 use Rattle.tendril_lines.specs.declared.command.Reply.TheVariants.{Compared}
 
@@ -23,9 +22,8 @@ in_order ordering.Greater = Greater
 
 -- the comparison of two texts of a format: the order of their bytes, or only whether they are equal
 abbrev pub comparison_in : Kind → List ℕ → List ℕ → Comparison
-comparison_in Bytes b y = in_order (slice_cmp nat_cmp b y)
-comparison_in Utf8 b y = in_order (slice_cmp nat_cmp b y)
-comparison_in kind b y = if pointwise nat_eq b y then Equal else Differ
+comparison_in kind b y =
+    if is_ordered kind then in_order (slice_cmp nat_cmp b y) else (if pointwise nat_eq b y then Equal else Differ)
 
 -- the rule of the reply that compares two cells
 abbrev pub compare_rule : Cell → Cell → Rule Reply

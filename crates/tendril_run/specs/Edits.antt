@@ -3,10 +3,10 @@ use Rattle.std.specs.Prelude.{ℕ, ◌<◌, ◌+◌, ◌-◌, ◌++◌, List, []
 use Rattle.tendril_block.specs.declared.refusal.Refusal.TheVariants.{OutOfBounds}
 use Rattle.tendril_block.specs.Outcomes.{NoneMust, LengthMust, PopMust, NoneMay, MemoryMay}
 use Rattle.tendril_run.specs.Rules.{Rule, rule_with, always, first}
-use Rattle.tendril_run.specs.declared.change.ByteEdit.{ByteEdit}
-use Rattle.tendril_run.specs.declared.change.ByteEdit.TheVariants.{PushZeros, WriteByte}
-use Rattle.tendril_run.specs.declared.change.Edit.{Edit}
-use Rattle.tendril_run.specs.declared.change.Edit.TheVariants.{PopFront, PopBack, Clear, Reserve}
+use Rattle.tendril_lines.specs.declared.change.ByteEdit.{ByteEdit}
+use Rattle.tendril_lines.specs.declared.change.ByteEdit.TheVariants.{PushZeros, WriteByte}
+use Rattle.tendril_lines.specs.declared.change.Edit.{Edit}
+use Rattle.tendril_lines.specs.declared.change.Edit.TheVariants.{PopFront, PopBack, Clear, Reserve}
 
 -- the rule of an edit of the text b, which leaves it valid
 abbrev pub edit_rule : (List ℕ → Type 0) → Edit → List ℕ → Rule (List ℕ)

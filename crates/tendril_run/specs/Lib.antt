@@ -1,6 +1,5 @@
 -- The definitions that contracts on tables cite.
 pub mod Cells
-pub mod CellOf
 pub mod Rules
 pub mod Edits
 pub mod Characters

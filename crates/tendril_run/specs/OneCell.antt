@@ -14,25 +14,28 @@ use Rattle.tendril_block.specs.Outcomes.{
   CountMay,
 }
 use Rattle.tendril_fmt.specs.Wtf8.{units}
-use Rattle.tendril_run.specs.Cells.{Cell, IsCell, gone, text, valid_in, join_in, IsPartOf}
-use Rattle.tendril_run.specs.Characters.{
+use Rattle.tendril_run.specs.Cells.{
+  Cell,
+  IsCell,
+  gone,
+  text,
+  valid_in,
+  join_in,
+  IsPartOf,
   HasChars,
   IsCharIn,
   chars_in,
   encoding_in,
-  first_of,
-  without_first,
-  run_bytes,
-  FirstRunMay,
 }
+use Rattle.tendril_run.specs.Characters.{first_of, without_first, run_bytes, FirstRunMay}
 use Rattle.tendril_run.specs.Edits.{edit_rule, byte_edit_rule}
 use Rattle.tendril_run.specs.Rules.{Rule, rule_with, always, no_slot, grown, first, with_effect}
-use Rattle.tendril_run.specs.declared.change.Change.{Change}
-use Rattle.tendril_run.specs.declared.change.Change.TheVariants as change
-use Rattle.tendril_run.specs.declared.change.Conversion.{Conversion}
-use Rattle.tendril_run.specs.declared.change.Conversion.TheVariants.{Reinterpret, ToSuperset, ToSubset}
-use Rattle.tendril_lines.specs.declared.command.Kind.{Kind}
-use Rattle.tendril_lines.specs.declared.command.Kind.TheVariants.{Bytes, Wtf8}
+use Rattle.tendril_lines.specs.declared.change.Change.{Change}
+use Rattle.tendril_lines.specs.declared.change.Change.TheVariants as change
+use Rattle.tendril_lines.specs.declared.change.Conversion.{Conversion}
+use Rattle.tendril_lines.specs.declared.change.Conversion.TheVariants.{Reinterpret, ToSuperset, ToSubset}
+use Rattle.tendril_lines.specs.declared.kind.Kind.{Kind}
+use Rattle.tendril_lines.specs.declared.kind.Kind.TheVariants.{Bytes, Wtf8}
 use Rattle.tendril_lines.specs.declared.command.Reply.{Reply}
 use Rattle.tendril_lines.specs.declared.command.Reply.TheVariants.{Text, Units, Refused}
 

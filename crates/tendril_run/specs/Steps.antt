@@ -3,7 +3,7 @@ use Rattle.std.specs.Prelude.{ℕ, ◌≡◌, List, [], ◌∷◌, ◌++◌, len
 use Rattle.tendril_block.specs.Outcomes.{LengthMust, BytesMust}
 use Rattle.tendril_block.specs.declared.refusal.Refusal.{Refusal}
 use Rattle.tendril_fmt.specs.Wtf8.{wtf8}
-use Rattle.tendril_lines.specs.declared.command.Kind.TheVariants as format
+use Rattle.tendril_lines.specs.declared.kind.Kind.TheVariants as format
 use Rattle.tendril_run.specs.Cells.{Cell, text, valid_in, cell_at}
 use Rattle.tendril_run.specs.Comparisons.{compare_rule}
 use Rattle.tendril_run.specs.OneCell.{
@@ -21,34 +21,19 @@ use Rattle.tendril_run.specs.OneCell.{
   units_rule,
 }
 use Rattle.tendril_run.specs.Rules.{Rule, always, with_effect, Changes, Follows, answer_of}
-use Rattle.tendril_run.specs.declared.change.ByteEdit.TheVariants as byte_edit
-use Rattle.tendril_run.specs.declared.change.Change.TheVariants as change
-use Rattle.tendril_run.specs.declared.change.Conversion.TheVariants as conversion
-use Rattle.tendril_run.specs.declared.change.Edit.TheVariants as edit
 use Rattle.tendril_lines.specs.declared.command.Command.{Command}
 use Rattle.tendril_lines.specs.declared.command.Command.TheVariants.{
   New,
   FromBytes,
   PushBytes,
   PushTendril,
-  PushChar,
-  PushZeros,
+  Change,
   Slice,
-  PopFront,
-  PopBack,
   PopChar,
   PopRun,
   Clone,
-  Clear,
-  Reserve,
-  Reinterpret,
-  ToSuperset,
-  ToSubset,
-  WriteByte,
   Compare,
   Text,
-  ThroughSend,
-  Drop,
   FromUnits,
   Units,
 }
@@ -97,29 +82,16 @@ rule_of class (FromBytes kind y) old =
     with_effect (AddsCell old) (made_rule kind (BytesMust (valid_in kind) y) y)
 rule_of class (PushBytes slot y) old = at_slot slot (push_rule y) old
 rule_of class (PushTendril to from) old = at_slot to (join_rule to from (cell_at old from)) old
-rule_of class (PushChar slot c) old = at_slot slot (change_rule (change.PushChar c)) old
-rule_of class (PushZeros slot count) old = at_slot slot (change_rule (change.EditBytes (byte_edit.PushZeros count))) old
+rule_of class (Change slot change) old = at_slot slot (change_rule change) old
 rule_of class (Slice slot offset count) old =
     with_effect (AddsCell old) (part_rule offset count (cell_at old slot))
-rule_of class (PopFront slot count) old = at_slot slot (change_rule (change.Edit (edit.PopFront count))) old
-rule_of class (PopBack slot count) old = at_slot slot (change_rule (change.Edit (edit.PopBack count))) old
 rule_of class (PopChar slot) old =
     with_effect (LeavesCell old slot (reply.Char (char_of (cell_at old slot)))) (pop_char_rule (cell_at old slot))
 rule_of class (PopRun slot) old = with_effect (TakesRun class old slot) (pop_run_rule class (cell_at old slot))
 rule_of class (Clone slot) old = with_effect (AddsCell old) (clone_rule (cell_at old slot))
-rule_of class (Clear slot) old = at_slot slot (change_rule (change.Edit edit.Clear)) old
-rule_of class (Reserve slot more) old = at_slot slot (change_rule (change.Edit (edit.Reserve more))) old
-rule_of class (Reinterpret slot kind) old =
-    at_slot slot (change_rule (change.Convert (conversion.Reinterpret kind))) old
-rule_of class (ToSuperset slot kind) old = at_slot slot (change_rule (change.Convert (conversion.ToSuperset kind))) old
-rule_of class (ToSubset slot kind) old = at_slot slot (change_rule (change.Convert (conversion.ToSubset kind))) old
-rule_of class (WriteByte slot index byte) old =
-    at_slot slot (change_rule (change.EditBytes (byte_edit.WriteByte index byte))) old
 rule_of class (Compare one other) old =
     with_effect (OnlySays old) (compare_rule (cell_at old one) (cell_at old other))
 rule_of class (Text slot) old = with_effect (OnlySays old) (text_rule (cell_at old slot))
-rule_of class (ThroughSend slot) old = at_slot slot (change_rule change.ThroughSend) old
-rule_of class (Drop slot) old = at_slot slot (change_rule change.Drop) old
 rule_of class (FromUnits us) old = with_effect (AddsCell old) (made_rule format.Wtf8 LengthMust (wtf8 us))
 rule_of class (Units slot) old = with_effect (OnlySays old) (units_rule (cell_at old slot))
 

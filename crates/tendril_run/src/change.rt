@@ -1,48 +1,13 @@
-//! Changes of the one text that a command names.
+//! Edits of a text, by its calls.
 ghost use Rattle.std.specs.Prelude.{◌≤◌, length};
 ghost use Rattle.tendril_run.specs.Cells.{IsText};
 ghost use Rattle.tendril_run.specs.Edits.{edit_rule, byte_edit_rule};
 ghost use Rattle.tendril_run.specs.Rules.{Changes};
 
-use tendril_lines::Kind;
+use tendril_lines::{ByteEdit, Edit};
 use tendril_text::block::{MAX_LEN, Refusal};
 use tendril_text::fmt::{Bytes, Format};
 use tendril_text::{Atomicity, Tendril};
-
-/// A change of one slot.
-#[derive(Clone, Copy)]
-pub(crate) enum Change {
-    PushChar(char),
-    Edit(Edit),
-    EditBytes(ByteEdit),
-    Convert(Conversion),
-    ThroughSend,
-    Drop,
-}
-
-/// A change of a text's bytes, which keeps its format.
-#[derive(Clone, Copy)]
-pub(crate) enum Edit {
-    PopFront(u32),
-    PopBack(u32),
-    Clear,
-    Reserve(u32),
-}
-
-/// A change that only a text in the format `Bytes` allows, since any bytes are valid there.
-#[derive(Clone, Copy)]
-pub(crate) enum ByteEdit {
-    PushZeros(u32),
-    WriteByte(u32, u8),
-}
-
-/// A change of a text's format, which keeps its bytes.
-#[derive(Clone, Copy)]
-pub(crate) enum Conversion {
-    Reinterpret(Kind),
-    ToSuperset(Kind),
-    ToSubset(Kind),
-}
 
 /// Changes the bytes of the text.
 pub(crate) fn apply_edit<F: Format, A: Atomicity>(

@@ -17,6 +17,7 @@ pub use gate::Gate;
 pub use slot::Slot;
 pub use table::{Table, run};
 pub use tendril_lines::{
-    ByteList, Command, Comparison, Kind, Reply, UnitList, parse_line, print_reply,
+    ByteEdit, ByteList, Change, Command, Comparison, Conversion, Edit, Kind, Reply, UnitList,
+    parse_line, print_reply,
 };
 pub use workers::{Job, Outcome, run_tables};

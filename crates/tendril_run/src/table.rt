@@ -1,7 +1,6 @@
 //! Texts in numbered slots.
 ghost use Rattle.std.specs.Prelude.{◌≡◌, ◌≤◌, ◌<◌, ◌+◌, ◌++◌, ◌∷◌, [], length, IfErr, OnOk, OnErr, IsOk, MatchOption, All};
-ghost use Rattle.tendril_run.specs.CellOf.{cell_of};
-ghost use Rattle.tendril_run.specs.Cells.{IsCell, cell_at};
+ghost use Rattle.tendril_run.specs.Cells.{cell_of, IsCell, cell_at};
 ghost use Rattle.tendril_run.specs.Steps.{Step};
 
 mod chain;
@@ -26,11 +25,9 @@ pub struct Table<A: Atomicity> {
 
 impl<A: Atomicity> Model for Table<A> {
     ghost use Rattle.std.specs.Prelude.{◌-◌, All, map, vec_len, vec_capacity};
-    ghost use Rattle.tendril_run.specs.Cells.{Board, IsCell};
+    ghost use Rattle.tendril_run.specs.Cells.{Board, cell_of, IsCell};
 
     ghost Value = { Board };
-
-    ghost use Rattle.tendril_run.specs.CellOf.{cell_of};
 
     ghost view = { λ t. record { cells = map cell_of t.slots.items; room = vec_capacity t.slots - vec_len t.slots } };
 

@@ -1,18 +1,15 @@
 //! What commands do to a text, in any format.
 ghost use Rattle.std.specs.Prelude.{◌≡◌, ◌<◌, ◌≤◌, ◌⊎◌, ◌↔◌, length, IsTrue, IfOk, IfErr, nat_eq, if◌then◌else◌};
-ghost use Rattle.tendril_run.specs.CellOf.{cell_of};
-ghost use Rattle.tendril_run.specs.Cells.{text as text_cell, valid_in, IsText};
+ghost use Rattle.tendril_run.specs.Cells.{IsText, valid_in};
 ghost use Rattle.tendril_run.specs.Characters.{first_of, without_first, TakesFirstRun};
 ghost use Rattle.std.specs.Cmp.Lexicographic.{pointwise};
 ghost use Rattle.tendril_run.specs.Comparisons.{in_order};
 ghost use Rattle.tendril_run.specs.OneCell.{SendMay};
-ghost use Rattle.tendril_run.specs.Rules.{rule_with, grown, Changes};
-ghost use Rattle.tendril_text.specs.Making.{MakesValidText};
+ghost use Rattle.tendril_run.specs.Rules.{rule_with, grown, Changes, GivesBy};
 ghost use Rattle.tendril_block.specs.Outcomes.{NoneMust, LengthMust, CharMust, BytesMust, MemoryMay, CountMay, Gives};
 ghost use Rattle.tendril_block.specs.declared.refusal.Refusal.TheVariants.{Memory};
 
 use crate::classifier::Classifier;
-use crate::slot::Slot;
 use std::alloc::Global;
 use std::cmp::Ordering;
 use tendril_lines::{ByteList, Comparison, Kind};
@@ -20,12 +17,14 @@ use tendril_text::block::{MAX_LEN, Refusal};
 use tendril_text::fmt::{CharFormat, Format};
 use tendril_text::{Atomicity, Tendril};
 
-/// A text of these bytes.
+/// A text of these bytes, in the format that `kind` names.
 pub(crate) fn from_bytes<F: Format, A: Atomicity>(
     alloc: Global,
+    kind: Kind,
     bytes: &ByteList,
 ) -> Result<Tendril<F, A>, Refusal>
-    ensures { MakesValidText F.valid bytes.now result }
+    requires { F.valid bytes.now ↔ valid_in kind bytes.now }
+    ensures { GivesBy (grown (BytesMust (valid_in kind) bytes.now) bytes.now) (λ t. t.bytes) result }
 {
     Tendril::try_from_byte_slice(alloc, bytes.as_slice())
 }
@@ -134,23 +133,6 @@ pub(crate) fn equal<F: Format, A: Atomicity>(
         Comparison::Equal
     } else {
         Comparison::Differ
-    }
-}
-
-/// The text in another format, or unchanged if it isn't valid there.
-pub(crate) fn reinterpreted<F: Format, A: Atomicity>(
-    text: Tendril<F, A>,
-    kind: Kind,
-) -> Result<Slot<A>, Tendril<F, A>>
-    ensures ok { IfOk result (λ s. valid_in kind text.bytes × (cell_of s ≡ text_cell kind text.bytes)) }
-    ensures back { IfErr result (λ t. (valid_in kind text.bytes → ⊥) × (t.bytes ≡ text.bytes)) }
-{
-    match kind {
-        Kind::Bytes => Ok(Slot::Bytes(text.try_reinterpret()?)),
-        Kind::Ascii => Ok(Slot::Ascii(text.try_reinterpret()?)),
-        Kind::Utf8 => Ok(Slot::Utf8(text.try_reinterpret()?)),
-        Kind::Wtf8 => Ok(Slot::Wtf8(text.try_reinterpret()?)),
-        Kind::Latin1 => Ok(Slot::Latin1(text.try_reinterpret()?)),
     }
 }
 

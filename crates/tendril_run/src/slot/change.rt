@@ -1,30 +1,15 @@
 //! Changes of a slot's text.
-ghost use Rattle.std.specs.Prelude.{◌≡◌, ℕ, MatchOption, None};
-ghost use Rattle.tendril_run.specs.CellOf.{cell_of};
-ghost use Rattle.tendril_run.specs.Cells.{IsCell};
-ghost use Rattle.tendril_run.specs.OneCell.{push_rule, join_rule, pop_char_rule, pop_run_rule, change_rule, char_of, IsRunOf};
+ghost use Rattle.std.specs.Prelude.{◌≡◌, ℕ};
+ghost use Rattle.tendril_run.specs.Cells.{cell_of, IsCell};
+ghost use Rattle.tendril_run.specs.OneCell.{push_rule, join_rule, pop_char_rule, change_rule, char_of};
 ghost use Rattle.tendril_run.specs.Rules.{with_effect, Follows, Changes};
 
-use crate::change::{ByteEdit, Change, Edit, apply_byte_edit, apply_edit};
-use crate::classifier::Classifier;
+use crate::change::{apply_byte_edit, apply_edit};
 use crate::slot::Slot;
 use crate::text;
-use tendril_lines::{ByteList, Kind};
+use tendril_lines::{ByteEdit, ByteList, Change, Edit, Kind};
 use tendril_text::Atomicity;
 use tendril_text::block::Refusal;
-
-// Like `on_text`, for the formats that have characters.
-macro_rules! on_characters {
-    ($slot:expr, $text:ident => $body:expr) => {
-        match $slot {
-            Slot::Ascii($text) => $body,
-            Slot::Utf8($text) => $body,
-            Slot::Latin1($text) => $body,
-            Slot::Bytes(_) | Slot::Wtf8(_) => Err(Refusal::WrongFormat),
-            Slot::Gone => Err(Refusal::NoSuchSlot),
-        }
-    };
-}
 
 impl<A: Atomicity> Slot<A> {
     /// Puts bytes at the end of the text.
@@ -66,52 +51,6 @@ impl<A: Atomicity> Slot<A> {
         ensures kept { IsCell (cell_of self.old) → IsCell (cell_of self.new) }
     {
         on_characters!(self, text => Ok(text::pop_char(text)))
-    }
-
-    /// Removes the longest prefix of characters of one class, and returns it with the class.
-    pub(crate) fn pop_run<C: Classifier>(
-        &mut self,
-        classifier: &C,
-    ) -> Result<Option<(Self, u32)>, Refusal>
-        ensures popped { let class = C.class classifier.now in Follows
-            (λ cell. with_effect (λ rest found new. MatchOption found ((char_of cell ≡ None) × (new ≡ cell))
-            (λ run. IsRunOf class cell run.1 (cell_of run.0) new)) (pop_run_rule class cell))
-            (cell_of self.old) result (cell_of self.new) }
-        ensures kept { IsCell (cell_of self.old) → IsCell (cell_of self.new) }
-    {
-        match self {
-            Slot::Ascii(text) => Ok(text::pop_run(text, classifier)?.map(|(run, class)| (
-                Slot::Ascii(run),
-                class,
-            ))),
-            Slot::Utf8(text) => Ok(text::pop_run(text, classifier)?.map(|(run, class)| (
-                Slot::Utf8(run),
-                class,
-            ))),
-            Slot::Latin1(text) => Ok(text::pop_run(text, classifier)?.map(|(run, class)| (
-                Slot::Latin1(run),
-                class,
-            ))),
-            Slot::Bytes(_) | Slot::Wtf8(_) => Err(Refusal::WrongFormat),
-            Slot::Gone => Err(Refusal::NoSuchSlot),
-        }
-    }
-
-    /// Puts the text of another slot at the end of the text.
-    pub(crate) fn join(&mut self, other: &Slot<A>) -> Result<(), Refusal>
-        ensures joined { (to from : ℕ) →
-            Changes (join_rule to from (cell_of other.now)) (cell_of self.old) result (cell_of self.new) }
-        ensures kept { IsCell (cell_of self.old) → IsCell (cell_of other.now) → IsCell (cell_of self.new) }
-    {
-        match (&mut *self, other) {
-            (Slot::Bytes(text), Slot::Bytes(more)) => text::join(text, more),
-            (Slot::Ascii(text), Slot::Ascii(more)) => text::join(text, more),
-            (Slot::Utf8(text), Slot::Utf8(more)) => text::join(text, more),
-            (Slot::Wtf8(text), Slot::Wtf8(more)) => text::join(text, more),
-            (Slot::Latin1(text), Slot::Latin1(more)) => text::join(text, more),
-            (Slot::Gone, _) | (_, Slot::Gone) => Err(Refusal::NoSuchSlot),
-            _ => Err(Refusal::WrongFormat),
-        }
     }
 
     /// Puts the text at its own end.

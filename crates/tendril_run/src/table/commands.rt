@@ -1,20 +1,15 @@
 //! What each command does to a table.
 ghost use Rattle.std.specs.Prelude.{◌≡◌, ◌≤◌, ◌<◌, ◌+◌, ◌++◌, ◌∷◌, ◌≢◌, [], length, Ok, Err, MatchResult};
-ghost use Rattle.tendril_run.specs.CellOf.{cell_of};
-ghost use Rattle.tendril_run.specs.Cells.{gone, cell_at};
+ghost use Rattle.tendril_run.specs.Cells.{cell_of, gone, cell_at};
 ghost use Rattle.tendril_run.specs.OneCell.{change_rule, part_rule, clone_rule};
 ghost use Rattle.tendril_run.specs.Rules.{Follows, GivesBy, IsNoRefusal};
 ghost use Rattle.tendril_run.specs.Steps.{at_slot, CommandOutcome, TableJoined};
 
-use crate::change::ByteEdit::{PushZeros, WriteByte};
-use crate::change::Change::{self, Convert, EditBytes};
-use crate::change::Conversion::{Reinterpret, ToSubset, ToSuperset};
-use crate::change::Edit::{Clear, PopBack, PopFront, Reserve};
 use crate::classifier::Classifier;
 use crate::slot::Slot;
 use crate::table::Table;
 use std::mem;
-use tendril_lines::{ByteList, Command, Reply};
+use tendril_lines::{ByteList, Change, Command, Reply};
 use tendril_text::Atomicity;
 use tendril_text::block::Refusal;
 
@@ -37,27 +32,13 @@ impl<A: Atomicity> Table<A> {
             },
             Command::PushBytes(slot, bytes) => self.push_bytes(*slot, bytes),
             Command::PushTendril(to, from) => self.join(*to, *from),
-            Command::PushChar(slot, character) => self.change(*slot, Change::PushChar(*character)),
-            Command::PushZeros(slot, count) => self.change(*slot, EditBytes(PushZeros(*count))),
+            Command::Change(slot, change) => self.change(*slot, *change),
             Command::Slice(slot, offset, count) => self.add_made(self.part(*slot, *offset, *count)),
-            Command::PopFront(slot, count) => self.change(*slot, Change::Edit(PopFront(*count))),
-            Command::PopBack(slot, count) => self.change(*slot, Change::Edit(PopBack(*count))),
             Command::PopChar(slot) => self.pop_char(*slot),
             Command::PopRun(slot) => self.pop_run(*slot, classifier),
             Command::Clone(slot) => self.add_made(self.copy(*slot)),
-            Command::Clear(slot) => self.change(*slot, Change::Edit(Clear)),
-            Command::Reserve(slot, more) => self.change(*slot, Change::Edit(Reserve(*more))),
-            Command::Reinterpret(slot, kind) => self.change(*slot, Convert(Reinterpret(*kind))),
-            Command::ToSuperset(slot, kind) => self.change(*slot, Convert(ToSuperset(*kind))),
-            Command::ToSubset(slot, kind) => self.change(*slot, Convert(ToSubset(*kind))),
-            Command::WriteByte(slot, index, byte) => self.change(
-                *slot,
-                EditBytes(WriteByte(*index, *byte)),
-            ),
             Command::Compare(first, second) => self.compare(*first, *second),
             Command::Text(slot) => self.text(*slot),
-            Command::ThroughSend(slot) => self.change(*slot, Change::ThroughSend),
-            Command::Drop(slot) => self.change(*slot, Change::Drop),
             Command::FromUnits(units) => self.add_made(Slot::from_units(self.alloc, units)),
             Command::Units(slot) => self.units(*slot),
         }

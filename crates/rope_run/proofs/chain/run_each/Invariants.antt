@@ -4,7 +4,8 @@ use Rattle.rope_run.proofs.chain.run_each.Given as goal
 
 abbrev pub invariant-loop-command : goal.invariant-loop-command
 invariant-loop-command g l = record {
-  run : RopeChain (g.C.Classifier.class l.classifier) l.fn.table.cells (take l.command-index l.commands) l.replies.items l.table.cells;
+  run : RopeChain (g.C.Classifier.class l.classifier) l.fn.table.cells (take l.command-index l.commands)
+      l.replies.items l.table.cells;
   slots : length l.commands ≤ l.command-index + l.table.slot_room;
   ropes : length l.commands ≤ l.command-index + l.table.rope_room;
   told : vec_len l.replies ≡ l.command-index;

@@ -2,7 +2,10 @@ use Rattle.std.proofs.Common.{get_or, ◌≡◌, length, arith}
 use Rattle.std.proofs.lemmas.Bool.Decides.{nat_tests}
 use Rattle.tendril_lines.proofs.Digits.{shape_of, as_option}
 use Rattle.tendril_lines.proofs.numbers.plain.Goals as goal
-use Rattle.tendril_lines.proofs.numbers.plain.Goals.{then-is_empty-via-then-is_empty, then-is_empty-via-else-is_empty+then-word-eq43, then-is_empty-via-else-is_empty+else-word-eq43+then-word-gt1, then-word-eq48, else-word-eq48}
+use Rattle.tendril_lines.proofs.numbers.plain.Goals.{then-is_empty-via-then-is_empty}
+use Rattle.tendril_lines.proofs.numbers.plain.Goals.{then-is_empty-via-else-is_empty+then-word-eq43}
+use Rattle.tendril_lines.proofs.numbers.plain.Goals.{then-is_empty-via-else-is_empty+else-word-eq43+then-word-gt1}
+use Rattle.tendril_lines.proofs.numbers.plain.Goals.{then-word-eq48, else-word-eq48}
 
 pub returns-then-is_empty : goal.returns-then-is_empty
 returns-then-is_empty c n h = let s = shape_of n c.args.word.now h in elim c.then-is_empty.branch [

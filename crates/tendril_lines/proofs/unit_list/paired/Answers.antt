@@ -19,5 +19,8 @@ returns-then-is_empty c us =
 
 pub returns-else-is_empty : goal.returns-else-is_empty
 returns-else-is_empty c us =
-    let one : length c.loop-rest.rest.now ≡ 1 = grind (arith, common_steps, c.is_empty.ensures) in
-    (λ e. cc, λ h. absurd (left_over c.args.bytes.now c.loop-rest.units.items c.loop-rest.rest.now c.loop-rest.invariant one us h))
+    let one : length c.loop-rest.rest.now ≡ 1 = grind (arith, common_steps, c.is_empty.ensures) in (
+      λ e. cc,
+      λ h. absurd (left_over c.args.bytes.now c.loop-rest.units.items c.loop-rest.rest.now
+          c.loop-rest.invariant one us h),
+    )

@@ -7,6 +7,8 @@ use Rattle.tendril_run.proofs.workers.join_all.Given as goal
 
 abbrev pub invariant-loop-worker : goal.invariant-loop-worker
 invariant-loop-worker g l = record {
-  each : Completes (λ w o. MatchOption w (o ≡ NotStarted) (λ h. let job = h.promise.0.value in JobEnds (g.C.Classifier.class job.class) job.table.cells job.commands.items o × IsBegun o)) l.fn.workers.items l.outcomes.items (into_iter_items l.worker-iterator);
+  each : Completes (λ w o. MatchOption w (o ≡ NotStarted) (λ h. let job = h.promise.0.value in
+      JobEnds (g.C.Classifier.class job.class) job.table.cells job.commands.items o × IsBegun o)) l.fn.workers.items
+      l.outcomes.items (into_iter_items l.worker-iterator);
   room : vec_len l.outcomes + into_iter_len l.worker-iterator ≤ vec_capacity l.outcomes;
 }

@@ -8,7 +8,10 @@ pub returns-clause-ok : goal.returns-clause-ok
 returns-clause-ok g c =
     let class = g.C.Classifier.class in
     AllZip-through _ _ _
-    (λ j w o. elim w as (λ v. IfSome v (λ h. h.promise.0.value ≡ j) → MatchOption v (o ≡ NotStarted) (λ h. let job = h.promise.0.value in JobEnds (class job.class) job.table.cells job.commands.items o × IsBegun o) → JobEnds (class j.class) j.table.cells j.commands.items o) [
+    (λ j w o. elim w as (λ v. IfSome v (λ h. h.promise.0.value ≡ j)
+    → MatchOption v (o ≡ NotStarted) (λ h. let job = h.promise.0.value in
+    JobEnds (class job.class) job.table.cells job.commands.items o × IsBegun o)
+    → JobEnds (class j.class) j.table.cells j.commands.items o) [
       | Some h ↦ λ r s. subst (λ job. JobEnds (class job.class) job.table.cells job.commands.items o) r s.0
       | None ↦ λ r s. subst (λ end. JobEnds (class j.class) j.table.cells j.commands.items end) (sym s) tt
     ])
