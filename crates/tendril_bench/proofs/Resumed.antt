@@ -10,8 +10,10 @@ told_front : (cs : List ℕ) (told : List Told) → characters (map Char cs ++ t
 told_front [] told = refl
 told_front (c ∷ cs) told = ap (λ l. c ∷ l) (told_front cs told)
 
-pub completed : (k input rest : List ℕ) (found : Result (List ℕ) (List ℕ)) → Resumes → MatchResult found (λ t. CompletesTo k input t rest) (λ b. BreaksAt k input b rest)
-    → (characters (due_open (k ++ input)) ≡ spelled found ++ characters (due_open rest)) × (kept (k ++ input) ≡ kept rest)
+pub completed : (k input rest : List ℕ) (found : Result (List ℕ) (List ℕ)) → Resumes
+    → MatchResult found (λ t. CompletesTo k input t rest) (λ b. BreaksAt k input b rest)
+    → (characters (due_open (k ++ input)) ≡ spelled found ++ characters (due_open rest))
+    × (kept (k ++ input) ≡ kept rest)
 completed k input rest (Ok t) r h =
     let told = r.text k input t rest h in
     (ap characters told.0 ∙ told_front (chars t) (due_open rest), told.1)

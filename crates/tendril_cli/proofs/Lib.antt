@@ -1,2 +1,5 @@
-pub mod DecodingLemmas
+mod DecoderReads
+mod DecodingEnds
+mod JoiningSinks
 mod WordLemmas
+mod WrittenTexts

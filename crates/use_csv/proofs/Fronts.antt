@@ -7,7 +7,8 @@ use Rattle.use_csv.specs.declared.partial.PartialRecord.{PartialRecord}
 use Rattle.use_csv.specs.declared.record.Record.{Record}
 
 -- if a step added no record, the records are a prefix of all that is spelled and left
-pub front_of_step : (records records' : List Record) (partial : PartialRecord) (rest whole : List ℕ) → records' ≡ records
+pub front_of_step : (records records' : List Record) (partial : PartialRecord) (rest whole : List ℕ)
+    → records' ≡ records
     → unmarked (spelled_so_far records partial ++ rest) ≡ unmarked whole
     → IsFrontOf (unmarked (record_bytes records')) (unmarked whole)
 front_of_step records records' partial rest whole same is =

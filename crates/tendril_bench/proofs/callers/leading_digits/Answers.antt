@@ -19,8 +19,10 @@ loop-character-preserved g c =
     let now = c.loop-character.invariant in
     let f = g.F.CharFormat in
     let character = c.in-Some.character in
-    let first = subst (λ rest. IsFirstChar g.F.Format.valid f.chars f.encodes f.encoding rest character c.in-Some.len) (slice_from c.args.text.now c.loop-character.at) c.in-Some.ensures.first in (
+    let first = subst (λ rest. IsFirstChar g.F.Format.valid f.chars f.encodes f.encoding rest character c.in-Some.len)
+    (slice_from c.args.text.now c.loop-character.at) c.in-Some.ensures.first in (
       now.0 ++ character ∷ [],
-      IsSplitAfter-step g.F.Format.valid f.chars f.encodes f.encoding c.args.text.now now.0 c.loop-character.at character c.in-Some.len now.1 first,
+      IsSplitAfter-step g.F.Format.valid f.chars f.encodes f.encoding c.args.text.now now.0 c.loop-character.at
+          character c.in-Some.len now.1 first,
       one_more now.0 character now.2 c.if-not-is_ascii_digit.ensures.cases,
     )

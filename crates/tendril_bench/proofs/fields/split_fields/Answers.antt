@@ -20,7 +20,8 @@ loop-field-preserved c =
     let whole = c.args.line.bytes in
     let comes = rw c.in_ok-field.was at c.in-Some.ensures.steps in
     let so = subst (SplitsSoFar set (map bytes fields) whole before.rest.bytes) comes.0.0 held.so_far in
-    let more = splits_push set (map bytes fields) field.bytes whole before.rest.bytes after.rest.bytes after.is_over so comes.0.1 in
+    let more = splits_push set (map bytes fields) field.bytes whole before.rest.bytes after.rest.bytes after.is_over
+    so comes.0.1 in
     let items : c.push.new.self.items ≡ fields ++ field ∷ [] = grind (arith, common_steps) in
     let same : map bytes c.push.new.self.items ≡ map bytes fields ++ field.bytes ∷ [] =
     ap (map bytes) items ∙ map-append bytes fields (field ∷ []) in
@@ -39,7 +40,8 @@ returns-clause-joined c =
     let held = c.loop-field.invariant in
     let parts = map bytes c.loop-field.fields.items in
     let last = c.loop-field.field-iterator in
-    let all = subst (SplitsSoFar (has_byte last.set.now) parts c.args.line.bytes last.rest.bytes) c.in-None.ensures.steps.0.0 held.so_far in
+    let all = subst (SplitsSoFar (has_byte last.set.now) parts c.args.line.bytes last.rest.bytes)
+    c.in-None.ensures.steps.0.0 held.so_far in
     parts_joined (has_byte last.set.now) 44 parts c.args.line.bytes held.no_other all.0
 
 pub returns-clause-apart : goal.returns-clause-apart
@@ -48,5 +50,6 @@ returns-clause-apart c =
     let held = c.loop-field.invariant in
     let parts = map bytes c.loop-field.fields.items in
     let last = c.loop-field.field-iterator in
-    let all = subst (SplitsSoFar (has_byte last.set.now) parts c.args.line.bytes last.rest.bytes) c.in-None.ensures.steps.0.0 held.so_far in
+    let all = subst (SplitsSoFar (has_byte last.set.now) parts c.args.line.bytes last.rest.bytes)
+    c.in-None.ensures.steps.0.0 held.so_far in
     parts_lack (has_byte last.set.now) 44 parts c.args.line.bytes held.comma all.0

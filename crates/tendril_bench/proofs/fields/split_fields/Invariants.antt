@@ -9,5 +9,6 @@ invariant-loop-field l = record {
   is_finite : goal.iterator-loop-field.is_finite l.field-iterator;
   comma : has_byte l.field-iterator.set.now 44 ≡ true;
   no_other : (b : ℕ) → has_byte l.field-iterator.set.now b ≡ true → b ≡ 44;
-  so_far : SplitsSoFar (has_byte l.field-iterator.set.now) (map (λ field. field.bytes) l.fields.items) l.fn.line.bytes l.field-iterator.rest.bytes l.field-iterator.is_over;
+  so_far : SplitsSoFar (has_byte l.field-iterator.set.now) (map (λ field. field.bytes) l.fields.items) l.fn.line.bytes
+      l.field-iterator.rest.bytes l.field-iterator.is_over;
 }

@@ -8,7 +8,8 @@ use Rattle.tendril_cli.proofs.decode.decode.Given as goal
 abbrev pub invariant-loop-made : goal.invariant-loop-made
 invariant-loop-made g l = (these : List OneRead) × All MayReadOn these × (length these ≡ l.made) × (l.made ≤ most_reads)
     × MakesReads g.R.CountedRead.history g.R.CountedRead.remaining l.fn.reader these l.reader
-    × IsReady these (g.W.Write.contents l.fn.out) (g.W.Write.contents l.out) l.decoder.kept l.decoder.failed l.decoder.inner_sink
+    × IsReady these (g.W.Write.contents l.fn.out) (g.W.Write.contents l.out) l.decoder.kept l.decoder.failed
+    l.decoder.inner_sink
 
 abbrev pub decreases-loop-made : goal.decreases-loop-made
 decreases-loop-made g l = most_reads - l.made

@@ -1,7 +1,9 @@
 use Rattle.std.proofs.Common.{◌≡◌, ◌∙◌, ◌∷◌, [], ◌++◌, false, ap, arith, chars, inl, length-append, refl, subst, sym}
 use Rattle.std.proofs.lemmas.List.Elements.{All-push}
 use Rattle.std.proofs.lemmas.Result.{err_from_is_err_and}
-use Rattle.tendril_cli.proofs.DecodingLemmas.{front_of_text, heard, read_stops, ready_stands, writes_both, writes_text, writes_then_front}
+use Rattle.tendril_cli.proofs.DecoderReads.{heard, read_stops}
+use Rattle.tendril_cli.proofs.JoiningSinks.{ready_stands}
+use Rattle.tendril_cli.proofs.WrittenTexts.{front_of_text, writes_both, writes_text, writes_then_front}
 use Rattle.tendril_cli.specs.Decodings.{DecodeStops, JoinRefused, WritesFrontOfText, WritesText}
 use Rattle.tendril_lossy.specs.Lossy.{characters, due_open, kept}
 use Rattle.tendril_stream.proofs.Fed.{given-push}
@@ -14,39 +16,64 @@ use Rattle.tendril_cli.proofs.decode.decode_read.Goals as goal
 pub returns-in_err-read_once-clause-stops : goal.returns-in_err-read_once-clause-stops
 returns-in_err-read_once-clause-stops g c = λ before these on some ready.
     let q = err_from_is_err_and c.from_residual.result c.from_residual.ensures.1 in rw (q.1, q.2) (
-    read_stops (λ d. d.inner_sink) (λ d. d.kept) (λ d. d.failed) (λ s. chars s) (λ a e r b. (b ≡ a) × JoinRefused e r) (λ a r. ⊥)
-    g.R.CountedRead.history g.R.CountedRead.remaining c.args.reader.now c.read_once.new.reader _ before _ these on some ready.writes c.args.decoder.now c.read_once.new.sink _ c.in_err-read_once.ensures.err ready.goes_on)
+    read_stops (λ d. d.inner_sink) (λ d. d.kept) (λ d. d.failed) (λ s. chars s) (λ a e r b. (b ≡ a) × JoinRefused e r)
+    (λ a r. ⊥)
+    g.R.CountedRead.history g.R.CountedRead.remaining c.args.reader.now c.read_once.new.reader _ before _ these on
+    some ready.writes c.args.decoder.now c.read_once.new.sink _ c.in_err-read_once.ensures.err ready.goes_on)
 
 pub returns-in_err-write_text-clause-stops : goal.returns-in_err-write_text-clause-stops
 returns-in_err-write_text-clause-stops g c = λ before these on some ready.
     let d = c.args.decoder.now in
     let n = c.read_once.new.sink in
-    let once = subst (ReadsOnce g.R.CountedRead.history g.R.CountedRead.remaining c.args.reader.now c.read_once.new.reader d n
-    (λ d e n. (d.failed ≡ false) × (n.failed ≡ false) × Decodes (λ a e b. chars b ≡ chars a ++ characters (told_of e)) d.inner_sink d.kept e n.inner_sink n.kept)) c.if-branch.false c.in_ok-read_once.ensures.ok in
+    let once = subst (ReadsOnce g.R.CountedRead.history g.R.CountedRead.remaining c.args.reader.now
+    c.read_once.new.reader d n
+    (λ d e n. (d.failed ≡ false) × (n.failed ≡ false)
+    × Decodes (λ a e b. chars b ≡ chars a ++ characters (told_of e)) d.inner_sink d.kept e n.inner_sink n.kept))
+    c.if-branch.false c.in_ok-read_once.ensures.ok in
     let bytes = n.inner_sink in
     let stands = ready_stands (λ s. chars s) these before _ d.kept d.inner_sink d.failed d.inner_sink ready refl in
-    let m = heard (λ d. d.inner_sink) (λ d. d.kept) (λ d. d.failed) (λ s. chars s) (λ a e r b. (b ≡ a) × JoinRefused e r) (λ a r. ⊥) (characters (due_open (given these))) (given these) d n once.0 once.3 ready.goes_on stands in
+    let m = heard (λ d. d.inner_sink) (λ d. d.kept) (λ d. d.failed) (λ s. chars s)
+    (λ a e r b. (b ≡ a) × JoinRefused e r) (λ a r. ⊥) (characters (due_open (given these)))
+    (given these) d n once.0 once.3 ready.goes_on stands in
     let tells = m.0.tells ∙ ap (λ l. characters (due_open l)) (sym (given-push these once.0)) in
     let front = subst (λ cs. WritesFrontOfText cs before (g.W.Write.contents c.write_text.new.out)) tells
-    (writes_then_front _ _ _ (characters (due_open (given these))) (chars bytes) ready.writes (front_of_text _ _ bytes c.write_text.ensures.utf8 c.in_err-write_text.ensures.err)) in
-    let q = err_from_is_err_and c.from_residual-in_err-write_text.result c.from_residual-in_err-write_text.ensures.1 in rw (q.1, q.2) ((once.0 ∷ [], once.2, subst (DecodeStops _ (these ++ once.0 ∷ []) _ _ _) (sym c.in_err-write_text.ensures.refusal) (inl (front, All-push MayReadOn these once.0 on once.1), omega (arith, length-append these (once.0 ∷ []), some))))
+    (writes_then_front _ _ _ (characters (due_open (given these))) (chars bytes) ready.writes
+    (front_of_text _ _ bytes c.write_text.ensures.utf8 c.in_err-write_text.ensures.err)) in
+    let q = err_from_is_err_and c.from_residual-in_err-write_text.result
+    c.from_residual-in_err-write_text.ensures.1 in
+    rw (q.1, q.2) ((
+      once.0 ∷ [],
+      once.2,
+      subst (DecodeStops _ (these ++ once.0 ∷ []) _ _ _)
+          (sym c.in_err-write_text.ensures.refusal) (
+            inl (front, All-push MayReadOn these once.0 on once.1),
+            omega
+                (arith, length-append these (once.0 ∷ []), some),
+          ),
+    ))
 
 pub returns-clause-read : goal.returns-clause-read
 returns-clause-read g c = λ before these ready not.
     let d = c.args.decoder.now in
     let n = c.read_once.new.sink in
-    let once = subst (ReadsOnce g.R.CountedRead.history g.R.CountedRead.remaining c.args.reader.now c.read_once.new.reader d n
-    (λ d e n. (d.failed ≡ false) × (n.failed ≡ false) × Decodes (λ a e b. chars b ≡ chars a ++ characters (told_of e)) d.inner_sink d.kept e n.inner_sink n.kept)) c.if-branch.false c.in_ok-read_once.ensures.ok in
+    let once = subst (ReadsOnce g.R.CountedRead.history g.R.CountedRead.remaining c.args.reader.now
+    c.read_once.new.reader d n
+    (λ d e n. (d.failed ≡ false) × (n.failed ≡ false)
+    × Decodes (λ a e b. chars b ≡ chars a ++ characters (told_of e)) d.inner_sink d.kept e n.inner_sink n.kept))
+    c.if-branch.false c.in_ok-read_once.ensures.ok in
     let bytes = n.inner_sink in
     let stands = ready_stands (λ s. chars s) these before _ d.kept d.inner_sink d.failed d.inner_sink ready refl in
-    let m = heard (λ d. d.inner_sink) (λ d. d.kept) (λ d. d.failed) (λ s. chars s) (λ a e r b. (b ≡ a) × JoinRefused e r) (λ a r. ⊥) (characters (due_open (given these))) (given these) d n once.0 once.3 ready.goes_on stands in
+    let m = heard (λ d. d.inner_sink) (λ d. d.kept) (λ d. d.failed) (λ s. chars s)
+    (λ a e r b. (b ≡ a) × JoinRefused e r) (λ a r. ⊥) (characters (due_open (given these)))
+    (given these) d n once.0 once.3 ready.goes_on stands in
     let tells = m.0.tells ∙ ap (λ l. characters (due_open l)) (sym (given-push these once.0)) in (
       once.0,
       once.1,
       once.2,
       record {
         writes = subst (λ cs. WritesText cs before (g.W.Write.contents c.write_text.new.out)) tells
-            (writes_both _ _ _ (characters (due_open (given these))) (chars bytes) ready.writes (writes_text _ _ bytes c.write_text.ensures.utf8 c.in_ok-write_text.ensures.ok));
+            (writes_both _ _ _ (characters (due_open (given these))) (chars bytes) ready.writes
+            (writes_text _ _ bytes c.write_text.ensures.utf8 c.in_ok-write_text.ensures.ok));
         keeps = m.0.keeps ∙ ap kept (sym (given-push these once.0));
         goes_on = m.1;
         empty = c.clear.ensures;

@@ -11,7 +11,8 @@ returns-clause-ran g c = λ done.
     let input = g.R.Read.remaining c.args.input.now in
     let before = g.W.Write.contents c.args.out.now in
     let after = g.W.Write.contents c.run_program.new.out in
-    subst (λ cells. RanFrom Answers cells input before after ⊎ DecodesAll input before after) c.new-lines.ensures (c.run_program.ensures.ran done)
+    subst (λ cells. RanFrom Answers cells input before after ⊎ DecodesAll input before after) c.new-lines.ensures
+    (c.run_program.ensures.ran done)
 
 pub returns-clause-refused : goal.returns-clause-refused
 returns-clause-refused g c = λ failed.
@@ -20,4 +21,6 @@ returns-clause-refused g c = λ failed.
     let after = g.W.Write.contents c.run_program.new.out in
     let told = g.E.Write.contents c.args.err.now in
     let told' = g.E.Write.contents c.run_program.new.err in
-    subst (λ cells. RunEnded Answers program_name cells input before after told told' ⊎ DecodingEnded most_reads input before after told told') c.new-lines.ensures (c.run_program.ensures.refused failed)
+    subst (λ cells. RunEnded Answers program_name cells input before after told told'
+    ⊎ DecodingEnded most_reads input before after told told') c.new-lines.ensures
+    (c.run_program.ensures.refused failed)

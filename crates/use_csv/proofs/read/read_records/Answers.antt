@@ -9,7 +9,8 @@ use Rattle.use_csv.specs.declared.record.Record.{Record}
 use Rattle.use_csv.proofs.read.read_records.Goals as goal
 
 -- a new reader spells what the sink's earlier records spell
-new_reader : (records records' : List Record) (partial : PartialRecord) → records' ≡ records → partial_bytes partial ≡ []
+new_reader : (records records' : List Record) (partial : PartialRecord) → records' ≡ records → partial_bytes partial
+    ≡ []
     → unmarked (spelled_so_far records' partial) ≡ unmarked (record_bytes records) ++ []
 new_reader records records' partial same none =
     ap₂ (λ r p. unmarked (record_bytes r ++ p)) same none ∙ ap unmarked (append-nil (record_bytes records))
@@ -26,7 +27,8 @@ returns-clause-ok g c = IfOk-weaker c.read_decoded.result _ _ (λ out h.
       h.1,
       h.2,
       whole (λ t. spelled_so_far (records t.sink) t.partial) (λ d. d.inner_sink) (λ d. d.kept) (λ d. d.failed)
-          (λ o. record_bytes (records o)) (unmarked (record_bytes before)) c.new.result c.new-decoder.result all.last h.0
+          (λ o. record_bytes (records o)) (unmarked (record_bytes before)) c.new.result c.new-decoder.result all.last
+          h.0
           out c.new-decoder.ensures.sink c.new-decoder.ensures.kept c.new-decoder.ensures.failed new all.receives
           all.finished.1,
       all.ends,
@@ -43,7 +45,12 @@ returns-clause-stopped g c = IfErr-weaker c.read_decoded.result _ _ (λ s h.
       h.1,
       halted (λ t. spelled_so_far (records t.sink) t.partial) (λ t. record_bytes (records t.sink))
           (unmarked (record_bytes before))
-          (λ t. (unmarked (partial_bytes t.partial), unmarked-append (record_bytes (records t.sink)) (partial_bytes t.partial)))
-          (λ d. d.inner_sink) (λ d. d.kept) (λ d. d.failed) _ c.new.result c.new-decoder.result c.args.most h.0 s.refusal
+          (λ t. (
+            unmarked (partial_bytes t.partial),
+            unmarked-append (record_bytes (records t.sink))
+                (partial_bytes t.partial),
+          ))
+          (λ d. d.inner_sink) (λ d. d.kept) (λ d. d.failed) _ c.new.result c.new-decoder.result c.args.most h.0
+          s.refusal
           s.sink c.new-decoder.ensures.sink c.new-decoder.ensures.kept c.new-decoder.ensures.failed new h.2,
     )) c.read_decoded.ensures.stopped

@@ -1,5 +1,5 @@
 use Rattle.std.proofs.Common.{◌≡◌, ◌++◌, OnOk, chars, map, subst}
-use Rattle.tendril_cli.proofs.DecodingLemmas.{pushed}
+use Rattle.tendril_cli.proofs.JoiningSinks.{pushed}
 use Rattle.tendril_lossy.specs.Lossy.{Char, characters}
 use Rattle.tendril_cli.proofs.joined.JoinedTendrilSinkStrTendril.process.Goals as goal
 
@@ -8,4 +8,5 @@ returns-clause-ok c =
     let old = c.args.self.now in
     let new = c.push.new.self in
     let all = pushed c.push.result old new c.as_str.result.now c.as_bytes-utf8.ensures.utf8 c.push.ensures.ok in
-    subst (λ m. OnOk c.push.result (chars new ≡ chars old ++ characters (map Char (chars m)))) c.as_str.ensures.value all
+    subst (λ m. OnOk c.push.result (chars new ≡ chars old ++ characters (map Char (chars m)))) c.as_str.ensures.value
+    all
