@@ -59,7 +59,7 @@ add_exports() {
         | tar -C "$1/crates/port_exports" -xf -
     grep -rl use_tokens "$1/crates/port_exports" | xargs sed -i 's/Rattle\.use_tokens\./Rattle.port_exports./'
     local used='tendril tendril_queue tendril_stream tendril_text tendril_block tendril_fmt tendril_lossy'
-    printf 'port_exports staticlib: rope memchr %s\nport_threads: %s\n' "$used" "$used" >> "$1/crates.txt"
+    printf 'port_exports staticlib: rope_text memchr %s\nport_threads: %s\n' "$used" "$used" >> "$1/crates.txt"
 }
 
 # build_port FROM NAME: proves and links a checkout's port.
