@@ -94,6 +94,16 @@ impl<A: Atomicity> Storage<A> {
         ensures refusal { IfErr result (λ e. MemoryMay (length self.bytes) e.0) }
         ensures back { IfErr result (λ e. e.1 ≡ self) }
     {
+        // The words are copied as they are: `short` branches on the number of bytes.
+        if let Held::Inline { len, buffer } = &self.held {
+            return Ok(Detached {
+                kept: Kept::Inline {
+                    len: *len,
+                    buffer: *buffer,
+                },
+                alloc: self.alloc,
+            });
+        }
         if self.as_slice().len() <= INLINE_LEN {
             return Ok(Detached::short(self.alloc, self.as_slice()));
         }

@@ -152,14 +152,25 @@ impl<A: Atomicity> Storage<A> {
 
     /// Removes the first `count` bytes and returns them. Both sides share the block only if both have more than 8
     /// bytes; then it returns `Count` if the block has as many references as it can have.
+    #[inline(always)]
     pub fn take_front(&mut self, count: u32) -> Result<Self, Refusal>
         requires { count ≤ length self.old.bytes }
         ensures { TakesFront count self.old result self.new }
     {
-        // Most pops of characters and runs return here.
+        // Most pops of characters and runs return here. Inlined, the front stays in registers: words that a call wrote
+        // one by one would be loaded as a pair, which stalls the processor.
         if let Some(front) = self.take_few(count, 0) {
             return Ok(front);
         }
+        self.take_any(count)
+    }
+
+    // Removes the first `count` bytes, many or few.
+    #[inline(never)]
+    fn take_any(&mut self, count: u32) -> Result<Self, Refusal>
+        requires { count ≤ length self.old.bytes }
+        ensures { TakesFront count self.old result self.new }
+    {
         let rest = self.len32() - count;
         if count as usize <= INLINE_LEN {
             let front = self.inline_part(0, count);
