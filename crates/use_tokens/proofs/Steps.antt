@@ -61,11 +61,6 @@ pub behind : (before mid : List Token) (first rest : List ℕ) → TokensSpell b
 behind before mid first rest h = ap (λ l. l ++ rest) (sym (append-nil (joined_sources mid)) ∙ h)
     ∙ append_assoc (joined_sources before) first rest
 
--- a prefix of bytes is a prefix of equal bytes
-pub front_on : (tokens : List Token) (bytes bytes' : List ℕ) → bytes ≡ bytes'
-    → IsFrontOf (joined_sources tokens) bytes → IsFrontOf (joined_sources tokens) bytes'
-front_on tokens bytes bytes' is h = (h.0, sym is ∙ h.1)
-
 -- if nothing was sent, the tokens are a prefix, whatever the bytes are
 pub none_sent : {T E : Type 0} (result : Result T E) (tokens : List Token) (bytes : List ℕ)
     → OnErr result (IsFrontOf (joined_sources tokens) (joined_sources tokens ++ bytes))
@@ -76,6 +71,12 @@ pub refused : {T E : Type 0} (result : Result T E) (before tokens : List Token) 
     → OnErr result (IsFrontOf (joined_sources tokens) (joined_sources before ++ bytes))
 refused (Ok x) before tokens bytes same = tt
 refused (Err e) before tokens bytes same = unsent before tokens bytes same
+
+-- the same, of a call that sends nothing if it fails
+pub not_sent : {T E : Type 0} (result : Result T E) (before tokens : List Token) (bytes : List ℕ)
+    → OnErr result (tokens ≡ before) → OnErr result (IsFrontOf (joined_sources tokens) (joined_sources before ++ bytes))
+not_sent (Ok x) before tokens bytes same = tt
+not_sent (Err e) before tokens bytes same = unsent before tokens bytes same
 
 -- what always holds, holds after an error
 pub of_err : {T E : Type 0} (result : Result T E) (P : Type 0) → P → OnErr result P

@@ -9,6 +9,7 @@ use tendril::block::Refusal;
 use tendril_queue::TextQueue;
 
 // Appends a text to another one, which becomes the appended text if it was empty.
+#[inline(always)]
 pub(crate) fn append(text: &mut StrTendril, more: StrTendril) -> Result<(), Refusal>
     ensures { OnOk result (text.new.bytes ≡ text.old.bytes ++ more.bytes) }
 {

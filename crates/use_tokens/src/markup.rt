@@ -62,8 +62,9 @@ impl Markup {
             Markup::TagName => in_tag(byte, Markup::TagName),
             Markup::BeforeAttributeName => in_tag(byte, Markup::AttributeName),
             Markup::AttributeName => match byte {
+                _ if byte > b'>' => Some(Markup::AttributeName),
                 b'=' => Some(Markup::BeforeAttributeValue),
-                _ if is_white_space(byte) => Some(Markup::AttributeName),
+                _ if byte.is_ascii_whitespace() => Some(Markup::AttributeName),
                 _ => in_tag(byte, Markup::AttributeName),
             },
             Markup::BeforeAttributeValue => before_attribute_value(byte),
@@ -71,7 +72,7 @@ impl Markup {
             Markup::SingleQuotedValue => until(b'\'', byte, self),
             Markup::UnquotedValue => match byte {
                 b'>' => None,
-                _ if is_white_space(byte) => Some(Markup::BeforeAttributeName),
+                _ if byte.is_ascii_whitespace() => Some(Markup::BeforeAttributeName),
                 _ => Some(Markup::UnquotedValue),
             },
             Markup::SelfClosingTag => in_tag(byte, Markup::AttributeName),
@@ -92,8 +93,9 @@ impl Markup {
     }
 }
 
-fn is_white_space(byte: u8) -> bool {
-    matches!(byte, b'\t' | b'\n' | 0x0c | b'\r' | b' ')
+/// Whether the name of a tag ends before this byte.
+pub fn ends_name(byte: u8) -> bool {
+    matches!(byte, b'/' | b'>') || byte.is_ascii_whitespace()
 }
 
 fn end_tag_open(byte: u8) -> Option<Markup>
@@ -106,14 +108,16 @@ fn end_tag_open(byte: u8) -> Option<Markup>
     }
 }
 
-// Inside a tag, outside values. `other` is the state after a byte that is neither `/`, `>` nor white space.
+// Inside a tag, outside values. `other` is the state after a byte that is neither `/`, `>` nor white space. Most bytes
+// are letters, which are greater than `>`: one comparison decides about them.
 fn in_tag(byte: u8, other: Markup) -> Option<Markup>
     ensures { IfNone result (byte ≡ 62) }
 {
     match byte {
+        _ if byte > b'>' => Some(other),
         b'/' => Some(Markup::SelfClosingTag),
         b'>' => None,
-        _ if is_white_space(byte) => Some(Markup::BeforeAttributeName),
+        _ if byte.is_ascii_whitespace() => Some(Markup::BeforeAttributeName),
         _ => Some(other),
     }
 }
@@ -125,7 +129,7 @@ fn before_attribute_value(byte: u8) -> Option<Markup>
         b'"' => Some(Markup::DoubleQuotedValue),
         b'\'' => Some(Markup::SingleQuotedValue),
         b'>' => None,
-        _ if is_white_space(byte) => Some(Markup::BeforeAttributeValue),
+        _ if byte.is_ascii_whitespace() => Some(Markup::BeforeAttributeValue),
         _ => Some(Markup::UnquotedValue),
     }
 }

@@ -9,8 +9,8 @@ pub enum Kind {
     /// Text outside markup, up to the next `<` or to the end of a text that was sent.
     Text,
     StartTag {
-        name: StrTendril,
         self_closing: bool,
+        name: StrTendril,
     },
     EndTag {
         name: StrTendril,
@@ -48,6 +48,7 @@ pub trait TokenSink: Drop {
 impl TokenSink for Vec<Token> {
     ghost tokens = { λ v. v.items };
 
+    #[inline(always)]
     fn process_token(&mut self, token: Token) -> Result<(), Refusal> {
         self.push(token)?;
         Ok(())

@@ -1,18 +1,19 @@
 //! A sink of texts that splits them into tokens.
-ghost use Rattle.std.specs.Prelude.{◌≡◌, ◌<◌, ◌≤◌, ◌+◌, ◌++◌, [], length, slice_index, IfOk, IsTrue, OnOk, OnErr};
+ghost use Rattle.std.specs.Prelude.{◌≡◌, ◌<◌, ◌≤◌, ◌+◌, ◌++◌, [], length, slice_index};
+ghost use Rattle.std.specs.Prelude.{IfOk, IsFalse, IsTrue, OnOk, OnErr};
 ghost use Rattle.tendril.specs.Fmt.Parts.{IsFrontOf};
-ghost use Rattle.use_tokens.specs.Spelled.{TokensSpell, pending, joined_sources};
+ghost use Rattle.use_tokens.specs.Spelled.{TokensSpell, begun_bytes, joined_sources};
 
 use crate::joined::{append, begun_text, joined};
-use crate::markup::Markup;
+use crate::markup::{Markup, ends_name};
 use crate::state::State;
 use crate::token::{Kind, Token, TokenSink};
 use std::alloc::Global;
 use std::borrow::CowStr;
 use std::mem;
+use tendril::StrTendril;
 use tendril::block::Refusal;
 use tendril::stream::{TendrilSink, Tracks};
-use tendril::{ByteSet, StrTendril};
 use tendril_queue::TextQueue;
 
 /// A sink that splits the texts sent to it into tokens, as the first states of HTML's tokenization do.
@@ -27,7 +28,6 @@ pub struct Tokenizer<K: TokenSink> {
     // What was sent and isn't processed yet.
     input: TextQueue,
     state: State,
-    name_ends: ByteSet,
 }
 
 impl<K: TokenSink> Tokenizer<K> {
@@ -42,7 +42,6 @@ impl<K: TokenSink> Tokenizer<K> {
             alloc,
             input: TextQueue::new(alloc),
             state: State::Outside,
-            name_ends: ByteSet::new(b"\t\n\x0c\r />"),
         }
     }
 
@@ -53,57 +52,89 @@ impl<K: TokenSink> Tokenizer<K> {
         &self.sink
     }
 
-    // Takes the next token or incomplete markup. Returns false and takes nothing if that needs more input.
-    fn take_part(&mut self) -> Result<bool, Refusal>
-        ensures ok { OnOk result (TokensSpell (K.tokens self.old.sink) (pending self.old.state self.old.input)
-            (K.tokens self.new.sink) (pending self.new.state self.new.input)) }
-        ensures shorter { IfOk result (λ more. IsTrue more →
-            length self.new.input.bytes < length self.old.input.bytes) }
+    // Takes the next token or incomplete markup off a text, or off the next one of the input if the text is empty.
+    // Returns false if that needs more input.
+    fn take_part(&mut self, text: &mut StrTendril) -> Result<bool, Refusal>
+        ensures ok { OnOk result (TokensSpell (K.tokens self.old.sink)
+            (begun_bytes self.old.state ++ (text.old.bytes ++ self.old.input.bytes))
+            (K.tokens self.new.sink) (begun_bytes self.new.state ++ (text.new.bytes ++ self.new.input.bytes))) }
+        ensures shorter { IfOk result (λ more. IsTrue more → length text.new.bytes + length self.new.input.bytes
+            < length text.old.bytes + length self.old.input.bytes) }
+        ensures done { IfOk result (λ more. IsFalse more → text.new.bytes ≡ []) }
         ensures err { OnErr result (IsFrontOf (joined_sources (K.tokens self.new.sink))
-            (joined_sources (K.tokens self.old.sink) ++ (pending self.old.state self.old.input))) }
+            (joined_sources (K.tokens self.old.sink)
+            ++ (begun_bytes self.old.state ++ (text.old.bytes ++ self.old.input.bytes)))) }
     {
-        let Some(text) = self.input.pop_front() else {
+        if !self.refill(text) {
             return Ok(false);
-        };
+        }
+        if matches!(&self.state, State::Outside) {
+            return self.take_text(text);
+        }
         match mem::replace(&mut self.state, State::Outside) {
-            State::Outside => self.take_text(text),
+            State::Outside => unreachable!(),
             State::Inside { markup, begun } => self.take_markup(begun, markup, text, 0),
         }
     }
 
+    // Replaces an empty text by the next one of the input. Returns false if there is none.
+    fn refill(&mut self, text: &mut StrTendril) -> bool
+        ensures bytes { text.new.bytes ++ self.new.input.bytes ≡ text.old.bytes ++ self.old.input.bytes }
+        ensures len { length text.new.bytes + length self.new.input.bytes
+            ≡ length text.old.bytes + length self.old.input.bytes }
+        ensures some { IsTrue result → 0 < length text.new.bytes }
+        ensures none { IsFalse result → text.new.bytes ≡ [] }
+        ensures sink { self.new.sink ≡ self.old.sink }
+        ensures state { self.new.state ≡ self.old.state }
+    {
+        if !text.is_empty() {
+            return true;
+        }
+        let Some(next) = self.input.pop_front() else {
+            return false;
+        };
+        *text = next;
+        true
+    }
+
     // Takes the bytes before the next `<` in a text, or what begins with the `<`.
-    fn take_text(&mut self, mut text: StrTendril) -> Result<bool, Refusal>
+    fn take_text(&mut self, text: &mut StrTendril) -> Result<bool, Refusal>
         requires outside { self.old.state ≡ State.Outside }
-        requires some { 0 < length text.bytes }
-        ensures ok { OnOk result (TokensSpell (K.tokens self.old.sink) (text.bytes ++ self.old.input.bytes)
-            (K.tokens self.new.sink) (pending self.new.state self.new.input)) }
-        ensures shorter { IfOk result (λ more. IsTrue more →
-            length self.new.input.bytes < length text.bytes + length self.old.input.bytes) }
+        requires some { 0 < length text.old.bytes }
+        ensures ok { OnOk result (TokensSpell (K.tokens self.old.sink) (text.old.bytes ++ self.old.input.bytes)
+            (K.tokens self.new.sink) (begun_bytes self.new.state ++ (text.new.bytes ++ self.new.input.bytes))) }
+        ensures shorter { IfOk result (λ more. IsTrue more → length text.new.bytes + length self.new.input.bytes
+            < length text.old.bytes + length self.old.input.bytes) }
+        ensures done { IfOk result (λ more. IsFalse more → text.new.bytes ≡ []) }
         ensures err { OnErr result (IsFrontOf (joined_sources (K.tokens self.new.sink))
-            (joined_sources (K.tokens self.old.sink) ++ (text.bytes ++ self.old.input.bytes))) }
+            (joined_sources (K.tokens self.old.sink) ++ (text.old.bytes ++ self.old.input.bytes))) }
     {
         let _is_utf8 = text.as_str();
         match text.find_byte(b'<') {
             Some(0) => self.take_open(text),
             Some(count) => {
                 let front = text.split_to(count)?;
-                self.take_front(front, text)
+                self.send_text(front)
             }
-            None => self.take_front(text, StrTendril::new(self.alloc)),
+            None => {
+                let front = text.take();
+                self.send_text(front)
+            }
         }
     }
 
     // Takes markup, up to its end or that of the text, or only the `<` if it begins no markup.
-    fn take_open(&mut self, mut text: StrTendril) -> Result<bool, Refusal>
+    fn take_open(&mut self, text: &mut StrTendril) -> Result<bool, Refusal>
         requires outside { self.old.state ≡ State.Outside }
-        requires some { 0 < length text.bytes }
-        requires open { slice_index text.bytes 0 ≡ 60 }
-        ensures ok { OnOk result (TokensSpell (K.tokens self.old.sink) (text.bytes ++ self.old.input.bytes)
-            (K.tokens self.new.sink) (pending self.new.state self.new.input)) }
-        ensures shorter { IfOk result (λ more. IsTrue more →
-            length self.new.input.bytes < length text.bytes + length self.old.input.bytes) }
+        requires some { 0 < length text.old.bytes }
+        requires open { slice_index text.old.bytes 0 ≡ 60 }
+        ensures ok { OnOk result (TokensSpell (K.tokens self.old.sink) (text.old.bytes ++ self.old.input.bytes)
+            (K.tokens self.new.sink) (begun_bytes self.new.state ++ (text.new.bytes ++ self.new.input.bytes))) }
+        ensures shorter { IfOk result (λ more. IsTrue more → length text.new.bytes + length self.new.input.bytes
+            < length text.old.bytes + length self.old.input.bytes) }
+        ensures done { IfOk result (λ more. IsFalse more → text.new.bytes ≡ []) }
         ensures err { OnErr result (IsFrontOf (joined_sources (K.tokens self.new.sink))
-            (joined_sources (K.tokens self.old.sink) ++ (text.bytes ++ self.old.input.bytes))) }
+            (joined_sources (K.tokens self.old.sink) ++ (text.old.bytes ++ self.old.input.bytes))) }
     {
         if text.len32() == 1 {
             return self.take_last_open(text);
@@ -112,46 +143,34 @@ impl<K: TokenSink> Tokenizer<K> {
             Some(markup) => self.take_markup(StrTendril::new(self.alloc), markup, text, 2),
             None => {
                 let open = text.split_to(1)?;
-                self.take_front(open, text)
+                self.send_text(open)
             }
         }
     }
 
-    // Takes a `<` at the end of a text, if the next text is there: it decides whether the `<` begins markup.
-    fn take_last_open(&mut self, open: StrTendril) -> Result<bool, Refusal>
+    // Takes a `<` at the end of a text, if the next text is there: it decides whether the `<` begins markup. Else the
+    // `<` returns to the input.
+    fn take_last_open(&mut self, text: &mut StrTendril) -> Result<bool, Refusal>
         requires outside { self.old.state ≡ State.Outside }
-        requires some { 0 < length open.bytes }
-        ensures ok { OnOk result (TokensSpell (K.tokens self.old.sink) (open.bytes ++ self.old.input.bytes)
-            (K.tokens self.new.sink) (pending self.new.state self.new.input)) }
-        ensures shorter { IfOk result (λ more. IsTrue more →
-            length self.new.input.bytes < length open.bytes + length self.old.input.bytes) }
+        requires some { 0 < length text.old.bytes }
+        ensures ok { OnOk result (TokensSpell (K.tokens self.old.sink) (text.old.bytes ++ self.old.input.bytes)
+            (K.tokens self.new.sink) (begun_bytes self.new.state ++ (text.new.bytes ++ self.new.input.bytes))) }
+        ensures shorter { IfOk result (λ more. IsTrue more → length text.new.bytes + length self.new.input.bytes
+            < length text.old.bytes + length self.old.input.bytes) }
+        ensures done { IfOk result (λ more. IsFalse more → text.new.bytes ≡ []) }
         ensures err { OnErr result (IsFrontOf (joined_sources (K.tokens self.new.sink))
-            (joined_sources (K.tokens self.old.sink) ++ (open.bytes ++ self.old.input.bytes))) }
+            (joined_sources (K.tokens self.old.sink) ++ (text.old.bytes ++ self.old.input.bytes))) }
     {
-        let Some(text) = self.input.pop_front() else {
-            self.input.push_front(open)?;
+        let begun = text.take();
+        let Some(next) = self.input.pop_front() else {
+            self.input.push_front(begun)?;
             return Ok(false);
         };
+        *text = next;
         match Markup::opened_by(text.as_byte_slice()[0]) {
-            Some(markup) => self.take_markup(open, markup, text, 1),
-            None => self.take_front(open, text),
+            Some(markup) => self.take_markup(begun, markup, text, 1),
+            None => self.send_text(begun),
         }
-    }
-
-    // Sends `front` as text, and puts `rest` back into the input.
-    fn take_front(&mut self, front: StrTendril, rest: StrTendril) -> Result<bool, Refusal>
-        requires outside { self.old.state ≡ State.Outside }
-        requires some { 0 < length front.bytes }
-        ensures ok { OnOk result (TokensSpell (K.tokens self.old.sink) (front.bytes ++ (rest.bytes ++ self.old.input.bytes))
-            (K.tokens self.new.sink) (pending self.new.state self.new.input)) }
-        ensures shorter { IfOk result (λ more. IsTrue more →
-            length self.new.input.bytes < length front.bytes + (length rest.bytes + length self.old.input.bytes)) }
-        ensures err { OnErr result (IsFrontOf (joined_sources (K.tokens self.new.sink))
-            (joined_sources (K.tokens self.old.sink) ++ (front.bytes ++ (rest.bytes ++ self.old.input.bytes)))) }
-    {
-        self.input.push_front(rest)?;
-        self.send(Kind::Text, front)?;
-        Ok(true)
     }
 
     // Takes markup up to its end or that of the text. `begun` are its bytes in earlier texts. The first `start` bytes
@@ -160,73 +179,39 @@ impl<K: TokenSink> Tokenizer<K> {
         &mut self,
         mut begun: StrTendril,
         markup: Markup,
-        mut text: StrTendril,
+        text: &mut StrTendril,
         start: usize,
     ) -> Result<bool, Refusal>
         requires outside { self.old.state ≡ State.Outside }
-        requires some { 0 < length text.bytes }
-        requires within { start ≤ length text.bytes }
-        ensures ok { OnOk result (TokensSpell (K.tokens self.old.sink) (begun.bytes ++ (text.bytes ++ self.old.input.bytes))
-            (K.tokens self.new.sink) (pending self.new.state self.new.input)) }
-        ensures shorter { IfOk result (λ more. IsTrue more →
-            length self.new.input.bytes < length text.bytes + length self.old.input.bytes) }
+        requires some { 0 < length text.old.bytes }
+        requires within { start ≤ length text.old.bytes }
+        ensures ok { OnOk result (TokensSpell (K.tokens self.old.sink)
+            (begun.bytes ++ (text.old.bytes ++ self.old.input.bytes))
+            (K.tokens self.new.sink) (begun_bytes self.new.state ++ (text.new.bytes ++ self.new.input.bytes))) }
+        ensures shorter { IfOk result (λ more. length text.new.bytes + length self.new.input.bytes
+            < length text.old.bytes + length self.old.input.bytes) }
+        ensures more { IfOk result IsTrue }
         ensures err { OnErr result (IsFrontOf (joined_sources (K.tokens self.new.sink))
-            (joined_sources (K.tokens self.old.sink) ++ (begun.bytes ++ (text.bytes ++ self.old.input.bytes)))) }
+            (joined_sources (K.tokens self.old.sink) ++ (begun.bytes ++ (text.old.bytes ++ self.old.input.bytes)))) }
     {
         match markup.scan(text.as_byte_slice(), start) {
             (last, Some(count)) => {
                 let end = text.split_to(count as u32)?;
-                self.input.push_front(text)?;
                 append(&mut begun, end)?;
-                let kind = self.kind_of(last, &begun)?;
+                let kind = kind_of(last, &begun)?;
                 self.send(kind, begun)?;
             }
             (markup, None) => {
-                append(&mut begun, text)?;
+                append(&mut begun, text.take())?;
                 self.state = State::Inside { markup, begun };
             }
         }
         Ok(true)
     }
 
-    // The kind of markup that was in this state before its last byte.
-    fn kind_of(&self, last: Markup, source: &StrTendril) -> Result<Kind, Refusal> {
-        match last {
-            Markup::EndTagOpen
-            | Markup::DeclarationOpen
-            | Markup::DeclarationDash
-            | Markup::BogusComment => Ok(Kind::Other),
-            Markup::CommentStart
-            | Markup::CommentStartDash
-            | Markup::Comment
-            | Markup::CommentEndDash
-            | Markup::CommentEnd
-            | Markup::CommentEndBang => Ok(Kind::Comment),
-            _ => self.tag(source, last == Markup::SelfClosingTag),
-        }
-    }
-
-    // The kind of a tag.
-    fn tag(&self, source: &StrTendril, self_closing: bool) -> Result<Kind, Refusal> {
-        let mut inside = source.clone()?;
-        if inside.skip_prefix("</") {
-            let name = self.name(inside)?;
-            return Ok(Kind::EndTag { name });
-        }
-        inside.skip_prefix("<");
-        let name = self.name(inside)?;
-        Ok(Kind::StartTag { name, self_closing })
-    }
-
-    // The name of a tag, of which `inside` is what follows `<` or `</`.
-    fn name(&self, mut inside: StrTendril) -> Result<StrTendril, Refusal> {
-        match inside.pop_front_until(&self.name_ends)? {
-            Some(name) => Ok(name),
-            None => Ok(StrTendril::new(self.alloc)),
-        }
-    }
-
-    // Sends a token, unless its source is empty.
+    // Sends a token, unless its source is empty. Inlined, as is what makes a token, so that its words go from registers
+    // to the sink.
+    #[inline(always)]
     fn send(&mut self, kind: Kind, source: StrTendril) -> Result<(), Refusal>
         ensures ok { OnOk result (TokensSpell (K.tokens self.old.sink) source.bytes (K.tokens self.new.sink) []) }
         ensures state { self.new.state ≡ self.old.state }
@@ -238,6 +223,56 @@ impl<K: TokenSink> Tokenizer<K> {
         }
         self.sink.process_token(Token { kind, source })
     }
+
+    // Sends a token of text, and returns true.
+    #[inline(always)]
+    fn send_text(&mut self, source: StrTendril) -> Result<bool, Refusal>
+        ensures ok { OnOk result (TokensSpell (K.tokens self.old.sink) source.bytes (K.tokens self.new.sink) []) }
+        ensures more { IfOk result IsTrue }
+        ensures state { self.new.state ≡ self.old.state }
+        ensures input { self.new.input ≡ self.old.input }
+        ensures err { OnErr result (K.tokens self.new.sink ≡ K.tokens self.old.sink) }
+    {
+        self.send(Kind::Text, source)?;
+        Ok(true)
+    }
+}
+
+// The kind of markup that was in this state before its last byte.
+#[inline(always)]
+fn kind_of(last: Markup, source: &StrTendril) -> Result<Kind, Refusal> {
+    match last {
+        Markup::EndTagOpen
+        | Markup::DeclarationOpen
+        | Markup::DeclarationDash
+        | Markup::BogusComment => Ok(Kind::Other),
+        Markup::CommentStart
+        | Markup::CommentStartDash
+        | Markup::Comment
+        | Markup::CommentEndDash
+        | Markup::CommentEnd
+        | Markup::CommentEndBang => Ok(Kind::Comment),
+        _ => tag(source, last == Markup::SelfClosingTag),
+    }
+}
+
+// The kind of a tag.
+#[inline(always)]
+fn tag(source: &StrTendril, self_closing: bool) -> Result<Kind, Refusal> {
+    if source.as_byte_slice().get(1) == Some(&b'/') {
+        let name = name(source, 2)?;
+        return Ok(Kind::EndTag { name });
+    }
+    let name = name(source, 1)?;
+    Ok(Kind::StartTag { self_closing, name })
+}
+
+// The name of a tag, which begins at the offset `start` of its source.
+#[inline(always)]
+fn name(source: &StrTendril, start: u32) -> Result<StrTendril, Refusal> {
+    let mut inside = source.as_byte_slice().iter().skip(start as usize);
+    let count = inside.position(|byte| ends_name(*byte)).unwrap_or(0);
+    Ok(source.try_subtendril(start, count as u32)?)
 }
 
 impl<K: TokenSink> TendrilSink<StrTendril> for Tokenizer<K> {
@@ -260,7 +295,8 @@ impl<K: TokenSink> TendrilSink<StrTendril> for Tokenizer<K> {
 
     fn process(&mut self, text: StrTendril) -> Result<(), Refusal> {
         self.input.push_back(text)?;
-        'parts: while self.take_part()? {}
+        let mut text = StrTendril::new(self.alloc);
+        'parts: while self.take_part(&mut text)? {}
         Ok(())
     }
 
