@@ -2,9 +2,9 @@
 use Rattle.std.proofs.Common.{◌≡◌, ◌≢◌, ℕ, ◌+◌, ◌<◌, Bool, true, false, List, [], ◌∷◌, ◌++◌, refl, sym}
 use Rattle.std.proofs.Common.{◌∙◌, ap, arith, lt-ltb, eq-eqb, ne_eqb, eqb}
 use seplogic.Ra.Ura.{Ura}
-use base.Logic.{SProp, ent, sep, ex, upd, via, upd_i}
+use base.Logic.{ex, upd, via, upd_i}
 use base.Fml.{Share, Fml, ftrue, fsep, fex, flft, flent}
-use types.Logic.{Logic, sem}
+use types.Logic.{Logic}
 use types.Kit.{‵, raw, ◌⊛◌, given, ◌$◌, ◌∵◌, !, qed, by, move, drop, split, join, fsplit, fjoin, fpick, fpack, pick}
 use types.Kit.{learn, frame, suffices, settle, use1, use2, use3, rewrite, done}
 use types.Kit as Kit
@@ -22,35 +22,17 @@ use mathlib.Core.Logic.{dite}
 use Rattle.tendril_count.proofs.Totals.{joined, up}
 use prog.Atomic.{either}
 use Rattle.tendril_count.specs.Rule.{Role, Reader, roles, role_coded, Threads, join_gives}
-use Rattle.tendril_count.specs.Rule.{IsReached, IsTurn, mark, beside, live, state, Inv}
+use Rattle.tendril_count.specs.Rule.{IsReached, IsTurn, mark, live, state}
 use Rattle.tendril_count.proofs.Reached.{one_more_role, reached_kept}
 use Rattle.tendril_count.proofs.Opening.{now, after_upd, opened, share_alive, turned, shut, reached}
+use Rattle.tendril_count.proofs.Notation.{c, propositions, counted}
 
 module _ {M : Type 1} {𝓤 : Ura M} (𝓛 : Logic 𝓤) (whose : Threads) (limit : ℕ) (P : Fml) (b o a γ : ℕ) where
-  open 𝓛 use {H, A}
-
-  abbrev Pr : Type 2
-  Pr = SProp 𝓤
-
-  abbrev ◌⊢◌ : Pr → Pr → Type 1
-  P ⊢ Q = ent 𝓤 P Q
-
-  abbrev ◌∗◌ : Pr → Pr → Pr
-  P ∗ Q = sep 𝓤 P Q
-
-  abbrev ⟦◌⟧ : Fml → Pr
-  ⟦ P ⟧ = sem 𝓛 P
-
   infix 26 ◌⊢◌
   infixr 35 ◌∗◌
-  abbrev c : Role → base.Stored.Gv
-  c = role_coded.code
-
-  abbrev I : Fml
-  I = Inv c whose limit P b o a γ
-
-  abbrev Beside : Block → Fml
-  Beside = beside c whose limit P b o a γ
+  open 𝓛 use {H, A}
+  open propositions 𝓛 use {Pr, ◌⊢◌, ◌∗◌, ⟦◌⟧}
+  open counted 𝓛 whose limit P b o a γ use {I, Beside}
 
   -- `Add` by compare and exchange of `old`, which is below the limit. A share of the mark is enough
   module _ (low : IsLimit limit) (k t : ℕ) (turn : IsTurn whose t) (r q : Share) (old : ℕ) (lower : old < limit) where

@@ -3,63 +3,33 @@ use Rattle.std.proofs.Common.{◌≡◌, ℕ, ◌<◌, [], ◌∷◌, refl, arit
 use seplogic.Ra.Ura.{Ura}
 use base.Fraction.{full_share}
 use base.Share.{three_quarters}
-use base.Logic.{SProp, ent, sep, guard}
+use base.Logic.{guard}
 use base.Fml.{Fml, ftrue, fsep, flft, fdead, flent}
-use types.Logic.{Logic, sem}
+use types.Logic.{Logic}
 use types.Kit.{‵, ◌⊛◌, given, ◌$◌, ◌∵◌, !, qed, move, drop, split, fsplit, fjoin, fpick, fpack, learn, check, use2}
 use types.Kit.{rewrite, done}
 use types.RcWeak.{part, rest, whole}
 use denote.Steps.{nothing}
 use Rattle.atomic_table.specs.Seated.{word, fact, roster}
-use Rattle.tendril_count.specs.Machine.{Reads, Block, holder_at, held, IsLimit, with_holder}
-use Rattle.tendril_count.specs.Rule.{Role, Reader, roles, role_coded, Threads, IsReached, IsTurn, mark, beside, out}
+use Rattle.tendril_count.specs.Machine.{Reads, Block, holder_at, held, IsLimit}
+use Rattle.tendril_count.specs.Rule.{roles, Threads, IsReached, IsTurn}
+use Rattle.tendril_count.proofs.Notation.{c, propositions, counted, step}
 use Rattle.tendril_count.proofs.Reached.{reached_kept}
 use Rattle.tendril_count.proofs.Opening.{turned}
 
 module _ {M : Type 1} {𝓤 : Ura M} (𝓛 : Logic 𝓤) (whose : Threads) (limit : ℕ) (P : Fml) (b o a γ : ℕ) where
-  open 𝓛 use {A}
-
-  abbrev Pr : Type 2
-  Pr = SProp 𝓤
-
-  abbrev ◌⊢◌ : Pr → Pr → Type 1
-  P ⊢ Q = ent 𝓤 P Q
-
-  abbrev ◌∗◌ : Pr → Pr → Pr
-  P ∗ Q = sep 𝓤 P Q
-
-  abbrev ⟦◌⟧ : Fml → Pr
-  ⟦ P ⟧ = sem 𝓛 P
-
   infix 26 ◌⊢◌
   infixr 35 ◌∗◌
-  abbrev c : Role → base.Stored.Gv
-  c = role_coded.code
-
-  abbrev Beside : Block → Fml
-  Beside = beside c whose limit P b o a γ
+  open 𝓛 use {A}
+  open propositions 𝓛 use {Pr, ◌⊢◌, ◌∗◌, ⟦◌⟧}
+  open counted 𝓛 whose limit P b o a γ use {Beside}
 
   module _ (low : IsLimit limit) (k t : ℕ) (turn : IsTurn whose t) where
-    abbrev Mine : Fml
-    Mine = mark c γ k Reader
-
-    -- the machine after the reference passed to the thread that takes the step
-    abbrev Turned : Block → Block
-    Turned s = with_holder s k (Reads t)
-
-    abbrev Told : Block → Type 0
-    Told s = IsReached whose limit s × (0 < held s) × (holder_at s.holders k ≡ Reads t)
-
-    abbrev Leaves : (Block → Type 0) → ℕ → Fml
-    Leaves Is n = out c whose limit P b o a γ Is n
+    open step 𝓛 whose limit P b o a γ k t use {Mine, Turned, Told, Leaves, Taken}
 
     single : (s : Block) → IsReached whose limit s → 0 < held s → s.word ≡ 1 → held s ≡ 1
     single s is some_held one = let kept = reached_kept whose limit low s is in
         omega (arith, kept.word, one, some_held)
-
-    -- what the step owns apart from the token, with the count n
-    abbrev Taken : Block → ℕ → Pr
-    Taken s n = ⟦ flent (a ∷ []) P ⟧ ∗ (⟦ roster c γ 0 (roles s.holders) ⟧ ∗ (⟦ word b o n ⟧ ∗ ⟦ Mine ⟧))
 
     -- a step that found 1 owns the whole token
     pub gathers : (s : Block) (n : ℕ) → s.word ≡ 1

@@ -1,10 +1,10 @@
 -- The load of `Alone` from a block's count, under its invariant. Assumes `Logic`.
-use Rattle.std.proofs.Common.{◌≡◌, ◌≢◌, ℕ, ◌<◌, Bool, true, false, [], ◌∷◌, refl, ◌∙◌, ap, eq-eqb, if◌then◌else◌}
+use Rattle.std.proofs.Common.{◌≡◌, ◌≢◌, ℕ, Bool, true, false, [], ◌∷◌, refl, ◌∙◌, ap, eq-eqb, if◌then◌else◌}
 use seplogic.Ra.Ura.{Ura}
 use base.Fraction.{full_share}
-use base.Logic.{SProp, ent, sep, upd, via, upd_i}
+use base.Logic.{upd, via, upd_i}
 use base.Fml.{Fml, ftrue, fex, flft, fdead, flent}
-use types.Logic.{Logic, sem}
+use types.Logic.{Logic}
 use types.Kit.{‵, raw, ◌⊛◌, given, later, ◌$◌, ◌∵◌, !, qed, by, move, split, group, fjoin, fpack, learn, frame}
 use types.Kit.{suffices, settle, updating, await, use1, use2, done}
 use types.Kit as Kit
@@ -13,65 +13,26 @@ use types.Owned.{basic}
 use types.RcWeak.{part}
 use denote.RawPtr.{block_ptr}
 use denote.Steps.{nothing}
-use Rattle.core.specs.Sync.RawAtomic.{asks, always, shifted, if_none}
+use Rattle.core.specs.Sync.RawAtomic.{asks, always}
 use Rattle.atomic_table.specs.Seated.{word, roster}
-use Rattle.tendril_count.specs.Machine.{Reads, Writes, Block, Alone, holder_at, held, is_held, IsLimit, with_holder}
-use Rattle.tendril_count.specs.Machine.{alone_by}
+use Rattle.tendril_count.specs.Machine.{Writes, Block, Alone, holder_at, is_held, IsLimit, with_holder, alone_by}
 use native.Mathlib.Decide.{ℕ_discrete}
 use mathlib.Core.Logic.{dite}
-use Rattle.tendril_count.specs.Rule.{Role, Reader, Writer, role, roles, role_coded, Threads, alone_gives, IsReached}
-use Rattle.tendril_count.specs.Rule.{IsTurn, mark, beside, live, state, Inv, out}
+use Rattle.tendril_count.specs.Rule.{Reader, Writer, role, roles, Threads, alone_gives, IsTurn, mark, live, state}
 use Rattle.tendril_count.proofs.Reached.{at_becomes}
 use Rattle.tendril_count.proofs.Opening.{now, ending, opened, part_alive, marked, reached}
 use Rattle.tendril_count.proofs.Emptying.{gathers, goes_out}
+use Rattle.tendril_count.proofs.Notation.{c, propositions, counted, step}
 
 module _ {M : Type 1} {𝓤 : Ura M} (𝓛 : Logic 𝓤) (whose : Threads) (limit : ℕ) (P : Fml) (b o a γ : ℕ) where
-  open 𝓛 use {H, A}
-
-  abbrev Pr : Type 2
-  Pr = SProp 𝓤
-
-  abbrev ◌⊢◌ : Pr → Pr → Type 1
-  P ⊢ Q = ent 𝓤 P Q
-
-  abbrev ◌∗◌ : Pr → Pr → Pr
-  P ∗ Q = sep 𝓤 P Q
-
-  abbrev ⟦◌⟧ : Fml → Pr
-  ⟦ P ⟧ = sem 𝓛 P
-
   infix 26 ◌⊢◌
   infixr 35 ◌∗◌
-  abbrev c : Role → base.Stored.Gv
-  c = role_coded.code
-
-  abbrev I : Fml
-  I = Inv c whose limit P b o a γ
-
-  abbrev Beside : Block → Fml
-  Beside = beside c whose limit P b o a γ
-
-  -- the remainder of a step, with the invariant open
-  abbrev Goes : ℕ → Fml → Pr
-  Goes j Q = shifted 𝓛 (if_none 𝓛 ⟦ Q ⟧) ((j, I) ∷ [])
+  open 𝓛 use {H, A}
+  open propositions 𝓛 use {Pr, ◌⊢◌, ◌∗◌, ⟦◌⟧}
+  open counted 𝓛 whose limit P b o a γ use {I, Beside, Goes}
 
   module _ (low : IsLimit limit) (k t : ℕ) (turn : IsTurn whose t) where
-    abbrev Mine : Fml
-    Mine = mark c γ k Reader
-
-    -- the machine after the reference passed to the thread that takes the step
-    abbrev Turned : Block → Block
-    Turned s = with_holder s k (Reads t)
-
-    abbrev Told : Block → Type 0
-    Told s = IsReached whose limit s × (0 < held s) × (holder_at s.holders k ≡ Reads t)
-
-    abbrev Leaves : (Block → Type 0) → ℕ → Fml
-    Leaves Is n = out c whose limit P b o a γ Is n
-
-    -- what the step owns apart from the token, with the count n
-    abbrev Taken : Block → ℕ → Pr
-    Taken s n = ⟦ flent (a ∷ []) P ⟧ ∗ (⟦ roster c γ 0 (roles s.holders) ⟧ ∗ (⟦ word b o n ⟧ ∗ ⟦ Mine ⟧))
+    open step 𝓛 whose limit P b o a γ k t use {Mine, Turned, Told, Leaves, Taken}
 
     -- the load of `Alone`
     abbrev pub Seen : ℕ → Fml

@@ -3,7 +3,7 @@ use Rattle.std.proofs.Common.{◌≡◌, ℕ, ◌<◌, Bool, true, [], ◌∷◌
 use seplogic.Ra.Ura.{Ura}
 use base.Fraction.{full_share}
 use base.FractionLaws.{Counts-all}
-use base.Logic.{SProp, ent, sep, upd}
+use base.Logic.{ent, upd}
 use base.Fml.{Fml, ftrue, fsep, fex, fbor}
 use types.Logic.{Logic, sem}
 use types.Kit.{‵, raw, ◌⊛◌, some, given, later, ◌$◌, ◌∵◌, !, qed, by, move, keep, drop, split, fsplit, fsplit3, fjoin}
@@ -18,32 +18,19 @@ use Rattle.tendril_count.specs.Machine.{Holder, Reads, Writes, Block, CountStep,
 use Rattle.tendril_count.specs.Machine.{nothing as no_block, holder_at, becomes, with_holder, done_by, is_held, IsLimit}
 use Rattle.tendril_count.specs.Machine as machine
 use Rattle.tendril_count.proofs.Totals.{changed, counts_at}
-use Rattle.tendril_count.specs.Rule.{Role, Reader, Writer, role, roles, role_coded, Threads, IsReached, IsTurn, mark}
+use Rattle.tendril_count.specs.Rule.{Reader, Writer, role, roles, role_coded, Threads, IsReached, IsTurn, mark}
 use Rattle.tendril_count.specs.Rule.{live, state, Inv}
 use Rattle.tendril_count.proofs.Reached.{begun, reached_step, reached_kept}
 use Rattle.tendril_count.proofs.Opening.{marked}
+use Rattle.tendril_count.proofs.Notation.{c, propositions}
 
 -- `R Q` says that Q is kept by an invariant
 module _ {M : Type 1} {𝓤 : Ura M} (𝓛 : Logic 𝓤) (R : Fml → Fml) (keeps : (Q : Fml)
     → ent 𝓤 (sem 𝓛 Q) (𝓛.H.⇛ (sem 𝓛 (R Q)))) (whose : Threads) (limit : ℕ) (P : Fml) (b o : ℕ) where
-  open 𝓛 use {H, A}
-
-  abbrev Pr : Type 2
-  Pr = SProp 𝓤
-
-  abbrev ◌⊢◌ : Pr → Pr → Type 1
-  P ⊢ Q = ent 𝓤 P Q
-
-  abbrev ◌∗◌ : Pr → Pr → Pr
-  P ∗ Q = sep 𝓤 P Q
-
-  abbrev ⟦◌⟧ : Fml → Pr
-  ⟦ P ⟧ = sem 𝓛 P
-
   infix 26 ◌⊢◌
   infixr 35 ◌∗◌
-  abbrev c : Role → base.Stored.Gv
-  c = role_coded.code
+  open 𝓛 use {H, A}
+  open propositions 𝓛 use {Pr, ◌⊢◌, ◌∗◌, ⟦◌⟧}
 
   -- what the only reference owns, by the lifetime a and the ghost name γ, and the borrow of the content P
   abbrev pub first_holder : ℕ → ℕ × ℕ → Fml

@@ -7,17 +7,16 @@ use seplogic.Ra.Ura.{Ura}
 use mir.Syntax.{ty_int}
 use mir.Val.{vint, has_ty, WT}
 use base.Fraction.{full_share}
-use base.Logic.{SProp, ent, sep, wand, ex, all, guard, upd, emp, never, never_e, via, id⊢, apply∗, ex_i, all_e, upd_i}
+use base.Logic.{ex, all, guard, upd, emp, never, never_e, via, id⊢, apply∗, ex_i, all_e, upd_i}
 use base.Fml.{Share, Fml, ftrue, fsep, fex, flft, fdead, flent, finv, fnamed}
-use types.Logic.{Logic, sem}
+use types.Logic.{Logic}
 use types.Kit.{‵, raw, ◌⊛◌, given, ◌$◌, ◌∵◌, !, qed, by, move, drop, split, fsplit, fjoin, fpick, fpack, pick, learn}
 use types.Kit.{show, check, frame, each, assume, suffices, settle, use1, use2, rewrite, done}
 use types.Kit as Kit
 use types.RcWeak.{part, rest}
 use denote.RawPtr.{block_ptr}
 use denote.Steps.{nothing}
-use Rattle.core.specs.Sync.RawAtomic.{Shift, rests, ends, enters, leaves, asks, always, along, shifted, if_none, back}
-use Rattle.core.specs.Sync.RawAtomic.{found}
+use Rattle.core.specs.Sync.RawAtomic.{Shift, rests, ends, enters, leaves, asks, always, along, if_none, back, found}
 use Rattle.atomic_table.specs.Seated.{word, seen, roster}
 use Rattle.atomic_table.proofs.Roster.{Moved, moves}
 use Rattle.tendril_count.specs.Machine.{Holder, Reads, Block, CountStep, holder_at, becomes, held, happens, is_held}
@@ -25,43 +24,18 @@ use Rattle.tendril_count.specs.Machine.{IsLimit, with_holder}
 use Rattle.tendril_count.proofs.Totals.{changed}
 use Rattle.tendril_count.proofs.Parts.{told}
 use Rattle.tendril_count.specs.Rule.{Role, Reader, role, roles, role_coded, Threads, stays}
-use Rattle.tendril_count.specs.Rule.{IsReached, IsTurn, mark, beside, live, state, Inv}
+use Rattle.tendril_count.specs.Rule.{IsReached, IsTurn, mark, live, state}
 use Rattle.tendril_count.proofs.Reached.{found_at, set_is, same_roles, at_becomes, reads_on}
 use Rattle.tendril_count.proofs.Reached.{reached_step, reached_pass, reached_kept}
+use Rattle.tendril_count.proofs.Notation.{c, propositions, counted}
 
 module _ {M : Type 1} {𝓤 : Ura M} (𝓛 : Logic 𝓤) (whose : Threads) (limit : ℕ) (P : Fml) (b o a γ : ℕ) where
-  open 𝓛 use {A}
-
-  abbrev Pr : Type 2
-  Pr = SProp 𝓤
-
-  abbrev ◌⊢◌ : Pr → Pr → Type 1
-  P ⊢ Q = ent 𝓤 P Q
-
-  abbrev ◌∗◌ : Pr → Pr → Pr
-  P ∗ Q = sep 𝓤 P Q
-
-  abbrev ◌-∗◌ : Pr → Pr → Pr
-  P -∗ Q = wand 𝓤 P Q
-
-  abbrev ⟦◌⟧ : Fml → Pr
-  ⟦ P ⟧ = sem 𝓛 P
-
   infix 26 ◌⊢◌
   infixr 35 ◌∗◌
   infixr 30 ◌-∗◌
-  abbrev c : Role → base.Stored.Gv
-  c = role_coded.code
-
-  abbrev I : Fml
-  I = Inv c whose limit P b o a γ
-
-  abbrev Beside : Block → Fml
-  Beside = beside c whose limit P b o a γ
-
-  -- the remainder of a step, with the invariant open
-  abbrev Goes : ℕ → Fml → Pr
-  Goes j Q = shifted 𝓛 (if_none 𝓛 ⟦ Q ⟧) ((j, I) ∷ [])
+  open 𝓛 use {A}
+  open propositions 𝓛 use {Pr, ◌⊢◌, ◌∗◌, ◌-∗◌, ⟦◌⟧}
+  open counted 𝓛 whose limit P b o a γ use {I, Beside, Goes}
 
   pub now : (j : ℕ) (Q : Fml) → ⟦ I ⟧ ∗ ⟦ Q ⟧ ⊢ Goes j Q
   now j Q = let L = (j, I) ∷ [] in let T : Pr = upd 𝓤 ⟦ Q ⟧ in

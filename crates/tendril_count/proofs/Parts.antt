@@ -1,7 +1,7 @@
 -- A share of a mark is split and joined, and agrees with the machine. Assumes `Logic`.
 use Rattle.std.proofs.Common.{◌≡◌, ℕ, zero, suc, ◌+◌, List, [], ◌∷◌, refl, sym, subst, arith}
 use mathlib.Mathlib.Data.Part.{◌∈◌, mem_unique}
-use seplogic.Ra.Pcs.{OpDef-comm}
+use seplogic.Ra.Pcs.{OpDef-comm, OpDef}
 use seplogic.Ra.Ura.{Ura}
 use seplogic.Ra.Constructions.Prod
 use seplogic.Ra.Instances.Ag
@@ -12,36 +12,22 @@ use base.Share.{quarter}
 use base.Stored.{Gv}
 use base.SetCodes.{coded, SetCoded-set}
 use base.Algebras.{pcs, shares}
-use base.Logic.{SProp, ent, sep, ex, guard, via, ex_e, guard_e, guard_i}
+use base.Logic.{ex, guard, via, ex_e, guard_e, guard_i}
 use base.Fml.{Share, Fml}
 use ghost.Rules.{Halves}
-use types.Logic.{Logic, sem}
+use types.Logic.{Logic}
 use types.Keyed.{entry, entries_beside, entry_cut, entry_glue}
 use types.Kit.{‵, ◌⊛◌, given, ◌$◌, ◌∵◌, !, qed, move, split, join, fpick, learn, check, use2, rewrite, done}
-use seplogic.Ra.Pcs.{OpDef}
 use Rattle.atomic_table.specs.Seated.{itself, halved, seen, unused, roster}
 use Rattle.tendril_count.specs.Machine.{Holder, holder_at}
 use Rattle.tendril_count.specs.Rule.{Role, role, roles, role_coded}
+use Rattle.tendril_count.proofs.Notation.{c, propositions}
 
 module _ {M : Type 1} {𝓤 : Ura M} (𝓛 : Logic 𝓤) (γ : ℕ) where
-  open 𝓛 use {H, A}
-
-  abbrev Pr : Type 2
-  Pr = SProp 𝓤
-
-  abbrev ◌⊢◌ : Pr → Pr → Type 1
-  P ⊢ Q = ent 𝓤 P Q
-
-  abbrev ◌∗◌ : Pr → Pr → Pr
-  P ∗ Q = sep 𝓤 P Q
-
-  abbrev ⟦◌⟧ : Fml → Pr
-  ⟦ P ⟧ = sem 𝓛 P
-
   infix 26 ◌⊢◌
   infixr 35 ◌∗◌
-  abbrev c : Role → Gv
-  c = role_coded.code
+  open 𝓛 use {H, A}
+  open propositions 𝓛 use {Pr, ◌⊢◌, ◌∗◌, ⟦◌⟧}
 
   abbrev S : ℕ → Share → Role → Fml
   S k q h = seen c γ k q h

@@ -3,9 +3,9 @@ use Rattle.std.proofs.Common.{◌≡◌, ◌≢◌, ℕ, ◌+◌, ◌-◌, ◌%�
 use seplogic.Ra.Ura.{Ura}
 use base.Fraction.{full_share}
 use base.Share.{three_quarters}
-use base.Logic.{SProp, ent, sep, upd, via, upd_i}
+use base.Logic.{upd, via, upd_i}
 use base.Fml.{Fml, ftrue, fex, flft, fdead, flent}
-use types.Logic.{Logic, sem}
+use types.Logic.{Logic}
 use types.Kit.{‵, raw, ◌⊛◌, given, later, ◌$◌, ◌∵◌, !, qed, by, move, drop, split, group, join, fsplit, fjoin, fpick}
 use types.Kit.{fpack, learn, frame, suffices, settle, updating, await, use1, use2, use3, rewrite, done}
 use types.Kit as Kit
@@ -14,66 +14,28 @@ use types.Owned.{basic}
 use types.RcWeak.{part, rest, gives}
 use denote.RawPtr.{block_ptr}
 use denote.Steps.{nothing}
-use Rattle.core.specs.Sync.RawAtomic.{asks, always, shifted, if_none}
+use Rattle.core.specs.Sync.RawAtomic.{asks, always}
 use Rattle.atomic_table.specs.Seated.{word, roster}
 use Rattle.tendril_count.specs.Machine.{Ended, Reads, Block, Subtract, holder_at, becomes, held, is_held, is_surplus}
-use Rattle.tendril_count.specs.Machine.{IsLimit, subtracted, with_holder, subtract_by}
+use Rattle.tendril_count.specs.Machine.{IsLimit, subtracted, subtract_by}
 use native.Mathlib.Decide.{ℕ_discrete}
 use mathlib.Core.Logic.{dite}
 use Rattle.tendril_count.proofs.Totals.{changed, no_more}
-use Rattle.tendril_count.specs.Rule.{Role, Gone, Reader, role, roles, role_coded, Threads, subtract_gives, IsReached}
-use Rattle.tendril_count.specs.Rule.{IsTurn, mark, beside, state, Inv, out}
+use Rattle.tendril_count.specs.Rule.{Gone, Reader, role, roles, Threads, subtract_gives, IsReached, IsTurn, mark, state}
 use Rattle.tendril_count.proofs.Reached.{last_one, reached_kept}
 use Rattle.tendril_count.proofs.Opening.{after_upd, ending, opened, part_alive, marked, turned, shut, reached}
 use Rattle.tendril_count.proofs.Emptying.{gathers, goes_out}
+use Rattle.tendril_count.proofs.Notation.{c, propositions, counted, step}
 
 module _ {M : Type 1} {𝓤 : Ura M} (𝓛 : Logic 𝓤) (whose : Threads) (limit : ℕ) (P : Fml) (b o a γ : ℕ) where
-  open 𝓛 use {H, A}
-
-  abbrev Pr : Type 2
-  Pr = SProp 𝓤
-
-  abbrev ◌⊢◌ : Pr → Pr → Type 1
-  P ⊢ Q = ent 𝓤 P Q
-
-  abbrev ◌∗◌ : Pr → Pr → Pr
-  P ∗ Q = sep 𝓤 P Q
-
-  abbrev ⟦◌⟧ : Fml → Pr
-  ⟦ P ⟧ = sem 𝓛 P
-
   infix 26 ◌⊢◌
   infixr 35 ◌∗◌
-  abbrev c : Role → base.Stored.Gv
-  c = role_coded.code
-
-  abbrev I : Fml
-  I = Inv c whose limit P b o a γ
-
-  abbrev Beside : Block → Fml
-  Beside = beside c whose limit P b o a γ
-
-  -- the remainder of a step, with the invariant open
-  abbrev Goes : ℕ → Fml → Pr
-  Goes j Q = shifted 𝓛 (if_none 𝓛 ⟦ Q ⟧) ((j, I) ∷ [])
+  open 𝓛 use {H, A}
+  open propositions 𝓛 use {Pr, ◌⊢◌, ◌∗◌, ⟦◌⟧}
+  open counted 𝓛 whose limit P b o a γ use {I, Beside, Goes}
 
   module _ (low : IsLimit limit) (k t : ℕ) (turn : IsTurn whose t) where
-    abbrev Mine : Fml
-    Mine = mark c γ k Reader
-
-    -- the machine after the reference passed to the thread that takes the step
-    abbrev Turned : Block → Block
-    Turned s = with_holder s k (Reads t)
-
-    abbrev Told : Block → Type 0
-    Told s = IsReached whose limit s × (0 < held s) × (holder_at s.holders k ≡ Reads t)
-
-    abbrev Leaves : (Block → Type 0) → ℕ → Fml
-    Leaves Is n = out c whose limit P b o a γ Is n
-
-    -- what the step owns apart from the token, with the count n
-    abbrev Taken : Block → ℕ → Pr
-    Taken s n = ⟦ flent (a ∷ []) P ⟧ ∗ (⟦ roster c γ 0 (roles s.holders) ⟧ ∗ (⟦ word b o n ⟧ ∗ ⟦ Mine ⟧))
+    open step 𝓛 whose limit P b o a γ k t use {Mine, Turned, Told, Leaves, Taken}
 
     -- `Subtract`
     abbrev pub Given : ℕ → Fml
