@@ -1,7 +1,7 @@
 -- Code points split off valid WTF-8, with the units of each, and off units, with the bytes of each.
-use Rattle.std.proofs.Common.{◌≡◌, ℕ, suc, ◌+◌, ◌-◌, ◌*◌, ◌^◌, ◌<◌, ◌≤◌, true, false, List, [], ◌∷◌, ◌++◌, length, take}
+use Rattle.std.proofs.Common.{◌≡◌, ℕ, suc, ◌+◌, ◌-◌, ◌*◌, ◌^◌, ◌%◌, ◌<◌, ◌≤◌, true, false, List, [], ◌∷◌, ◌++◌, length}
 use Rattle.std.proofs.Common.{drop, flat_map, slice_index, Option, None, refl, sym, ap, ap₂, subst, ◌∙◌, arith, ⊎_elim}
-use Rattle.std.proofs.Common.{length-append}
+use Rattle.std.proofs.Common.{take, length-append}
 use Rattle.std.specs.List.{AllByRecursion}
 use Rattle.std.specs.Char.{encode_utf8, len_utf8}
 use Rattle.std.specs.Str.{encode_utf8_all}
@@ -65,12 +65,12 @@ splits_at bytes code count within h =
 
 pub record First (bytes : List ℕ) (a b d e : ℕ) : Type 0 where
   pub one : a < 0x80 → SplitsAt bytes a 1
-  pub second : 0x80 ≤ a → (2 ≤ length bytes) × (0xC0 ≤ a) × (0x80 ≤ b)
-  pub two : 0x80 ≤ a → a < 0xE0 → SplitsAt bytes ((a - 0xC0) * 0x40 + (b - 0x80)) 2
-  pub third : 0xE0 ≤ a → (3 ≤ length bytes) × (0x80 ≤ d)
-  pub three : 0xE0 ≤ a → a < 0xF0 → SplitsAt bytes ((a - 0xE0) * 0x1000 + (b - 0x80) * 0x40 + (d - 0x80)) 3
-  pub fourth : 0xF0 ≤ a → (4 ≤ length bytes) × (0x80 ≤ e)
-  pub four : 0xF0 ≤ a → SplitsAt bytes ((a - 0xF0) * 0x4_0000 + (b - 0x80) * 0x1000 + (d - 0x80) * 0x40 + (e - 0x80)) 4
+  pub second : 0x80 ≤ a → 2 ≤ length bytes
+  pub two : 0x80 ≤ a → a < 0xE0 → SplitsAt bytes (a % 0x20 * 0x40 + b % 0x40) 2
+  pub third : 0xE0 ≤ a → 3 ≤ length bytes
+  pub three : 0xE0 ≤ a → a < 0xF0 → SplitsAt bytes (a % 0x10 * 0x1000 + b % 0x40 * 0x40 + d % 0x40) 3
+  pub fourth : 0xF0 ≤ a → 4 ≤ length bytes
+  pub four : 0xF0 ≤ a → SplitsAt bytes (a % 0x08 * 0x4_0000 + b % 0x40 * 0x1000 + d % 0x40 * 0x40 + e % 0x40) 4
 
 of_one : (a : ℕ) (rest : List ℕ) (b d e : ℕ) → a < 128 → SplitsText (a ∷ rest) a rest → First (a ∷ rest) a b d e
 of_one a rest b d e low h = record {
@@ -87,7 +87,7 @@ of_two : (a b c : ℕ) (rest : List ℕ) (d e : ℕ) → 194 ≤ a → a < 224 �
     → SplitsText (a ∷ b ∷ rest) c rest → First (a ∷ b ∷ rest) a b d e
 of_two a b c rest d e l m f s h = let low = f.0 in record {
   one = λ under. absurd (omega arith);
-  second = λ _. (omega arith, omega arith, omega arith);
+  second = λ _. omega arith;
   two = λ _ _. splits_at (a ∷ b ∷ rest) _ 2 (omega arith)
       (subst (λ c. SplitsText (a ∷ b ∷ rest) c rest) (omega arith) h);
   third = λ high. absurd (omega arith);
@@ -100,9 +100,9 @@ of_three : (a b d c : ℕ) (rest : List ℕ) (e : ℕ) → 224 ≤ a → a < 240
     → c + 925824 ≡ a * 4096 + b * 64 + d → SplitsText (a ∷ b ∷ d ∷ rest) c rest → First (a ∷ b ∷ d ∷ rest) a b d e
 of_three a b d c rest e l m f g s h = let low = f.0 in let last = g.0 in record {
   one = λ under. absurd (omega arith);
-  second = λ _. (omega arith, omega arith, omega arith);
+  second = λ _. omega arith;
   two = λ _ under. absurd (omega arith);
-  third = λ _. (omega arith, omega arith);
+  third = λ _. omega arith;
   three = λ _ _. splits_at (a ∷ b ∷ d ∷ rest) _ 3 (omega arith)
       (subst (λ c. SplitsText (a ∷ b ∷ d ∷ rest) c rest) (omega arith) h);
   fourth = λ high. absurd (omega arith);
@@ -114,11 +114,11 @@ of_four : (a b d e c : ℕ) (rest : List ℕ) → 240 ≤ a → IsContinuation b
     → First (a ∷ b ∷ d ∷ e ∷ rest) a b d e
 of_four a b d e c rest l f g k s h = let low = f.0 in let middle = g.0 in let last = k.0 in record {
   one = λ under. absurd (omega arith);
-  second = λ _. (omega arith, omega arith, omega arith);
+  second = λ _. omega arith;
   two = λ _ under. absurd (omega arith);
-  third = λ _. (omega arith, omega arith);
+  third = λ _. omega arith;
   three = λ _ under. absurd (omega arith);
-  fourth = λ _. (omega arith, omega arith);
+  fourth = λ _. omega arith;
   four = λ _. splits_at (a ∷ b ∷ d ∷ e ∷ rest) _ 4 (omega arith)
       (subst (λ c. SplitsText (a ∷ b ∷ d ∷ e ∷ rest) c rest) (omega arith) h);
 }

@@ -125,15 +125,17 @@ pub(crate) fn split_text(bytes: &[u8]) -> Option<(u32, &[u8])>
     if first < 0x80 {
         return Some((first, &bytes[1..]));
     }
-    let second = bytes[1] as u32 - 0x80;
+    // A remainder keeps the bits that belong to the code point. It is less than a power of two, so the compiler knows
+    // that a code point of two or three bytes is less than 0x1_0000.
+    let second = bytes[1] as u32 % 0x40;
     if first < 0xE0 {
-        return Some(((first - 0xC0) * 0x40 + second, &bytes[2..]));
+        return Some((first % 0x20 * 0x40 + second, &bytes[2..]));
     }
-    let third = bytes[2] as u32 - 0x80;
+    let third = bytes[2] as u32 % 0x40;
     if first < 0xF0 {
-        return Some(((first - 0xE0) * 0x1000 + second * 0x40 + third, &bytes[3..]));
+        return Some((first % 0x10 * 0x1000 + second * 0x40 + third, &bytes[3..]));
     }
-    let fourth = bytes[3] as u32 - 0x80;
-    let code = (first - 0xF0) * 0x4_0000 + second * 0x1000 + third * 0x40 + fourth;
+    let fourth = bytes[3] as u32 % 0x40;
+    let code = first % 0x08 * 0x4_0000 + second * 0x1000 + third * 0x40 + fourth;
     Some((code, &bytes[4..]))
 }

@@ -13,20 +13,10 @@ bounds-bytes-1 c =
     let f = First-holds c.args.bytes.now c.requires (grind (arith, common_steps, c.is_empty.ensures)) in
     omega (arith, f.second c.if-first-lt128.false)
 
-pub overflow_sub-second : goal.overflow_sub-second
-overflow_sub-second c =
-    let f = First-holds c.args.bytes.now c.requires (grind (arith, common_steps, c.is_empty.ensures)) in
-    (f.second c.if-first-lt128.false).2
-
-pub overflow_sub-result : goal.overflow_sub-result
-overflow_sub-result c =
-    let f = First-holds c.args.bytes.now c.requires (grind (arith, common_steps, c.is_empty.ensures)) in
-    (f.second c.if-first-lt128.false).1
-
 pub slice_bounds-result-count-then-first-lt224 : goal.slice_bounds-result-count-then-first-lt224
 slice_bounds-result-count-then-first-lt224 c =
     let f = First-holds c.args.bytes.now c.requires (grind (arith, common_steps, c.is_empty.ensures)) in
-    (f.second c.if-first-lt128.false).0
+    f.second c.if-first-lt128.false
 
 pub slice_bounds-result-start-then-first-lt224 : goal.slice_bounds-result-start-then-first-lt224
 slice_bounds-result-start-then-first-lt224 c =
@@ -43,15 +33,10 @@ bounds-bytes-2 c =
     let f = First-holds c.args.bytes.now c.requires (grind (arith, common_steps, c.is_empty.ensures)) in
     omega (arith, f.third c.if-first-lt224.false)
 
-pub overflow_sub-third : goal.overflow_sub-third
-overflow_sub-third c =
-    let f = First-holds c.args.bytes.now c.requires (grind (arith, common_steps, c.is_empty.ensures)) in
-    (f.third c.if-first-lt224.false).1
-
 pub slice_bounds-result-count-then-first-lt240 : goal.slice_bounds-result-count-then-first-lt240
 slice_bounds-result-count-then-first-lt240 c =
     let f = First-holds c.args.bytes.now c.requires (grind (arith, common_steps, c.is_empty.ensures)) in
-    (f.third c.if-first-lt224.false).0
+    f.third c.if-first-lt224.false
 
 pub slice_bounds-result-start-then-first-lt240 : goal.slice_bounds-result-start-then-first-lt240
 slice_bounds-result-start-then-first-lt240 c =
@@ -68,15 +53,10 @@ bounds-bytes-3 c =
     let f = First-holds c.args.bytes.now c.requires (grind (arith, common_steps, c.is_empty.ensures)) in
     omega (arith, f.fourth c.if-first-lt240.false)
 
-pub overflow_sub-fourth : goal.overflow_sub-fourth
-overflow_sub-fourth c =
-    let f = First-holds c.args.bytes.now c.requires (grind (arith, common_steps, c.is_empty.ensures)) in
-    (f.fourth c.if-first-lt240.false).1
-
 pub slice_bounds-result-count-2 : goal.slice_bounds-result-count-2
 slice_bounds-result-count-2 c =
     let f = First-holds c.args.bytes.now c.requires (grind (arith, common_steps, c.is_empty.ensures)) in
-    (f.fourth c.if-first-lt240.false).0
+    f.fourth c.if-first-lt240.false
 
 pub slice_bounds-result-start-2 : goal.slice_bounds-result-start-2
 slice_bounds-result-start-2 c =
