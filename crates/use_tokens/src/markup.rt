@@ -94,7 +94,7 @@ impl Markup {
 }
 
 /// Whether the name of a tag ends before this byte.
-pub fn ends_name(byte: u8) -> bool {
+pub(crate) fn ends_name(byte: u8) -> bool {
     matches!(byte, b'/' | b'>') || byte.is_ascii_whitespace()
 }
 

@@ -1,5 +1,6 @@
 //! Tokens, and sinks of tokens.
 
+use crate::markup::{Markup, ends_name};
 use tendril::StrTendril;
 use tendril::block::Refusal;
 
@@ -20,6 +21,44 @@ pub enum Kind {
     Other,
     /// Markup that the end of the input cut off.
     Cut,
+}
+
+impl Kind {
+    /// Returns the kind of markup that was in this state before its last byte.
+    #[inline(always)]
+    pub(crate) fn of_markup(last: Markup, source: &StrTendril) -> Result<Self, Refusal> {
+        match last {
+            Markup::EndTagOpen
+            | Markup::DeclarationOpen
+            | Markup::DeclarationDash
+            | Markup::BogusComment => Ok(Kind::Other),
+            Markup::CommentStart
+            | Markup::CommentStartDash
+            | Markup::Comment
+            | Markup::CommentEndDash
+            | Markup::CommentEnd
+            | Markup::CommentEndBang => Ok(Kind::Comment),
+            _ => Self::of_tag(source, last == Markup::SelfClosingTag),
+        }
+    }
+
+    #[inline(always)]
+    fn of_tag(source: &StrTendril, self_closing: bool) -> Result<Self, Refusal> {
+        if source.as_byte_slice().get(1) == Some(&b'/') {
+            let name = tag_name(source, 2)?;
+            return Ok(Kind::EndTag { name });
+        }
+        let name = tag_name(source, 1)?;
+        Ok(Kind::StartTag { self_closing, name })
+    }
+}
+
+// Returns the name of a tag, which begins at the offset `start` of its source.
+#[inline(always)]
+fn tag_name(source: &StrTendril, start: u32) -> Result<StrTendril, Refusal> {
+    let mut inside = source.as_byte_slice().iter().skip(start as usize);
+    let count = inside.position(|byte| ends_name(*byte)).unwrap_or(0);
+    Ok(source.try_subtendril(start, count as u32)?)
 }
 
 /// A token: its kind, and its bytes in the input.

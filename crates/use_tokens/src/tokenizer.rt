@@ -5,7 +5,7 @@ ghost use Rattle.tendril.specs.Fmt.Parts.{IsFrontOf};
 ghost use Rattle.use_tokens.specs.Spelled.{TokensSpell, begun_bytes, joined_sources};
 
 use crate::joined::{append, begun_text, joined};
-use crate::markup::{Markup, ends_name};
+use crate::markup::Markup;
 use crate::state::State;
 use crate::token::{Kind, Token, TokenSink};
 use std::alloc::Global;
@@ -198,7 +198,7 @@ impl<K: TokenSink> Tokenizer<K> {
             (last, Some(count)) => {
                 let end = text.split_to(count as u32)?;
                 append(&mut begun, end)?;
-                let kind = kind_of(last, &begun)?;
+                let kind = Kind::of_markup(last, &begun)?;
                 self.send(kind, begun)?;
             }
             (markup, None) => {
@@ -236,43 +236,6 @@ impl<K: TokenSink> Tokenizer<K> {
         self.send(Kind::Text, source)?;
         Ok(true)
     }
-}
-
-// The kind of markup that was in this state before its last byte.
-#[inline(always)]
-fn kind_of(last: Markup, source: &StrTendril) -> Result<Kind, Refusal> {
-    match last {
-        Markup::EndTagOpen
-        | Markup::DeclarationOpen
-        | Markup::DeclarationDash
-        | Markup::BogusComment => Ok(Kind::Other),
-        Markup::CommentStart
-        | Markup::CommentStartDash
-        | Markup::Comment
-        | Markup::CommentEndDash
-        | Markup::CommentEnd
-        | Markup::CommentEndBang => Ok(Kind::Comment),
-        _ => tag(source, last == Markup::SelfClosingTag),
-    }
-}
-
-// The kind of a tag.
-#[inline(always)]
-fn tag(source: &StrTendril, self_closing: bool) -> Result<Kind, Refusal> {
-    if source.as_byte_slice().get(1) == Some(&b'/') {
-        let name = name(source, 2)?;
-        return Ok(Kind::EndTag { name });
-    }
-    let name = name(source, 1)?;
-    Ok(Kind::StartTag { self_closing, name })
-}
-
-// The name of a tag, which begins at the offset `start` of its source.
-#[inline(always)]
-fn name(source: &StrTendril, start: u32) -> Result<StrTendril, Refusal> {
-    let mut inside = source.as_byte_slice().iter().skip(start as usize);
-    let count = inside.position(|byte| ends_name(*byte)).unwrap_or(0);
-    Ok(source.try_subtendril(start, count as u32)?)
 }
 
 impl<K: TokenSink> TendrilSink<StrTendril> for Tokenizer<K> {
