@@ -1,5 +1,5 @@
 -- The first line of a rope.
-use Rattle.std.proofs.Common.{◌≡◌, ℕ, ◌+◌, ◌≤◌, List, length, take, drop, sym, ap, ◌∙◌, subst, arith}
+use Rattle.std.proofs.Common.{◌≡◌, ℕ, ◌+◌, ◌≤◌, length, take, drop, sym, ap, ◌∙◌, subst, arith}
 use Rattle.std.proofs.lemmas.List.{length-take-le, drop-drop}
 use Rattle.rope_text.specs.Fronts.{CutsLine, LosesPieces}
 use Rattle.rope_text.specs.Ropes.{RopeText}

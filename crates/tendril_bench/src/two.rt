@@ -1,4 +1,4 @@
-//! Decodes two pieces, of which the first may end inside a character.
+//! Decodes two pieces. The first may end inside a character.
 ghost use Rattle.std.specs.Prelude.{◌≡◌, ◌++◌, IfOk};
 ghost use Rattle.tendril.specs.Lossy.{due};
 ghost use Rattle.tendril.specs.Events.{sent};

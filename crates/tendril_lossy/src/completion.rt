@@ -58,7 +58,7 @@ pub enum Completion {
     Open(Encoded),
 }
 
-/// Completes kept bytes from the input, of which it reads at most four bytes. A text or a maximal subpart is the kept
+/// Completes kept bytes from the input. Reads at most four bytes of it. A text or a maximal subpart is the kept
 /// bytes, then the first bytes of the input.
 pub fn complete(kept: &[u8], input: &[u8]) -> Completion
     requires { IsOpen kept.now }

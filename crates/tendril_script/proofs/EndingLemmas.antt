@@ -1,5 +1,5 @@
 use Rattle.std.proofs.Common.{◌≡◌, ℕ, List, [], ◌++◌, Option, None, Some, IfSome, Result, Ok, Err, OnOk, OnErr, IfErr}
-use Rattle.std.proofs.Common.{inl, inr, refl, sym, ◌∙◌, ap, subst, append_assoc, get_or, length, take}
+use Rattle.std.proofs.Common.{inl, inr, refl, sym, ◌∙◌, ap, subst, append_assoc, length, take}
 use Rattle.std.proofs.KnownBytes.{Appends-nil, Appends-trans}
 use Rattle.std.proofs.lemmas.List.{append-nil}
 use Rattle.std.proofs.lemmas.Result.{IfErr-weaker, on_ok_weaker}
@@ -7,9 +7,9 @@ use Rattle.std.proofs.Math.Seq.{take-length}
 use Rattle.std.specs.Io.KnownBytes.{Appends}
 use Rattle.tendril_block.specs.declared.refusal.Refusal.{Refusal}
 use Rattle.tendril_block.specs.declared.refusal.Refusal.TheVariants.{Io, Memory}
-use Rattle.tendril_script.specs.Endings.{EndedBy, EndsProgram, RunEnded, RunStops, WritesFrontOfLines}
+use Rattle.tendril_script.specs.Endings.{EndsProgram, RunEnded, RunStops, WritesFrontOfLines}
 use Rattle.tendril_script.specs.HeldBack.{PrintsLines, PrintsSome}
-use Rattle.tendril_script.specs.Sessions.{LineStops, WritesLines, lines as lines_of}
+use Rattle.tendril_script.specs.Sessions.{WritesLines, lines as lines_of}
 use Rattle.tendril_script.specs.Writing.{AppendsFront, complaint}
 
 -- all of the bytes are a prefix of them

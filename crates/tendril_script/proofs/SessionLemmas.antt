@@ -1,8 +1,8 @@
-use Rattle.std.proofs.Common.{◌≡◌, ℕ, List, [], ◌∷◌, ◌++◌, Option, Some, Result, Ok, Err, OnErr, inl, inr, refl, sym}
+use Rattle.std.proofs.Common.{◌≡◌, ℕ, List, [], ◌∷◌, ◌++◌, Some, Result, Ok, Err, OnErr, inl, inr, refl, sym}
 use Rattle.std.proofs.Common.{◌∙◌, ap, subst, append_assoc, arith, length, ◌<◌}
 use Rattle.std.proofs.lemmas.List.{append-nil}
 use Rattle.tendril_script.specs.Commands.{CommandAnswers}
-use Rattle.tendril_script.specs.Sessions.{LinePrints, LineStops, Session, WritesLine, WritesLines}
+use Rattle.tendril_script.specs.Sessions.{LinePrints, LineStops, Session, WritesLine}
 
 module _ {S : Type 0} (answers : S → List ℕ → List ℕ → S → Type 0) where
   -- a session with one more line is a session

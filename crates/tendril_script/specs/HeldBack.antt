@@ -19,9 +19,9 @@ module _ {S : Type 0} (answers : S → List ℕ → List ℕ → S → Type 0) w
     pub session : Session answers old lines bytes new
     pub passes : Passes before after held bytes left
 
-  -- After an error the first `count` lines have printed. Memory is the error of the next line; what they printed is
-  -- written or held back. Io is the error of a write: nothing is held back, and the end of what they printed may be
-  -- lost.
+  -- After an error the first `count` lines have printed. Memory is the error of the next line; what the first `count`
+  -- printed is written or held back. Io is the error of a write: nothing is held back, and the end of what they printed
+  -- may be lost.
   abbrev pub PrintsSome : S → List (List ℕ) → S → Option (List ℕ) → Option (List ℕ) → List ℕ → List ℕ → Refusal → Type 0
   PrintsSome old lines new before after held left Memory =
       (count : ℕ) × ((mid : S) × (PrintsLines old (take count lines) mid before after held left

@@ -39,7 +39,7 @@ DecodingStops takes refuses old k (Fault words) refusal new =
 abbrev pub Ends : {S O : Type 0} → (S → Sent → S → Type 0) → (S → O → Type 0) → S → List ℕ → O → Type 0
 Ends {S} takes finishes old k out = (last : S) × Feeds takes no_piece old (due k) last × finishes last out
 
--- a `finish` that returned an error: one that came before the sink's own `finish`, or the error of that
+-- a `finish` that returned an error: while it sent what the end adds, or from the sink's own `finish`
 abbrev pub EndStops : {S : Type 0} → (S → Sent → S → Type 0) → (S → Sent → Refusal → S → Type 0)
     → (S → Refusal → Type 0) → S → List ℕ → Refusal → Type 0
 EndStops {S} takes refuses ends old k refusal =

@@ -62,7 +62,8 @@ pub record Feeds {S : Type 0} (takes : S → Sent → S → Type 0) (piece : Tex
 abbrev pub RefusesCall : {S : Type 0} → (S → Sent → Refusal → S → Type 0) → S → Sent → Refusal → S → Type 0
 RefusesCall refuses mid call refusal new = (refusal ≡ SinkRefused) × ((r : Refusal) × refuses mid call r new)
 
--- the sink returned an error for `call`, which sends the first of what is `due`: what of the piece isn't sent yet
+-- the sink returned an error for `call`, which sends a prefix of `due`, the part of the piece's decoding that isn't
+-- sent yet
 pub record SinkRefuses {S : Type 0} (refuses : S → Sent → Refusal → S → Type 0) (piece : Text) (mid : S)
     (due : List Told) (refusal : Refusal) (new : S) : Type 0 where
   pub call : Sent

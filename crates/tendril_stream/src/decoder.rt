@@ -37,7 +37,7 @@ pub struct Utf8LossyDecoder<S: TendrilSink<Tendril<UTF8, A>>, A: Atomicity = Non
     pub inner_sink: S,
     alloc: Global,
     kept: IncompleteUtf8,
-    // Of the piece before: pieces of one stream are alike.
+    // The length of the last text, kept from piece to piece: how far apart faults are changes little within a stream.
     last: LastText,
     failed: bool,
     atomicity: PhantomData<A>,

@@ -21,7 +21,7 @@ const FEW_BEFORE: u32 = 16;
 // After this much text no broken sequence is expected to be near.
 const MANY_BEFORE: u32 = 1024;
 
-// After this much text none is expected in the whole piece.
+// After this much text none is expected in the next 4096 bytes.
 const MOST_BEFORE: u32 = 2048;
 
 const REPLACEMENT: &str = "\u{FFFD}";

@@ -17,7 +17,7 @@ pub(crate) struct PartialRecord {
 }
 
 impl PartialRecord {
-    /// Creates a record of which nothing was read.
+    /// Creates a record without fields.
     pub(crate) fn new(alloc: Global) -> Self
         ensures { partial_bytes result ≡ [] }
     {

@@ -1,7 +1,6 @@
 -- What a tokenizer behind a decoder spells after all was read.
-use Rattle.std.proofs.Common.{◌≡◌, ℕ, Bool, false, List, [], ◌∷◌, ◌++◌, sym, ap, subst, ◌∙◌, append-nil}
+use Rattle.std.proofs.Common.{◌≡◌, ℕ, Bool, false, List, [], ◌++◌, sym, ◌∙◌, append-nil}
 use Rattle.std.specs.Prelude.{encode_utf8_all}
-use Rattle.std.specs.List.{FoldsTo}
 use Rattle.tendril.specs.Lossy.{Told, characters, due}
 use Rattle.tendril.specs.Proofs.Refused.{DecoderTakes, stands_read}
 use Rattle.tendril.specs.Proofs.Stands.{ends_at}

@@ -62,7 +62,7 @@ impl Encoded {
 
 /// A format whose texts are characters, each with an encoding of one to four bytes.
 ///
-/// `Bytes` and `WTF8` are no such formats: bytes alone mean no characters, and a lone surrogate is none.
+/// `Bytes` and `WTF8` aren't: bytes have no characters of their own, and a lone surrogate is not a character.
 pub trait CharFormat: Format {
     ghost use Rattle.std.specs.Prelude.{◌≡◌, ◌≤◌, ℕ, List, [], ◌++◌, length, All, IfSome, IfNone};
     ghost use Rattle.tendril_fmt.specs.Chars.{encodings, IsFirstChar, AreTextsOf};

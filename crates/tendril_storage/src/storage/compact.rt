@@ -6,9 +6,10 @@ use crate::storage::{Held, Storage};
 use tendril_block::{Atomicity, MAX_LEN, Tail};
 
 impl<A: Atomicity> Storage<A> {
-    // Whether so many bytes were popped off the front that a push should first move the others to the start of the
-    // block, or into a new block. A move copies at most half as many bytes as were popped since the last one, so its
-    // cost is amortized. Thus a push of y bytes onto b bytes never needs more capacity than 3 b + 64 + y.
+    // Whether a push should first move the bytes to the start of the block, or into a new block, since the bytes popped
+    // off the front are more than twice as many plus 64. A move copies at most half as many bytes as were popped since
+    // the last one, so its cost is amortized. Thus a push of y bytes onto b bytes never needs more capacity than
+    // 3 b + 64 + y.
     pub(super) fn is_mostly_dropped(&self) -> bool {
         match &self.held {
             Held::Inline { .. } => false,

@@ -114,7 +114,7 @@ impl<A: Atomicity> Storage<A> {
         Ok(Self::viewed(alloc, block))
     }
 
-    /// Returns a view of all bytes of a block, of which this is the only reference.
+    /// Returns a view of all bytes of a block that nothing else refers to.
     pub(crate) fn viewed(alloc: Global, block: A::Block) -> Self
         requires { length (A.bytes_of block) ≤ MAX_LEN }
         ensures bytes { result.bytes ≡ A.bytes_of block }

@@ -86,8 +86,8 @@ impl<A: Atomicity> Storage<A> {
         }
     }
 
-    // Appends `more` to the first `keep` bytes without moving them, and returns whether it did. It does if the block
-    // has no other bytes and no other reference, holds more than `NODE_CAPACITY`, and has the spare capacity: the usual
+    // Appends `more` to the first `keep` bytes without moving them, and returns whether it did. It does if these are all
+    // bytes of the block, it has no other reference, and the bytes are in a vector with the spare capacity: the usual
     // case of a push onto a long text.
     #[tactic(auto, using(crate::proofs::Views::replaces))]
     #[inline(always)]
@@ -161,7 +161,7 @@ impl<A: Atomicity> Storage<A> {
     }
 }
 
-// Appends bytes to a block of exactly `at` bytes, more than `NODE_CAPACITY`, if this is its only reference and it has the spare
+// Appends bytes to a block of exactly `at` bytes, if this is its only reference and they are in a vector with the spare
 // capacity; returns whether it did.
 #[inline(always)]
 fn try_append_in_block<A: Atomicity>(block: &mut A::Block, at: usize, more: &[u8]) -> bool

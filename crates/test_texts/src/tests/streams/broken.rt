@@ -1,4 +1,4 @@
-//! A million bytes, many of which aren't UTF-8.
+//! A million bytes with many faults.
 
 use crate::notes::Notes;
 use std::alloc::Global;
@@ -7,7 +7,7 @@ use tendril::{ByteTendril, StrTendril};
 
 const LEN: u32 = 1_000_000;
 
-// Decodes a million bytes of which every `distance`-th is broken. Returns how many texts are sent, and how many of
+// Decodes a million bytes. Every `distance`-th is broken. Returns how many texts are sent, and how many of
 // these are U+FFFD.
 fn count_texts(alloc: Global, distance: usize) -> (u32, u32) {
     let mut piece: ByteTendril = ByteTendril::new(alloc);

@@ -43,7 +43,7 @@ impl TendrilSink<StrTendril> for Refusing<'_> {
     }
 }
 
-// The result of `calls` calls, of which number `refused` returns an error, if there is one.
+// The result of `calls` calls. Call number `refused` returns an error, if there is such a call.
 fn outcome(refused: u32, calls: u32) -> Result<(), Refusal> {
     if refused == 0 || refused > calls {
         return Ok(());
