@@ -89,6 +89,7 @@ impl Detached {
 impl<A: Atomicity> Storage<A> {
     /// Detaches the bytes from their block. They are moved out of it if this is its only reference and they are all of
     /// its bytes; else they are copied. Returns `Memory` and the storage if the allocation of the copy fails.
+    #[inline(always)]
     pub fn into_detached(self) -> Result<Detached, (Refusal, Self)>
         ensures bytes { IfOk result (λ a. a ≡ self.bytes) }
         ensures refusal { IfErr result (λ e. MemoryMay (length self.bytes) e.0) }
@@ -119,6 +120,7 @@ impl<A: Atomicity> Storage<A> {
 
     // Moves the bytes out of their block if they are all of its bytes and this is its only reference; else returns the
     // storage.
+    #[inline(always)]
     fn into_whole(self) -> Result<Detached, Self>
         requires { INLINE_LEN < length self.bytes }
         ensures bytes { IfOk result (λ a. a ≡ self.bytes) }
@@ -177,6 +179,7 @@ impl<A: Atomicity> Storage<A> {
 
     /// Stores the bytes in a block of this kind, or inline. With the kinds of `tendril_block` it allocates nothing, and
     /// returns no error.
+    #[inline(always)]
     pub fn from_detached(detached: Detached) -> Result<Self, (Refusal, Detached)>
         ensures bytes { IfOk result (λ s. s.bytes ≡ detached) }
         ensures copied { IfOk result (λ s. s.copied ≡ length detached) }

@@ -191,15 +191,6 @@ pub(crate) fn word_of(bytes: &[u8]) -> u64
     }
 }
 
-// `word_of` as a call: inlined, it would keep the constructors of long texts from being inlined.
-#[inline(never)]
-fn call_word_of(bytes: &[u8]) -> u64
-    requires { length bytes.now ≤ INLINE_LEN }
-    ensures { take (length bytes.now) (to_le_bytes w64 result) ≡ bytes.now }
-{
-    word_of(bytes)
-}
-
 // Copies bytes into a buffer, from `at` on.
 fn put(buffer: &mut [u8; 8], at: usize, bytes: &[u8])
     requires { at + length bytes.now ≤ INLINE_LEN }

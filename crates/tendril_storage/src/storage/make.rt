@@ -4,7 +4,7 @@ ghost use Rattle.tendril_block.specs.Outcomes.{MemoryMay};
 ghost use Rattle.tendril_block.specs.Tail.{tail_bytes};
 
 use crate::storage::replace::try_replace_in_block;
-use crate::storage::{Held, Storage, call_word_of, put, put_tail};
+use crate::storage::{Held, Storage, put, put_tail};
 use std::alloc::Global;
 use std::cell::Cell;
 use tendril_block::{Atomicity, INLINE_LEN, MAX_LEN, NODE_CAPACITY, Refusal, Tail};
@@ -32,12 +32,13 @@ impl<A: Atomicity> Storage<A> {
         ensures refusal { IfErr result (MemoryMay (length bytes.items)) }
     {
         if bytes.len() <= INLINE_LEN {
-            return Ok(Self::inline(alloc, bytes.as_slice()));
+            return Ok(Self::few(alloc, bytes.as_slice()));
         }
         Self::in_block(alloc, bytes)
     }
 
     /// Stores a copy of the bytes. Allocates only for more than 8, and returns `Memory` if that fails.
+    #[inline(always)]
     pub fn from_slice(alloc: Global, bytes: &[u8]) -> Result<Self, Refusal>
         requires fits { length bytes.now ≤ MAX_LEN }
         ensures bytes { IfOk result (λ s. s.bytes ≡ bytes.now) }
@@ -45,24 +46,9 @@ impl<A: Atomicity> Storage<A> {
         ensures refusal { IfErr result (MemoryMay (length bytes.now)) }
     {
         if bytes.len() <= INLINE_LEN {
-            return Ok(Self::inline(alloc, bytes));
+            return Ok(Self::few(alloc, bytes));
         }
         Self::copied(alloc, bytes, bytes.len())
-    }
-
-    /// Stores a copy of at most 8 bytes inline. Allocates nothing.
-    pub fn inline(alloc: Global, bytes: &[u8]) -> Self
-        requires fits { length bytes.now ≤ INLINE_LEN }
-        ensures bytes { result.bytes ≡ bytes.now }
-        ensures copied { result.copied ≡ length bytes.now }
-    {
-        Storage {
-            held: Held::Inline {
-                len: bytes.len() as u64,
-                buffer: call_word_of(bytes).to_le_bytes(),
-            },
-            alloc,
-        }
     }
 
     /// Stores a copy of the bytes, with a tail after them. Allocates only for more than 8, and returns `Memory` if that
@@ -104,6 +90,7 @@ impl<A: Atomicity> Storage<A> {
     }
 
     /// Stores a copy of the bytes in a new block of this capacity.
+    #[inline(always)]
     pub(super) fn copied(alloc: Global, bytes: &[u8], capacity: usize) -> Result<Self, Refusal>
         requires fits { length bytes.now ≤ MAX_LEN }
         ensures bytes { IfOk result (λ s. s.bytes ≡ bytes.now) }
@@ -115,6 +102,7 @@ impl<A: Atomicity> Storage<A> {
     }
 
     /// Returns a view of all bytes of a block that nothing else refers to.
+    #[inline(always)]
     pub(crate) fn viewed(alloc: Global, block: A::Block) -> Self
         requires { length (A.bytes_of block) ≤ MAX_LEN }
         ensures bytes { result.bytes ≡ A.bytes_of block }

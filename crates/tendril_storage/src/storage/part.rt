@@ -1,7 +1,7 @@
 //! Slices of stored bytes: up to 8 are copied inline, more are a view of the same block.
-ghost use Rattle.std.specs.Prelude.{◌≡◌, ◌<◌, ◌≤◌, ◌+◌, length, take, drop, IfOk, IfErr, IfSome, OnSome};
+ghost use Rattle.std.specs.Prelude.{◌≡◌, ◌<◌, ◌≤◌, ◌+◌, ◌⊎◌, length, take, drop, IfOk, IfErr, IfSome, OnSome};
 ghost use Rattle.tendril_block.specs.Outcomes.{CountMay};
-ghost use Rattle.tendril_storage.specs.Partings.{TakesFew, TakesFront};
+ghost use Rattle.tendril_storage.specs.Partings.{IsParted, TakesFew, TakesFront};
 
 use crate::storage::{Held, Storage, word_of};
 use std::alloc::Global;
@@ -59,7 +59,7 @@ impl<A: Atomicity> Storage<A> {
         Self::few(self.alloc, &self.as_slice()[start..end])
     }
 
-    /// Stores a copy of at most 8 bytes inline, as `inline` does. It is inlined into the caller: constant bytes are one
+    /// Stores a copy of at most 8 bytes inline. Allocates nothing. It is inlined into the caller: constant bytes are one
     /// word there, with no call.
     #[inline(always)]
     pub fn few(alloc: Global, bytes: &[u8]) -> Self
@@ -157,30 +157,36 @@ impl<A: Atomicity> Storage<A> {
         requires { count ≤ length self.old.bytes }
         ensures { TakesFront count self.old result self.new }
     {
-        // Most pops of characters and runs return here. Inlined, the front stays in registers: words that a call wrote
-        // one by one would be loaded as a pair, which stalls the processor.
+        // The front of a long view is returned in registers: the words of one that a call wrote one by one would be
+        // loaded as a pair, which stalls the processor.
         if let Some(front) = self.take_few(count, 0) {
             return Ok(front);
         }
-        self.take_any(count)
+        if count as usize > INLINE_LEN && (self.len32() - count) as usize > INLINE_LEN {
+            let front = self.view_part(0, count)?;
+            self.skip_in_view(count);
+            return Ok(front);
+        }
+        Ok(self.take_with_few(count))
     }
 
-    // Removes the first `count` bytes, many or few.
+    // Removes the first `count` bytes, if they or those after them are at most 8.
     #[inline(never)]
-    fn take_any(&mut self, count: u32) -> Result<Self, Refusal>
-        requires { count ≤ length self.old.bytes }
-        ensures { TakesFront count self.old result self.new }
+    fn take_with_few(&mut self, count: u32) -> Self
+        requires within { count ≤ length self.old.bytes }
+        requires few { (count ≤ INLINE_LEN) ⊎ (length self.old.bytes ≤ INLINE_LEN + count) }
+        ensures { IsParted count self.old result self.new }
     {
         let rest = self.len32() - count;
         if count as usize <= INLINE_LEN {
             let front = self.inline_part(0, count);
             self.keep_part(count, rest);
-            return Ok(front);
+            return front;
         }
-        let end = self.part(count, rest)?;
+        let end = self.inline_part(count, rest);
         let mut front = mem::replace(self, end);
         front.keep_part(0, count);
-        Ok(front)
+        front
     }
 
     /// Removes the first `count` bytes of a view and returns them, and drops the next `skip`, if `count` is at most 8

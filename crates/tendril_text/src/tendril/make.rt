@@ -69,6 +69,7 @@ impl<F: Format, A: Atomicity> Tendril<F, A> {
     /// Returns a text with a copy of the bytes, which the caller proves to be valid in the format.
     ///
     /// Returns `TooLong` if there are more than 4294967295, else `Memory` if an allocation fails.
+    #[inline(always)]
     pub fn from_byte_slice_without_validating(alloc: Global, bytes: &[u8]) -> Result<Self, Refusal>
         requires { F.valid bytes.now }
         ensures { MakesText bytes.now result }
@@ -92,6 +93,7 @@ impl<F: Format, A: Atomicity> Tendril<F, A> {
     /// let copy = text.clone()?;
     /// assert_eq!(rt; copy.as_str(), "shared by both");
     /// ```
+    #[inline(always)]
     pub fn clone(&self) -> Result<Self, Refusal>
         ensures { Clones self.now.bytes result }
     {
@@ -142,6 +144,7 @@ impl<A: Atomicity> Tendril<Bytes, A> {
     /// let text = ByteTendril::from_slice(alloc, b"\xFF\x00")?;
     /// assert_eq!(rt; text.as_byte_slice(), b"\xFF\x00".as_slice());
     /// ```
+    #[inline(always)]
     pub fn from_slice(alloc: Global, bytes: &[u8]) -> Result<Self, Refusal>
         ensures { MakesText bytes.now result }
     {
@@ -159,6 +162,7 @@ impl<A: Atomicity> Tendril<UTF8, A> {
     /// let text = StrTendril::from_slice(alloc, "a copy of the string")?;
     /// assert_eq!(rt; text.as_str(), "a copy of the string");
     /// ```
+    #[inline(always)]
     pub fn from_slice(alloc: Global, text: &str) -> Result<Self, Refusal>
         ensures { MakesText text.now result }
     {
@@ -251,6 +255,7 @@ pub fn slice_to_tendril(alloc: Global, bytes: &[u8]) -> Result<ByteTendril, Refu
 }
 
 /// Returns a text of stored bytes, which are valid in the format. More than 8 bytes are shared.
+#[inline(always)]
 pub(crate) fn share<F: Format, A: Atomicity>(storage: &Storage<A>) -> Result<Tendril<F, A>, Refusal>
     requires { F.valid storage.now.bytes }
     ensures { Clones storage.now.bytes result }

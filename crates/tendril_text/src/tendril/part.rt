@@ -125,6 +125,7 @@ impl<F: Format, A: Atomicity> Tendril<F, A> {
     }
 
     // `split_to`, with `Refusal` as the type of its error.
+    #[inline(always)]
     pub(crate) fn take_front(&mut self, count: u32) -> Result<Self, Refusal>
         requires within { count ≤ length self.old.bytes }
         requires front_valid { F.valid (take count self.old.bytes) }

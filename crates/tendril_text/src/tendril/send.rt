@@ -56,6 +56,7 @@ impl<F: Format, A: Atomicity> Tendril<F, A> {
     /// let text = StrTendril::from_send(sent).ok();
     /// assert_eq!(rt; text.is_some_and(|text| text.eq_str("to another thread")), true);
     /// ```
+    #[inline(always)]
     pub fn into_send(self) -> Result<SendTendril<F>, (Refusal, Self)>
         ensures bytes { IfOk result (λ t. t ≡ self.bytes) }
         ensures refusal { IfErr result (λ e. MemoryMay (length self.bytes) e.0) }
@@ -78,6 +79,7 @@ impl<F: Format, A: Atomicity> Tendril<F, A> {
     /// let text = Tendril::<UTF8, Atomic>::from_send(sent).ok();
     /// assert_eq!(rt; text.is_some_and(|text| text.eq_str("from another thread")), true);
     /// ```
+    #[inline(always)]
     pub fn from_send(text: SendTendril<F>) -> Result<Self, (Refusal, SendTendril<F>)>
         ensures bytes { IfOk result (λ t. t.bytes ≡ text) }
         ensures copied { IfOk result (λ t. t.copied ≡ length text) }
