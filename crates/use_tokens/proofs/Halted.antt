@@ -15,7 +15,7 @@ use Rattle.tendril.specs.Reads.{OneRead, given}
 use Rattle.tendril.specs.SentBytes.{sent_bytes, told_bytes}
 use Rattle.tendril.specs.Sinks.{Sent, IsSent, told_of}
 use Rattle.use_tokens.proofs.Whole.{After, Takes, goes_on}
-use Rattle.use_tokens.specs.Spelled.{joined_sources}
+use Rattle.use_tokens.specs.Spelled.{TokensSpellPrefix, joined_sources}
 use Rattle.use_tokens.specs.declared.token.Token.{Token}
 
 -- the bytes of what was sent, and of more
@@ -28,7 +28,7 @@ bytes-append start t more =
 
 module _ {S : Type 0} (tokens : S → List Token) (left : S → List ℕ) (start : List ℕ) where
   abbrev pub Refuses : S → Sent → Refusal → S → Type 0
-  Refuses a e r b = IsFrontOf (joined_sources (tokens b)) (joined_sources (tokens a) ++ (left a ++ sent_bytes e))
+  Refuses a e r b = TokensSpellPrefix (tokens a) (left a ++ sent_bytes e) (tokens b)
 
   -- after the bytes `start`, it has spelled a prefix of this
   abbrev pub Front : S → List Told → Type 0

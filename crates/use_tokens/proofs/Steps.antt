@@ -4,9 +4,8 @@ use Rattle.std.proofs.Common.{arith, append_assoc, append-nil, IsUtf8, slice_ind
 use Rattle.std.proofs.lemmas.Bool.{eqb-true}
 use Rattle.std.proofs.lemmas.Str.{IsCharBoundary-after_ascii, IsCharBoundary-before_ascii, IsUtf8-drop, IsUtf8-take}
 use Rattle.tendril.specs.Find.{NoneBefore, Passes, is_byte}
-use Rattle.tendril.specs.Fmt.Parts.{IsFrontOf}
 use Rattle.use_tokens.specs.Ends.{EndsAt}
-use Rattle.use_tokens.specs.Spelled.{TokensSpell, joined_sources}
+use Rattle.use_tokens.specs.Spelled.{TokensSpell, TokensSpellPrefix, joined_sources}
 use Rattle.use_tokens.specs.declared.token.Token.{Token}
 
 -- UTF-8 that is cut before or after an ASCII byte
@@ -51,8 +50,7 @@ sent before tokens source held left bytes h none is =
     ∙ ap (λ l. joined_sources before ++ l) is
 
 -- nothing is sent
-pub unsent : (before tokens : List Token) (bytes : List ℕ) → tokens ≡ before
-    → IsFrontOf (joined_sources tokens) (joined_sources before ++ bytes)
+pub unsent : (before tokens : List Token) (bytes : List ℕ) → tokens ≡ before → TokensSpellPrefix before bytes tokens
 unsent before tokens bytes is = (bytes, ap (λ t. joined_sources t ++ bytes) (sym is))
 
 -- what follows a token that was sent
@@ -63,18 +61,18 @@ behind before mid first rest h = ap (λ l. l ++ rest) (sym (append-nil (joined_s
 
 -- if nothing was sent, the tokens are a prefix, whatever the bytes are
 pub none_sent : {T E : Type 0} (result : Result T E) (tokens : List Token) (bytes : List ℕ)
-    → OnErr result (IsFrontOf (joined_sources tokens) (joined_sources tokens ++ bytes))
+    → OnErr result (TokensSpellPrefix tokens bytes tokens)
 none_sent (Ok x) tokens bytes = tt
 none_sent (Err e) tokens bytes = (bytes, refl)
 
 pub refused : {T E : Type 0} (result : Result T E) (before tokens : List Token) (bytes : List ℕ) → tokens ≡ before
-    → OnErr result (IsFrontOf (joined_sources tokens) (joined_sources before ++ bytes))
+    → OnErr result (TokensSpellPrefix before bytes tokens)
 refused (Ok x) before tokens bytes same = tt
 refused (Err e) before tokens bytes same = unsent before tokens bytes same
 
 -- the same, of a call that sends nothing if it fails
 pub not_sent : {T E : Type 0} (result : Result T E) (before tokens : List Token) (bytes : List ℕ)
-    → OnErr result (tokens ≡ before) → OnErr result (IsFrontOf (joined_sources tokens) (joined_sources before ++ bytes))
+    → OnErr result (tokens ≡ before) → OnErr result (TokensSpellPrefix before bytes tokens)
 not_sent (Ok x) before tokens bytes same = tt
 not_sent (Err e) before tokens bytes same = unsent before tokens bytes same
 

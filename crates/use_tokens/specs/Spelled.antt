@@ -1,5 +1,6 @@
 -- The bytes that tokens spell.
 use Rattle.std.specs.Prelude.{ℕ, ◌≡◌, List, [], ◌++◌, flat_map}
+use Rattle.tendril.specs.Fmt.Parts.{IsFrontOf}
 use Rattle.tendril_queue.specs.Queues.{Queued}
 use Rattle.use_tokens.specs.declared.state.State.{State}
 use Rattle.use_tokens.specs.declared.state.State.TheVariants.{Outside, Inside}
@@ -13,6 +14,10 @@ joined_sources tokens = flat_map (λ token. token.source.bytes) tokens
 abbrev pub TokensSpell : List Token → List ℕ → List Token → List ℕ → Type 0
 TokensSpell before bytes tokens left = joined_sources tokens ++ left ≡ joined_sources before ++ bytes
 
+-- what holds after an error: the sources of all tokens are a prefix of those of `before` and the bytes
+abbrev pub TokensSpellPrefix : List Token → List ℕ → List Token → Type 0
+TokensSpellPrefix before bytes tokens = IsFrontOf (joined_sources tokens) (joined_sources before ++ bytes)
+
 -- the bytes of incomplete markup
 abbrev pub begun_bytes : State → List ℕ
 begun_bytes Outside = []
@@ -21,3 +26,7 @@ begun_bytes (Inside markup begun) = begun.bytes
 -- the pending bytes: those of incomplete markup, and of texts that aren't processed yet
 abbrev pub pending : State → Queued → List ℕ
 pending state input = begun_bytes state ++ input.bytes
+
+-- the pending bytes while a text is split: of incomplete markup, of the rest of that text, and of those after it
+abbrev pub untaken : State → List ℕ → Queued → List ℕ
+untaken state text input = begun_bytes state ++ (text ++ input.bytes)

@@ -1,11 +1,10 @@
 //! Reads all tokens of a reader.
 ghost use Rattle.std.specs.Prelude.{◌≡◌, ◌≤◌, ◌++◌, List, length, encode_utf8_all, IfErr, IfOk, IfSome};
 ghost use Rattle.std.specs.Io.KnownBytes.{IsAtEnd};
-ghost use Rattle.tendril.specs.Fmt.Parts.{IsFrontOf};
 ghost use Rattle.tendril.specs.Lossy.{characters, due};
 ghost use Rattle.tendril.specs.Readings.{MakesReads};
 ghost use Rattle.tendril.specs.Reads.{OneRead, CameToEnd, StopsWith, given};
-ghost use Rattle.use_tokens.specs.Spelled.{joined_sources};
+ghost use Rattle.use_tokens.specs.Spelled.{TokensSpellPrefix, joined_sources};
 
 use crate::token::TokenSink;
 use crate::tokenizer::Tokenizer;
@@ -28,8 +27,8 @@ pub fn tokenize<K: TokenSink, R: CountedRead>(
         × (joined_sources (K.tokens out) ≡ joined_sources (K.tokens sink) ++ encode_utf8_all (characters (due (given these))))
         × StopsWith CameToEnd these × (length these ≤ max_reads)) }
     ensures stopped { IfErr result (λ s. (these : List OneRead) × MakesReads R.history R.remaining reader.old these reader.new
-        × IfSome s.sink (λ d. IsFrontOf (joined_sources (K.tokens d.inner_sink.sink))
-        (joined_sources (K.tokens sink) ++ encode_utf8_all (characters (due (given these)))))) }
+        × IfSome s.sink (λ d. TokensSpellPrefix (K.tokens sink) (encode_utf8_all (characters (due (given these))))
+        (K.tokens d.inner_sink.sink))) }
 {
     let decoder = Utf8LossyDecoder::new(alloc, Tokenizer::new(alloc, sink));
     read_decoded(alloc, decoder, reader, max_reads)

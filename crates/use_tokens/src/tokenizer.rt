@@ -1,8 +1,7 @@
 //! A sink of texts that splits them into tokens.
 ghost use Rattle.std.specs.Prelude.{◌≡◌, ◌<◌, ◌≤◌, ◌+◌, ◌++◌, [], length, slice_index};
 ghost use Rattle.std.specs.Prelude.{IfOk, IsFalse, IsTrue, OnOk, OnErr};
-ghost use Rattle.tendril.specs.Fmt.Parts.{IsFrontOf};
-ghost use Rattle.use_tokens.specs.Spelled.{TokensSpell, begun_bytes, joined_sources};
+ghost use Rattle.use_tokens.specs.Spelled.{TokensSpell, TokensSpellPrefix, untaken};
 
 use crate::joined::{append, begun_text, joined};
 use crate::markup::Markup;
@@ -56,14 +55,13 @@ impl<K: TokenSink> Tokenizer<K> {
     // Returns false if that needs more input.
     fn take_part(&mut self, text: &mut StrTendril) -> Result<bool, Refusal>
         ensures ok { OnOk result (TokensSpell (K.tokens self.old.sink)
-            (begun_bytes self.old.state ++ (text.old.bytes ++ self.old.input.bytes))
-            (K.tokens self.new.sink) (begun_bytes self.new.state ++ (text.new.bytes ++ self.new.input.bytes))) }
+            (untaken self.old.state text.old.bytes self.old.input)
+            (K.tokens self.new.sink) (untaken self.new.state text.new.bytes self.new.input)) }
         ensures shorter { IfOk result (λ more. IsTrue more → length text.new.bytes + length self.new.input.bytes
             < length text.old.bytes + length self.old.input.bytes) }
         ensures done { IfOk result (λ more. IsFalse more → text.new.bytes ≡ []) }
-        ensures err { OnErr result (IsFrontOf (joined_sources (K.tokens self.new.sink))
-            (joined_sources (K.tokens self.old.sink)
-            ++ (begun_bytes self.old.state ++ (text.old.bytes ++ self.old.input.bytes)))) }
+        ensures err { OnErr result (TokensSpellPrefix (K.tokens self.old.sink)
+            (untaken self.old.state text.old.bytes self.old.input) (K.tokens self.new.sink)) }
     {
         if !self.refill(text) {
             return Ok(false);
@@ -102,12 +100,12 @@ impl<K: TokenSink> Tokenizer<K> {
         requires outside { self.old.state ≡ State.Outside }
         requires some { 0 < length text.old.bytes }
         ensures ok { OnOk result (TokensSpell (K.tokens self.old.sink) (text.old.bytes ++ self.old.input.bytes)
-            (K.tokens self.new.sink) (begun_bytes self.new.state ++ (text.new.bytes ++ self.new.input.bytes))) }
+            (K.tokens self.new.sink) (untaken self.new.state text.new.bytes self.new.input)) }
         ensures shorter { IfOk result (λ more. IsTrue more → length text.new.bytes + length self.new.input.bytes
             < length text.old.bytes + length self.old.input.bytes) }
         ensures done { IfOk result (λ more. IsFalse more → text.new.bytes ≡ []) }
-        ensures err { OnErr result (IsFrontOf (joined_sources (K.tokens self.new.sink))
-            (joined_sources (K.tokens self.old.sink) ++ (text.old.bytes ++ self.old.input.bytes))) }
+        ensures err { OnErr result (TokensSpellPrefix (K.tokens self.old.sink) (text.old.bytes ++ self.old.input.bytes)
+            (K.tokens self.new.sink)) }
     {
         let _is_utf8 = text.as_str();
         match text.find_byte(b'<') {
@@ -129,12 +127,12 @@ impl<K: TokenSink> Tokenizer<K> {
         requires some { 0 < length text.old.bytes }
         requires open { slice_index text.old.bytes 0 ≡ 60 }
         ensures ok { OnOk result (TokensSpell (K.tokens self.old.sink) (text.old.bytes ++ self.old.input.bytes)
-            (K.tokens self.new.sink) (begun_bytes self.new.state ++ (text.new.bytes ++ self.new.input.bytes))) }
+            (K.tokens self.new.sink) (untaken self.new.state text.new.bytes self.new.input)) }
         ensures shorter { IfOk result (λ more. IsTrue more → length text.new.bytes + length self.new.input.bytes
             < length text.old.bytes + length self.old.input.bytes) }
         ensures done { IfOk result (λ more. IsFalse more → text.new.bytes ≡ []) }
-        ensures err { OnErr result (IsFrontOf (joined_sources (K.tokens self.new.sink))
-            (joined_sources (K.tokens self.old.sink) ++ (text.old.bytes ++ self.old.input.bytes))) }
+        ensures err { OnErr result (TokensSpellPrefix (K.tokens self.old.sink) (text.old.bytes ++ self.old.input.bytes)
+            (K.tokens self.new.sink)) }
     {
         if text.len32() == 1 {
             return self.take_last_open(text);
@@ -154,12 +152,12 @@ impl<K: TokenSink> Tokenizer<K> {
         requires outside { self.old.state ≡ State.Outside }
         requires some { 0 < length text.old.bytes }
         ensures ok { OnOk result (TokensSpell (K.tokens self.old.sink) (text.old.bytes ++ self.old.input.bytes)
-            (K.tokens self.new.sink) (begun_bytes self.new.state ++ (text.new.bytes ++ self.new.input.bytes))) }
+            (K.tokens self.new.sink) (untaken self.new.state text.new.bytes self.new.input)) }
         ensures shorter { IfOk result (λ more. IsTrue more → length text.new.bytes + length self.new.input.bytes
             < length text.old.bytes + length self.old.input.bytes) }
         ensures done { IfOk result (λ more. IsFalse more → text.new.bytes ≡ []) }
-        ensures err { OnErr result (IsFrontOf (joined_sources (K.tokens self.new.sink))
-            (joined_sources (K.tokens self.old.sink) ++ (text.old.bytes ++ self.old.input.bytes))) }
+        ensures err { OnErr result (TokensSpellPrefix (K.tokens self.old.sink) (text.old.bytes ++ self.old.input.bytes)
+            (K.tokens self.new.sink)) }
     {
         let begun = text.take();
         let Some(next) = self.input.pop_front() else {
@@ -187,12 +185,12 @@ impl<K: TokenSink> Tokenizer<K> {
         requires within { start ≤ length text.old.bytes }
         ensures ok { OnOk result (TokensSpell (K.tokens self.old.sink)
             (begun.bytes ++ (text.old.bytes ++ self.old.input.bytes))
-            (K.tokens self.new.sink) (begun_bytes self.new.state ++ (text.new.bytes ++ self.new.input.bytes))) }
+            (K.tokens self.new.sink) (untaken self.new.state text.new.bytes self.new.input)) }
         ensures shorter { IfOk result (λ more. length text.new.bytes + length self.new.input.bytes
             < length text.old.bytes + length self.old.input.bytes) }
         ensures more { IfOk result IsTrue }
-        ensures err { OnErr result (IsFrontOf (joined_sources (K.tokens self.new.sink))
-            (joined_sources (K.tokens self.old.sink) ++ (begun.bytes ++ (text.old.bytes ++ self.old.input.bytes)))) }
+        ensures err { OnErr result (TokensSpellPrefix (K.tokens self.old.sink)
+            (begun.bytes ++ (text.old.bytes ++ self.old.input.bytes)) (K.tokens self.new.sink)) }
     {
         match markup.scan(text.as_byte_slice(), start) {
             (last, Some(count)) => {
@@ -240,17 +238,16 @@ impl<K: TokenSink> Tokenizer<K> {
 
 impl<K: TokenSink> TendrilSink<StrTendril> for Tokenizer<K> {
     ghost use Rattle.std.specs.Prelude.{◌<◌, ◌++◌, [], length};
-    ghost use Rattle.tendril.specs.Fmt.Parts.{IsFrontOf};
     ghost use Rattle.tendril.specs.SentBytes.{sent_bytes};
-    ghost use Rattle.use_tokens.specs.Spelled.{TokensSpell, pending, joined_sources};
+    ghost use Rattle.use_tokens.specs.Spelled.{TokensSpell, TokensSpellPrefix, pending};
 
     type Output = K;
 
     ghost takes = { λ a e b. TokensSpell (K.tokens a.sink) (pending a.state a.input ++ sent_bytes e)
         (K.tokens b.sink) (pending b.state b.input) };
 
-    ghost refuses = { λ a e r b. IsFrontOf (joined_sources (K.tokens b.sink))
-        (joined_sources (K.tokens a.sink) ++ (pending a.state a.input ++ sent_bytes e)) };
+    ghost refuses = { λ a e r b. TokensSpellPrefix (K.tokens a.sink) (pending a.state a.input ++ sent_bytes e)
+        (K.tokens b.sink) };
 
     ghost finishes = { λ a out. TokensSpell (K.tokens a.sink) (pending a.state a.input) (K.tokens out) [] };
 
