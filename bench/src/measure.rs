@@ -3,7 +3,10 @@
 
 use crate::port::Port;
 use std::hint::black_box;
-use std::time::Instant;
+use std::time::{Duration, Instant};
+
+/// How long a contender runs untimed, at least, before each timed run.
+const WARM_UP: Duration = Duration::from_millis(20);
 
 /// What a workload's figures are given in.
 #[derive(Clone, Copy)]
@@ -130,14 +133,25 @@ impl<'a> Workload<'a> {
         for turn in 0..rounds * count {
             // Each round starts at another contender.
             let at = (turn + turn / count) % count;
-            // Not counted: it leaves the heap as this contender does, and not as the one before did.
-            self.time(at);
+            self.warm_up(at);
             times[at].push(self.time(at));
         }
         self.print(&times);
     }
 
-    /// Runs each contender once, to see that it does the work; that warms the caches too.
+    /// Runs a contender untimed, at least once, so that the timed run finds the heap and the caches
+    /// as its own runs leave them.
+    fn warm_up(&mut self, at: usize) {
+        let start = Instant::now();
+        loop {
+            self.time(at);
+            if start.elapsed() >= WARM_UP {
+                return;
+            }
+        }
+    }
+
+    /// Runs each contender once, to see that it does the work.
     fn compare_answers(&mut self) {
         let mut wanted = None;
         for it in &mut self.contenders {
