@@ -21,6 +21,8 @@ pub use Rattle.tendril.specs.Making
 pub use Rattle.tendril.specs.Parts as TextParts
 pub use Rattle.tendril.specs.Sinks
 pub use Rattle.tendril.specs.Events
+pub use Rattle.tendril.specs.Decodings
+pub use Rattle.tendril.specs.Utf8Laws
 pub use Rattle.tendril.specs.Decoders
 pub use Rattle.tendril.specs.Compositions
 pub use Rattle.tendril.specs.Reads

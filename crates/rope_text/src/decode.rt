@@ -6,6 +6,7 @@ ghost use Rattle.rope_text.specs.Sink.{HasCharacters};
 ghost use Rattle.tendril_text.specs.Texts.{Text};
 ghost use Rattle.tendril_lossy.specs.Lossy.{characters, due};
 ghost use Rattle.tendril_stream.specs.Compositions.{PiecesStop, StandsAt, StreamStops};
+ghost use Rattle.tendril_stream.specs.Decodings.{utf8};
 ghost use Rattle.tendril_stream.specs.Readings.{IsOfReading, MakesReads, StopsBetween};
 ghost use Rattle.tendril_stream.specs.Reads.{OneRead, CameToEnd, StopsWith, given};
 
@@ -38,7 +39,7 @@ pub fn decode_rope<A: Atomicity, I: IntoIterator<Item = Tendril<Bytes, A>>>(
     ensures ok { IfOk result (λ rope. (it : I.IntoIter) × (end : I.IntoIter) × (read : List Text)
         × I.into_iter_gives pieces it × YieldsThen I.IntoIter.next_gives it read None end
         × (chars rope.bytes ≡ characters (due (flat_map (λ p. p.bytes) read)))) }
-    ensures refusal { IfErr result (λ r. PiecesStop I.into_iter_gives I.IntoIter.next_gives
+    ensures refusal { IfErr result (λ r. PiecesStop utf8 I.into_iter_gives I.IntoIter.next_gives
         ⟦<Rope<A> as TendrilSink<Tendril<UTF8, A>>>⟧.takes ⟦<Rope<A> as TendrilSink<Tendril<UTF8, A>>>⟧.refuses
         ⟦<Rope<A> as TendrilSink<Tendril<UTF8, A>>>⟧.ends ⟦<Rope<A> as Tracks<Tendril<UTF8, A>>>⟧.after pieces r) }
 {
@@ -68,8 +69,8 @@ pub fn read_rope<A: Atomicity, R: CountedRead>(
     ensures stopped { IfErr result (λ s. (these : List OneRead) × MakesReads R.history R.remaining reader.old these reader.new
         × (IsOfReading s.refusal → StopsBetween max_reads these s.refusal
         × ((d : _) × (s.sink ≡ Some d) × (d.failed ≡ false)
-        × StandsAt HasCharacters d.inner_sink d.kept (given these)))
-        × (IsOfReading s.refusal ⊎ StreamStops ⟦<Rope<A> as TendrilSink<Tendril<UTF8, A>>>⟧.takes
+        × StandsAt utf8 HasCharacters d.inner_sink d.kept (given these)))
+        × (IsOfReading s.refusal ⊎ StreamStops utf8 ⟦<Rope<A> as TendrilSink<Tendril<UTF8, A>>>⟧.takes
         ⟦<Rope<A> as TendrilSink<Tendril<UTF8, A>>>⟧.refuses ⟦<Rope<A> as TendrilSink<Tendril<UTF8, A>>>⟧.ends
         HasCharacters (λ d. d.inner_sink) (λ d. d.failed) max_reads these s.refusal s.sink)) }
 {
@@ -95,11 +96,11 @@ pub fn rope_from_file<A: Atomicity, F: Files>(
     ensures ok { IfOk result (λ rope. (these : List OneRead) × (chars rope.bytes ≡ characters (due (given these)))
         × StopsWith CameToEnd these × (length these ≤ max_reads)) }
     ensures stopped { IfErr result (λ s. ((s.refusal ≡ Refusal.Io)
-        × ((d : _) × (s.sink ≡ Some d) × (d.failed ≡ false) × StandsAt HasCharacters d.inner_sink d.kept []))
+        × ((d : _) × (s.sink ≡ Some d) × (d.failed ≡ false) × StandsAt utf8 HasCharacters d.inner_sink d.kept []))
         ⊎ ((these : List OneRead) × (IsOfReading s.refusal → StopsBetween max_reads these s.refusal
         × ((d : _) × (s.sink ≡ Some d) × (d.failed ≡ false)
-        × StandsAt HasCharacters d.inner_sink d.kept (given these)))
-        × (IsOfReading s.refusal ⊎ StreamStops ⟦<Rope<A> as TendrilSink<Tendril<UTF8, A>>>⟧.takes
+        × StandsAt utf8 HasCharacters d.inner_sink d.kept (given these)))
+        × (IsOfReading s.refusal ⊎ StreamStops utf8 ⟦<Rope<A> as TendrilSink<Tendril<UTF8, A>>>⟧.takes
         ⟦<Rope<A> as TendrilSink<Tendril<UTF8, A>>>⟧.refuses ⟦<Rope<A> as TendrilSink<Tendril<UTF8, A>>>⟧.ends
         HasCharacters (λ d. d.inner_sink) (λ d. d.failed) max_reads these s.refusal s.sink))) }
 {

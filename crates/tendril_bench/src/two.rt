@@ -6,7 +6,7 @@ ghost use Rattle.tendril.specs.Sinks.{told};
 
 use std::alloc::Global;
 use tendril::block::Refusal;
-use tendril::stream::{Accumulate, Event, TendrilSink, Utf8LossyDecoder, laws};
+use tendril::stream::{Accumulate, Event, KeptUtf8, TendrilSink, Utf8LossyDecoder, laws};
 use tendril::{ByteTendril, NonAtomic};
 
 /// Returns the texts and errors of two pieces.
@@ -17,7 +17,7 @@ pub fn decode_two(
 ) -> Result<Vec<Event>, Refusal>
     ensures { IfOk result (λ events. told (sent events.items) ≡ due (first.bytes ++ second.bytes)) }
 {
-    laws::<Accumulate, NonAtomic>();
+    laws::<KeptUtf8, Accumulate, NonAtomic>();
     let mut decoder = Utf8LossyDecoder::new(alloc, Accumulate::new(alloc));
     decoder.process(first)?;
     decoder.process(second)?;

@@ -10,9 +10,10 @@ use Rattle.tendril_block.specs.declared.refusal.Refusal.TheVariants.{Failed, Io,
 use Rattle.tendril_lossy.specs.Lossy.{Told, characters, due, due_open}
 use Rattle.tendril_stream.proofs.Fed.{given-push, MakesReads-none}
 use Rattle.tendril_stream.specs.Decoders.{Decodes, DecodingStops as Stopping, EndStops}
+use Rattle.tendril_stream.specs.Decodings.{PieceMay, utf8}
 use Rattle.tendril_stream.specs.Readings.{Hears, MakesReads, ReadStops}
 use Rattle.tendril_stream.specs.Reads.{OneRead, Gave, WasInterrupted, HasFailed, CameToEnd, MayReadOn, given, given_by}
-use Rattle.tendril_stream.specs.Sinks.{Sent, IsStop}
+use Rattle.tendril_stream.specs.Sinks.{Sent, IsSentOf, IsStop}
 use Rattle.tendril_cli.specs.Decodings.{DecodeStops, WritesText, WritesAll, WritesFrontOfText}
 use Rattle.tendril_cli.proofs.JoiningSinks.{Joins, Stands, stands_on}
 use Rattle.tendril_cli.proofs.WrittenTexts.{front_of_all}
@@ -21,17 +22,17 @@ use Rattle.tendril_cli.proofs.WrittenTexts.{front_of_all}
 module _ {D S : Type 0} (inner : D → S) (held : D → List ℕ) (failed : D → Bool) (has : S → List ℕ) (refuses : S → Sent
     → Refusal → S → Type 0) (finish_refused : S → Refusal → Type 0) where
   abbrev pub DecoderTakes : D → Sent → D → Type 0
-  DecoderTakes d e n = (failed d ≡ false) × (failed n ≡ false) × Decodes (Joins has) (inner d) (held d) e (inner n)
+  DecoderTakes d e n = (failed d ≡ false) × (failed n ≡ false) × Decodes utf8 (Joins has) (inner d) (held d) e (inner n)
       (held n)
 
   abbrev pub DecoderRefuses : D → Sent → Refusal → D → Type 0
   DecoderRefuses d e r n = (failed n ≡ true)
       × (((failed d ≡ true) × (r ≡ Failed) × (inner n ≡ inner d))
-      ⊎ ((failed d ≡ false) × Stopping (Joins has) refuses (inner d) (held d) e r (inner n)))
+      ⊎ ((failed d ≡ false) × Stopping utf8 (Joins has) refuses (inner d) (held d) e r (inner n)))
 
   abbrev pub DecoderEnds : D → Refusal → Type 0
   DecoderEnds d r = ((failed d ≡ true) × (r ≡ Failed))
-      ⊎ ((failed d ≡ false) × EndStops (Joins has) refuses finish_refused (inner d) (held d) r)
+      ⊎ ((failed d ≡ false) × EndStops utf8 (Joins has) refuses finish_refused (inner d) (held d) r)
 
   quiet : (written b : List ℕ) (d n : D) → n ≡ d → failed d ≡ false → Stands has written (inner d) (held d) b
       → Stands has written (inner n) (held n) (b ++ []) × (failed n ≡ false)
@@ -91,8 +92,8 @@ module _ {D S : Type 0} (inner : D → S) (held : D → List ℕ) (failed : D �
 
     -- at the piece that it gave
     stops_piece : (piece : Text) (mid new : S) (due : List Told) (r : Refusal) → 0 < length piece.bytes
-        → MakesReads history remaining reader (Gave piece.bytes ∷ []) reader' → IsStop refuses piece mid due r new
-        → Stopped r
+        → MakesReads history remaining reader (Gave piece.bytes ∷ []) reader'
+        → IsStop refuses (IsSentOf piece) (PieceMay piece) mid due r new → Stopped r
     stops_piece piece mid new due r long makes (inl h) =
         subst Stopped (sym h.0.0) (
           Gave piece.bytes ∷ [],

@@ -9,8 +9,9 @@ use Rattle.tendril_lossy.proofs.Streams.{due-end, due_open-append, kept-append}
 use Rattle.tendril_lossy.proofs.Told.{characters-append, characters-map}
 use Rattle.tendril_lossy.specs.Lossy.{Told, Char, characters, due, due_open, kept}
 use Rattle.tendril_stream.specs.Decoders.{Decodes, Ends, no_piece}
+use Rattle.tendril_stream.specs.Decodings.{utf8}
 use Rattle.tendril_stream.specs.Reads.{OneRead, given}
-use Rattle.tendril_stream.specs.Sinks.{Sent, Piece, Feeds, told, told_of}
+use Rattle.tendril_stream.specs.Sinks.{Sent, Piece, Feeds, IsSentOf, told, told_of}
 use Rattle.tendril_cli.specs.Decodings.{IsReady}
 
 -- a sink that appends the characters of what it is sent
@@ -25,7 +26,8 @@ module _ {S : Type 0} (has : S → List ℕ) where
       ∙ append_assoc (has a) (characters (told_of e)) (characters (told es))
       ∙ ap (λ l. has a ++ l) (sym (characters-append (told_of e) (told es)))
 
-  fed : (piece : Text) (a b : S) (due : List Told) → Feeds Joins piece a due b → has b ≡ has a ++ characters due
+  fed : (piece : Text) (a b : S) (due : List Told) → Feeds Joins (IsSentOf piece) a due b
+      → has b ≡ has a ++ characters due
   fed piece a b due h = joins a h.sent b h.calls ∙ ap (λ t. has a ++ characters t) h.tells
 
   -- the written characters and those of the sink are the decoding of b so far; `held` are the bytes that b leaves open
@@ -45,7 +47,7 @@ module _ {S : Type 0} (has : S → List ℕ) where
       }
 
   pub stands_on : (written : List ℕ) (sink next : S) (k l b : List ℕ) (piece : Text) → Stands written sink k b
-      → Decodes Joins sink k (Piece piece) next l → Stands written next l (b ++ piece.bytes)
+      → Decodes utf8 Joins sink k (Piece piece) next l → Stands written next l (b ++ piece.bytes)
   stands_on written sink next k l b piece s h = record {
     tells = ap (λ l. written ++ l) (fed piece sink next (due_open (k ++ piece.bytes)) h.0)
         ∙ sym (append_assoc written (has sink) (characters (due_open (k ++ piece.bytes))))
@@ -56,7 +58,7 @@ module _ {S : Type 0} (has : S → List ℕ) where
   }
 
   pub ended : {O : Type 0} (written : List ℕ) (finishes : S → O → Type 0) (sink : S) (k b : List ℕ) (out : O)
-      → Stands written sink k b → Ends Joins finishes sink k out
+      → Stands written sink k b → Ends utf8 Joins finishes sink k out
       → (last : S) × (written ++ has last ≡ characters (due b)) × finishes last out
   ended written finishes sink k b out s h = (
     h.0,

@@ -8,8 +8,9 @@ use Rattle.tendril_block.specs.declared.refusal.Refusal.TheVariants.{Count, Fail
 use Rattle.tendril_block.specs.declared.refusal.Refusal.TheVariants.{TooManyReads}
 use Rattle.tendril_lossy.specs.Lossy.{Told}
 use Rattle.tendril_stream.specs.Decoders.{DecodingStops, EndStops, no_piece}
+use Rattle.tendril_stream.specs.Decodings.{PieceMay, utf8}
 use Rattle.tendril_stream.specs.Readings.{IsOfReading}
-use Rattle.tendril_stream.specs.Sinks.{Sent, Piece, IsStop}
+use Rattle.tendril_stream.specs.Sinks.{Sent, Piece, IsSentOf, IsStop}
 
 abbrev of_reading : Refusal → Bool
 of_reading Memory = true
@@ -26,20 +27,20 @@ clash : (r q : Refusal) → of_reading q ≡ false → r ≡ q → IsOfReading r
 clash r q f e h = true≢false (sym (is_of_reading r h) ∙ ap of_reading e ∙ f)
 
 stop_clash : {S : Type 0} (refuses : S → Sent → Refusal → S → Type 0) (piece : Text) (mid new : S) (due : List Told)
-    (r : Refusal) → IsStop refuses piece mid due r new → IsOfReading r → ⊥
+    (r : Refusal) → IsStop refuses (IsSentOf piece) (PieceMay piece) mid due r new → IsOfReading r → ⊥
 stop_clash refuses piece mid new due r h o =
     ⊎_elim (λ k. clash r Count refl k.0.0 o) (λ k. clash r SinkRefused refl k.refused.0 o) h
 
 pub process_clash : {S : Type 0} (takes : S → Sent → S → Type 0) (refuses : S → Sent → Refusal → S → Type 0) (a b : S)
     (f : Bool) (k : List ℕ) (x : Text) (r : Refusal)
-    → ((f ≡ true) × (r ≡ Failed) × (b ≡ a)) ⊎ ((f ≡ false) × DecodingStops takes refuses a k (Piece x) r b)
+    → ((f ≡ true) × (r ≡ Failed) × (b ≡ a)) ⊎ ((f ≡ false) × DecodingStops utf8 takes refuses a k (Piece x) r b)
     → IsOfReading r → ⊥
 process_clash takes refuses a b f k x r h o =
     ⊎_elim (λ w. clash r Failed refl w.1 o) (λ w. stop_clash refuses x w.1.mid b w.1.rest r w.1.stop o) h
 
 pub end_clash : {S : Type 0} (takes : S → Sent → S → Type 0) (refuses : S → Sent → Refusal → S → Type 0)
     (ends : S → Refusal → Type 0) (a : S) (f : Bool) (k : List ℕ) (r : Refusal)
-    → ((f ≡ true) × (r ≡ Failed)) ⊎ ((f ≡ false) × EndStops takes refuses ends a k r) → IsOfReading r → ⊥
+    → ((f ≡ true) × (r ≡ Failed)) ⊎ ((f ≡ false) × EndStops utf8 takes refuses ends a k r) → IsOfReading r → ⊥
 end_clash takes refuses ends a f k r h o = ⊎_elim
     (λ w. clash r Failed refl w.1 o)
     (λ w. ⊎_elim (λ v. stop_clash refuses no_piece v.1.mid v.0 v.1.rest r v.1.stop o)

@@ -21,6 +21,8 @@ use Rattle.tendril_lossy.specs.Lossy.{Told, Keep, Bad, Cut, Char, IsOpen, lossy,
 use Rattle.tendril_lossy.specs.Lossy.{replaced}
 use Rattle.tendril_lossy.specs.declared.search.Ending.{Ending}
 use Rattle.tendril_lossy.specs.declared.search.Ending.TheVariants.{Whole, Broken, Open}
+use Rattle.tendril_stream.specs.Decodings.{PieceMay}
+use Rattle.tendril_stream.proofs.Feeds.{piece_grows}
 use Rattle.tendril_stream.proofs.Feeds.{Feeds-append, Feeds-none, Feeds-one, Feeds-same, Stops-after, Stops-call}
 use Rattle.tendril_stream.proofs.Feeds.{Stops-more}
 use Rattle.tendril_stream.specs.Sinks.{Sent, Piece, Fault, Feeds, IsStop, RefusesCall, Stops, IsSentOf}
@@ -95,18 +97,18 @@ module _ {S : Type 0} (takes : S → Sent → S → Type 0) where
   -- the text is sent
   pub sends : (piece b : Text) (s u : S) (text : Option Text) → IsRest piece b → length b.bytes ≤ length piece.bytes
       → IfSome text (IsHandedOn b) → FoldsTo (λ s t u. takes s (Piece t) u) s (listed text) u
-      → Feeds takes piece s (text_told text) u
+      → Feeds takes (IsSentOf piece) s (text_told text) u
   sends piece b s u None rest less h calls =
-      Feeds-same takes piece s u [] (text_told None) (sym (ap (map Char) chars-nil))
-      (subst (λ v. Feeds takes piece s [] v) calls (Feeds-none takes piece s))
+      Feeds-same takes (IsSentOf piece) s u [] (text_told None) (sym (ap (map Char) chars-nil))
+      (subst (λ v. Feeds takes (IsSentOf piece) s [] v) calls (Feeds-none takes (IsSentOf piece) s))
   sends piece b s u (Some t) rest less h calls =
-      Feeds-one takes piece s (Piece t) u (handed-through piece b rest less t h)
+      Feeds-one takes (IsSentOf piece) s (Piece t) u (handed-through piece b rest less t h)
       (subst (λ v. takes s (Piece t) v) calls.2 calls.1)
 
   -- what was sent so far of a piece, and its remainder
   pub record SoFar (piece : Text) (old : S) (rest : Text) (now : S) : Type 0 where
     pub told : List Told
-    pub feeds : Feeds takes piece old told now
+    pub feeds : Feeds takes (IsSentOf piece) old told now
     pub due : due_open piece.bytes ≡ told ++ due_open rest.bytes
     pub keeps : kept piece.bytes ≡ kept rest.bytes
     pub part : IsRest piece rest
@@ -115,7 +117,7 @@ module _ {S : Type 0} (takes : S → Sent → S → Type 0) where
   pub start : (piece : Text) (old : S) → SoFar piece old piece old
   start piece old = record {
     told = [];
-    feeds = Feeds-none takes piece old;
+    feeds = Feeds-none takes (IsSentOf piece) old;
     due = refl;
     keeps = refl;
     part =
@@ -126,7 +128,7 @@ module _ {S : Type 0} (takes : S → Sent → S → Type 0) where
   -- one more text, and one more replacement if broken bytes follow it
   pub more : (piece b c : Text) (old s u v : S) (text : Option Text) (ending : Ending) → SoFar piece old b s
       → PopsText b text ending c → FoldsTo (λ s t u. takes s (Piece t) u) s (listed text) u
-      → Feeds takes piece u (told_by ending) v → SoFar piece old c v
+      → Feeds takes (IsSentOf piece) u (told_by ending) v → SoFar piece old c v
   more piece b c old s u v text ending so h calls ends =
       let p = popped b c text ending h in
       let less = rest_shorter piece.bytes b.bytes so.end.0 so.end.1 in
@@ -134,8 +136,8 @@ module _ {S : Type 0} (takes : S → Sent → S → Type 0) where
       let shorter : length c.bytes ≤ length b.bytes = rest_shorter b.bytes c.bytes taken h.rest in
       let one = sends piece b s u text so.part less h.handed calls in record {
         told = so.told ++ (text_told text ++ told_by ending);
-        feeds = Feeds-append takes piece old s v so.told (text_told text ++ told_by ending) so.feeds
-            (Feeds-append takes piece s u v (text_told text) (told_by ending) one ends);
+        feeds = Feeds-append takes (IsSentOf piece) old s v so.told (text_told text ++ told_by ending) so.feeds
+            (Feeds-append takes (IsSentOf piece) s u v (text_told text) (told_by ending) one ends);
         due = so.due ∙ ap (λ l. so.told ++ l)
             (p.due ∙ sym (append_assoc (text_told text) (told_by ending) (due_open c.bytes)))
             ∙ sym (append_assoc so.told (text_told text ++ told_by ending) (due_open c.bytes));
@@ -157,13 +159,13 @@ module _ {S : Type 0} (takes : S → Sent → S → Type 0) (refuses : S → Sen
   -- the piece ends
   pub ended : (piece b c : Text) (old s u : S) (text : Option Text) (ending : Ending) → SoFar takes piece old b s
       → PopsText b text ending c → FoldsTo (λ s t u. takes s (Piece t) u) s (listed text) u
-      → (ending ≡ Whole) ⊎ (ending ≡ Open) → Feeds takes piece old (due_open piece.bytes) u
+      → (ending ≡ Whole) ⊎ (ending ≡ Open) → Feeds takes (IsSentOf piece) old (due_open piece.bytes) u
       × (c.bytes ≡ kept piece.bytes)
   ended piece b c old s u text ending so h calls is =
       let l = unbroken b c text ending h is in
       let all = more takes piece b c old s u u text ending so h calls
-      (Feeds-same takes piece u u [] (told_by ending) (sym l.3) (Feeds-none takes piece u)) in (
-        Feeds-same takes piece old u all.told (due_open piece.bytes)
+      (Feeds-same takes (IsSentOf piece) u u [] (told_by ending) (sym l.3) (Feeds-none takes (IsSentOf piece) u)) in (
+        Feeds-same takes (IsSentOf piece) old u all.told (due_open piece.bytes)
             (sym (all.due ∙ ap (λ d. all.told ++ d) l.1 ∙ append-nil all.told)) all.feeds,
         sym l.2 ∙ sym all.keeps,
       )
@@ -172,16 +174,18 @@ module _ {S : Type 0} (takes : S → Sent → S → Type 0) (refuses : S → Sen
   pub stopped : (piece b c : Text) (old s u v : S) (text : Option Text) (k : ℕ) (r : Refusal)
       → SoFar takes piece old b s → PopsText b text (Broken k) c
       → FoldsTo (λ s t u. takes s (Piece t) u) s (listed text) u
-      → Stops takes refuses piece u (replaced (codes "invalid byte sequence")) r v
-      → Stops takes refuses piece old (due_open piece.bytes) r v
+      → Stops takes refuses (IsSentOf piece) (PieceMay piece) u (replaced (codes "invalid byte sequence")) r v
+      → Stops takes refuses (IsSentOf piece) (PieceMay piece) old (due_open piece.bytes) r v
   stopped piece b c old s u v text k r so h calls stop =
       let p = popped b c text (Broken k) h in
       let one = sends takes piece b s u text so.part (rest_shorter piece.bytes b.bytes so.end.0 so.end.1) h.handed
       calls in
-      Stops-after takes refuses piece old s v so.told (due_open b.bytes) (due_open piece.bytes) r so.feeds
-      (Stops-after takes refuses piece s u v (text_told text)
+      Stops-after takes refuses (IsSentOf piece) (PieceMay piece) old s v so.told (due_open b.bytes)
+      (due_open piece.bytes) r so.feeds
+      (Stops-after takes refuses (IsSentOf piece) (PieceMay piece) s u v (text_told text)
       (replaced (codes "invalid byte sequence") ++ due_open c.bytes) (due_open b.bytes) r one
-      (Stops-more takes refuses piece u v (replaced (codes "invalid byte sequence")) (due_open c.bytes)
+      (Stops-more takes refuses (IsSentOf piece) (PieceMay piece) (piece_grows piece) u v
+      (replaced (codes "invalid byte sequence")) (due_open c.bytes)
       (replaced (codes "invalid byte sequence") ++ due_open c.bytes) r stop refl)
       (sym p.due))
       (sym so.due)
@@ -190,19 +194,21 @@ module _ {S : Type 0} (takes : S → Sent → S → Type 0) (refuses : S → Sen
   pub unsent : (piece b c : Text) (old s u : S) (text : Option Text) (ending : Ending) (r : Refusal)
       → SoFar takes piece old b s → PopsText b text ending c
       → IsSomeAnd text (λ t. RefusesCall refuses s (Piece t) r u)
-      → Stops takes refuses piece old (due_open piece.bytes) r u
+      → Stops takes refuses (IsSentOf piece) (PieceMay piece) old (due_open piece.bytes) r u
   unsent piece b c old s u None ending r so h refused = absurd refused
   unsent piece b c old s u (Some t) ending r so h refused =
       let p = popped b c (Some t) ending h in
       let fit = handed-through piece b so.part (rest_shorter piece.bytes b.bytes so.end.0 so.end.1) t h.handed in
-      Stops-after takes refuses piece old s u so.told (due_open b.bytes) (due_open piece.bytes) r so.feeds
-      (Stops-call takes refuses piece s (Piece t) (told_by ending ++ due_open c.bytes) (due_open b.bytes) r u fit
+      Stops-after takes refuses (IsSentOf piece) (PieceMay piece) old s u so.told (due_open b.bytes)
+      (due_open piece.bytes) r so.feeds
+      (Stops-call takes refuses (IsSentOf piece) (PieceMay piece) s (Piece t) (told_by ending ++ due_open c.bytes)
+      (due_open b.bytes) r u fit
       (sym p.due) refused)
       (sym so.due)
 
   -- the next text couldn't be popped
   pub unpopped : (piece b : Text) (old s : S) (r : Refusal) → SoFar takes piece old b s → LongTextMay b.bytes r
-      → Stops takes refuses piece old (due_open piece.bytes) r s
+      → Stops takes refuses (IsSentOf piece) (PieceMay piece) old (due_open piece.bytes) r s
   unpopped piece b old s r so may = record {
     sent = so.feeds.sent;
     each = so.feeds.each;
@@ -225,7 +231,8 @@ module _ {S : Type 0} (takes : S → Sent → S → Type 0) (refuses : S → Sen
   less : length rest.bytes ≤ length piece.bytes
   less = rest_shorter piece.bytes rest.bytes end.0 end.1
 
-  pub Feeds-through : (a b : S) (told : List Told) → Feeds takes rest a told b → Feeds takes piece a told b
+  pub Feeds-through : (a b : S) (told : List Told) → Feeds takes (IsSentOf rest) a told b
+      → Feeds takes (IsSentOf piece) a told b
   Feeds-through a b told h = record {
     sent = h.sent;
     each =
@@ -235,21 +242,23 @@ module _ {S : Type 0} (takes : S → Sent → S → Type 0) (refuses : S → Sen
     tells = h.tells;
   }
 
-  stop_through : (mid new : S) (due : List Told) (r : Refusal) → IsStop refuses rest mid due r new
-      → IsStop refuses piece mid due r new
+  stop_through : (mid new : S) (due : List Told) (r : Refusal)
+      → IsStop refuses (IsSentOf rest) (PieceMay rest) mid due r new
+      → IsStop refuses (IsSentOf piece) (PieceMay piece) mid due r new
   stop_through mid new due r (inl k) = inl (long-behind piece.bytes rest.bytes end.0 r end.1 k.0, k.1)
   stop_through mid new due r (inr k) =
       inr (record {
         call = k.call;
-        fit = sent_through piece rest part less k.call k.fit;
+        is_fit = sent_through piece rest part less k.call k.is_fit;
         rest = k.rest;
         front =
             k.front;
         refused = k.refused;
       })
 
-  pub Stops-through : (a b : S) (told : List Told) (r : Refusal) → Stops takes refuses rest a told r b
-      → Stops takes refuses piece a told r b
+  pub Stops-through : (a b : S) (told : List Told) (r : Refusal)
+      → Stops takes refuses (IsSentOf rest) (PieceMay rest) a told r b
+      → Stops takes refuses (IsSentOf piece) (PieceMay piece) a told r b
   Stops-through a b told r h = record {
     sent = h.sent;
     each =

@@ -20,10 +20,11 @@ use Rattle.std.specs.Prelude.{
 use Rattle.std.specs.Iterator.{YieldsThen}
 use Rattle.tendril_block.specs.declared.refusal.Refusal.{Refusal}
 use Rattle.tendril_text.specs.Texts.{Text}
-use Rattle.tendril_lossy.specs.Lossy.{Told, due, due_open, kept}
-use Rattle.tendril_stream.specs.Decoders.{Decodes, Ends, EndStops}
+use Rattle.tendril_lossy.specs.Lossy.{Told}
+use Rattle.tendril_stream.specs.Decoders.{Decodes, Ends, EndStops, StopsInPiece}
+use Rattle.tendril_stream.specs.Decodings.{Decoding}
 use Rattle.tendril_stream.specs.Reads.{OneRead, Gave, CameToEnd, MayReadOn, StopsWith, given}
-use Rattle.tendril_stream.specs.Sinks.{Sent, Piece, IsSent, Stops, told_of}
+use Rattle.tendril_stream.specs.Sinks.{Sent, Piece, IsSent, told_of}
 
 -- if `after a told` holds, and accepting e turns the sink a into b, then `after b (told ++ told_of e)` holds; e is one
 -- that a decoder sends
@@ -31,25 +32,26 @@ abbrev pub FollowsCalls : {S : Type 0} → (S → Sent → S → Type 0) → (S 
 FollowsCalls {S} takes after =
     (told : List Told) (a : S) (e : Sent) (b : S) → IsSent e → after a told → takes a e b → after b (told ++ told_of e)
 
--- a decoder has decoded the bytes b: it keeps k, the bytes of an unfinished last character, and its sink was sent the
--- decoding of those before
-pub record StandsAt {S : Type 0} (after : S → List Told → Type 0) (sink : S) (k b : List ℕ) : Type 0 where
-  pub tells : after sink (due_open b)
-  pub keeps : k ≡ kept b
+-- a decoder has decoded the bytes b: it keeps the state k after them, and its sink was sent their output
+pub record StandsAt {K S : Type 0} (decoding : Decoding K) (after : S → List Told → Type 0) (sink : S) (k : K)
+    (b : List ℕ) : Type 0 where
+  pub tells : after sink (decoding.out decoding.start b)
+  pub keeps : k ≡ decoding.after decoding.start b
 
 -- Decoding doesn't depend on where a stream is cut: a new decoder has decoded no bytes, each piece adds its bytes to
 -- those that were decoded, and at the end the sink was sent the decoding of all.
-pub record Composes {S O : Type 0} (takes : S → Sent → S → Type 0) (finishes : S → O → Type 0)
+pub record Composes {K S O : Type 0} (decoding : Decoding K) (takes : S → Sent → S → Type 0) (finishes : S → O → Type 0)
     (after : S → List Told → Type 0) : Type 0 where
-  pub begins : (sink : S) → after sink [] → StandsAt after sink [] []
-  pub goes_on : (sink next : S) (k l b : List ℕ) (piece : Text) → StandsAt after sink k b
-      → Decodes takes sink k (Piece piece) next l → StandsAt after next l (b ++ piece.bytes)
-  pub ends : (sink : S) (k b : List ℕ) (out : O) → StandsAt after sink k b → Ends takes finishes sink k out
-      → (last : S) × after last (due b) × finishes last out
+  pub begins : (sink : S) → after sink [] → StandsAt decoding after sink decoding.start []
+  pub goes_on : (sink next : S) (k l : K) (b : List ℕ) (piece : Text) → StandsAt decoding after sink k b
+      → Decodes decoding takes sink k (Piece piece) next l → StandsAt decoding after next l (b ++ piece.bytes)
+  pub ends : (sink : S) (k : K) (b : List ℕ) (out : O) → StandsAt decoding after sink k b
+      → Ends decoding takes finishes sink k out → (last : S) × after last (decoding.decoded b) × finishes last out
 
 -- Decoding the pieces of an iterator stopped with an error, at one piece or at the end. The sink was sent the decoding
 -- of the pieces before, and a prefix of what that piece or the end adds.
-pub record PiecesStop {I It S : Type 0} (becomes : I → It → Type 0) (steps : It → Option Text → It → Type 0)
+pub record PiecesStop {K I It S : Type 0} (decoding : Decoding K) (becomes : I → It → Type 0)
+    (steps : It → Option Text → It → Type 0)
     (takes : S → Sent → S → Type 0) (refuses : S → Sent → Refusal → S → Type 0) (ends : S → Refusal → Type 0)
     (after : S → List Told → Type 0) (pieces : I) (refusal : Refusal) : Type 0 where
   pub iterator : It
@@ -57,15 +59,18 @@ pub record PiecesStop {I It S : Type 0} (becomes : I → It → Type 0) (steps :
   pub read : List Text
   pub last : It
   pub sink : S
-  pub tells : after sink (due_open (flat_map (λ p. p.bytes) read))
+  pub tells : after sink (decoding.out decoding.start (flat_map (λ p. p.bytes) read))
   pub stop : ((p : Text) × YieldsThen steps iterator read (Some p) last × (s : S)
-      × Stops takes refuses p sink (due_open (kept (flat_map (λ p. p.bytes) read) ++ p.bytes)) refusal s)
+      × StopsInPiece decoding takes refuses sink (decoding.after decoding.start (flat_map (λ p. p.bytes) read)) p
+      refusal s)
       ⊎ (YieldsThen steps iterator read None last
-      × EndStops takes refuses ends sink (kept (flat_map (λ p. p.bytes) read)) refusal)
+      × EndStops decoding takes refuses ends sink (decoding.after decoding.start (flat_map (λ p. p.bytes) read))
+      refusal)
 
 -- A new decoder returned an error for the piece of the last read, and is returned failed. Its sink was sent the
 -- decoding of what was read before, and a prefix of what that piece adds.
-pub record StreamStopsAtPiece {S D : Type 0} (takes : S → Sent → S → Type 0) (refuses : S → Sent → Refusal → S → Type 0)
+pub record StreamStopsAtPiece {K S D : Type 0} (decoding : Decoding K) (takes : S → Sent → S → Type 0)
+    (refuses : S → Sent → Refusal → S → Type 0)
     (after : S → List Told → Type 0) (inner : D → S) (failed : D → Bool) (max_reads : ℕ) (these : List OneRead)
     (refusal : Refusal) (handed : Option D) : Type 0 where
   pub before : List OneRead
@@ -73,8 +78,9 @@ pub record StreamStopsAtPiece {S D : Type 0} (takes : S → Sent → S → Type 
   pub sink : S
   pub decoder : D
   pub is : these ≡ before ++ Gave piece.bytes ∷ []
-  pub tells : after sink (due_open (given before))
-  pub stops : Stops takes refuses piece sink (due_open (kept (given before) ++ piece.bytes)) refusal (inner decoder)
+  pub tells : after sink (decoding.out decoding.start (given before))
+  pub stops : StopsInPiece decoding takes refuses sink (decoding.after decoding.start (given before)) piece refusal
+      (inner decoder)
   pub has_failed : failed decoder ≡ true
   pub back : handed ≡ Some decoder
   pub on : All MayReadOn these
@@ -82,20 +88,21 @@ pub record StreamStopsAtPiece {S D : Type 0} (takes : S → Sent → S → Type 
 
 -- A new decoder returned an error at the end, and was dropped. Its sink was sent the decoding of what was read, and a
 -- prefix of what the end adds.
-pub record StreamStopsAtEnd {S D : Type 0} (takes : S → Sent → S → Type 0) (refuses : S → Sent → Refusal → S → Type 0)
+pub record StreamStopsAtEnd {K S D : Type 0} (decoding : Decoding K) (takes : S → Sent → S → Type 0)
+    (refuses : S → Sent → Refusal → S → Type 0)
     (ends : S → Refusal → Type 0) (after : S → List Told → Type 0) (max_reads : ℕ) (these : List OneRead)
     (refusal : Refusal) (handed : Option D) : Type 0 where
   pub sink : S
-  pub tells : after sink (due_open (given these))
-  pub stops : EndStops takes refuses ends sink (kept (given these)) refusal
+  pub tells : after sink (decoding.out decoding.start (given these))
+  pub stops : EndStops decoding takes refuses ends sink (decoding.after decoding.start (given these)) refusal
   pub gone : handed ≡ None
   pub at_end : StopsWith CameToEnd these
   pub within : length these ≤ max_reads
 
 -- a new decoder returned an error for a stream that was read through it, at a piece or at the end
-abbrev pub StreamStops : {S D : Type 0} → (S → Sent → S → Type 0) → (S → Sent → Refusal → S → Type 0)
+abbrev pub StreamStops : {K S D : Type 0} → Decoding K → (S → Sent → S → Type 0) → (S → Sent → Refusal → S → Type 0)
     → (S → Refusal → Type 0) → (S → List Told → Type 0) → (D → S) → (D → Bool) → ℕ → List OneRead → Refusal → Option D
     → Type 0
-StreamStops takes refuses ends after inner failed max_reads these refusal handed =
-    StreamStopsAtPiece takes refuses after inner failed max_reads these refusal handed
-    ⊎ StreamStopsAtEnd takes refuses ends after max_reads these refusal handed
+StreamStops decoding takes refuses ends after inner failed max_reads these refusal handed =
+    StreamStopsAtPiece decoding takes refuses after inner failed max_reads these refusal handed
+    ⊎ StreamStopsAtEnd decoding takes refuses ends after max_reads these refusal handed

@@ -2,6 +2,8 @@
 pub mod Sinks
 pub mod SentBytes
 pub mod Events
+pub mod Decodings
+pub mod Utf8Laws
 pub mod Decoders
 pub mod Compositions
 pub mod Reads

@@ -4,6 +4,7 @@ ghost use Rattle.std.specs.Iterator.{IsFiniteIterable, YieldsThen};
 ghost use Rattle.tendril_text.specs.Texts.{Text};
 ghost use Rattle.tendril_lossy.specs.Lossy.{due};
 ghost use Rattle.tendril_stream.specs.Compositions.{PiecesStop};
+ghost use Rattle.tendril_stream.specs.Decodings.{utf8};
 ghost use Rattle.tendril_stream.specs.Events.{sent};
 ghost use Rattle.tendril_stream.specs.Sinks.{told};
 
@@ -34,7 +35,7 @@ pub fn decode_pieces<A: Atomicity, I: IntoIterator<Item = Tendril<Bytes, A>>>(
     ensures ok { IfOk result (λ events. (it : I.IntoIter) × (end : I.IntoIter) × (read : List Text)
         × I.into_iter_gives pieces it × YieldsThen I.IntoIter.next_gives it read None end
         × (told (sent events.items) ≡ due (flat_map (λ p. p.bytes) read))) }
-    ensures refusal { IfErr result (λ r. PiecesStop I.into_iter_gives I.IntoIter.next_gives
+    ensures refusal { IfErr result (λ r. PiecesStop utf8 I.into_iter_gives I.IntoIter.next_gives
         ⟦<Accumulate<A> as TendrilSink<Tendril<UTF8, A>>>⟧.takes ⟦<Accumulate<A> as TendrilSink<Tendril<UTF8, A>>>⟧.refuses
         ⟦<Accumulate<A> as TendrilSink<Tendril<UTF8, A>>>⟧.ends ⟦<Accumulate<A> as Tracks<Tendril<UTF8, A>>>⟧.after pieces r) }
 {
@@ -61,7 +62,7 @@ pub fn decode_pieces_into<
         × I.into_iter_gives pieces it × YieldsThen I.IntoIter.next_gives it read None end
         × ((last : S) × S.after last (due (flat_map (λ p. p.bytes) read)) × S.finishes last out)) }
     ensures refusal { IfErr result (λ r.
-        PiecesStop I.into_iter_gives I.IntoIter.next_gives S.takes S.refuses S.ends S.after pieces r) }
+        PiecesStop utf8 I.into_iter_gives I.IntoIter.next_gives S.takes S.refuses S.ends S.after pieces r) }
 {
     Utf8LossyDecoder::new(alloc, sink).from_iter(pieces)
 }

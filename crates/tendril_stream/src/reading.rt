@@ -3,6 +3,7 @@ ghost use Rattle.std.specs.Prelude.{◌≡◌, ◌≤◌, ◌+◌, ◌⊎◌, Li
 ghost use Rattle.std.specs.Io.KnownBytes.{IsAtEnd, Keeps, ReadConsumes};
 ghost use Rattle.tendril_lossy.specs.Lossy.{due};
 ghost use Rattle.tendril_stream.specs.Compositions.{StandsAt, StreamStops};
+ghost use Rattle.tendril_stream.specs.Decodings.{utf8};
 ghost use Rattle.tendril_stream.specs.Events.{sent};
 ghost use Rattle.tendril_stream.specs.Readings.{Halts, IsOfReading, IsReadPart, MakesReads, ReadStops, ReadsAll, ReadsOnce, StopsBetween, read_for};
 ghost use Rattle.tendril_stream.specs.Reads.{OneRead, CameToEnd, HasFailed, StopsWith, given, read_of};
@@ -11,7 +12,8 @@ ghost use Rattle.tendril_stream.specs.Sinks.{told};
 use crate::accumulate::{Accumulate, Event};
 use crate::counted::Counted;
 use crate::counted_read::{CountedRead, ReadFault};
-use crate::decoder::Utf8LossyDecoder;
+use crate::decoder::{Decoder, Utf8LossyDecoder};
+use crate::piece_decoding::PieceDecoding;
 use crate::sink::TendrilSink;
 use crate::tracks::Tracks;
 use std::alloc::Global;
@@ -191,8 +193,8 @@ pub fn decode_reader<A: Atomicity, R: CountedRead>(
     ensures stopped { IfErr result (λ s. (these : List OneRead) × MakesReads R.history R.remaining reader.old these reader.new
         × (IsOfReading s.refusal → StopsBetween max_reads these s.refusal
         × ((d : _) × (s.sink ≡ Some d) × (d.failed ≡ false)
-        × StandsAt (λ a t. told (sent a.events.items) ≡ t) d.inner_sink d.kept (given these)))
-        × (IsOfReading s.refusal ⊎ StreamStops ⟦<Accumulate<A> as TendrilSink<Tendril<UTF8, A>>>⟧.takes
+        × StandsAt utf8 (λ a t. told (sent a.events.items) ≡ t) d.inner_sink d.kept (given these)))
+        × (IsOfReading s.refusal ⊎ StreamStops utf8 ⟦<Accumulate<A> as TendrilSink<Tendril<UTF8, A>>>⟧.takes
         ⟦<Accumulate<A> as TendrilSink<Tendril<UTF8, A>>>⟧.refuses ⟦<Accumulate<A> as TendrilSink<Tendril<UTF8, A>>>⟧.ends
         ⟦<Accumulate<A> as Tracks<Tendril<UTF8, A>>>⟧.after (λ d. d.inner_sink) (λ d. d.failed)
         max_reads these s.refusal s.sink)) }
@@ -211,20 +213,25 @@ pub fn decode_reader<A: Atomicity, R: CountedRead>(
 /// let events = read_decoded(alloc, decoder, &mut Counted::new(b"abc".as_slice()), 10)?;
 /// assert_eq!(rt; events.len(), 1);
 /// ```
-pub fn read_decoded<A: Atomicity, S: TendrilSink<Tendril<UTF8, A>>, R: CountedRead>(
+pub fn read_decoded<
+    A: Atomicity,
+    K: PieceDecoding<Tendril<Bytes, A>, Tendril<UTF8, A>>,
+    S: TendrilSink<Tendril<UTF8, A>>,
+    R: CountedRead,
+>(
     alloc: Global,
-    decoder: Utf8LossyDecoder<S, A>,
+    decoder: Decoder<K, S, A>,
     reader: &mut R,
     max_reads: u64,
-) -> Result<S::Output, Stopped<Utf8LossyDecoder<S, A>>>
+) -> Result<S::Output, Stopped<Decoder<K, S, A>>>
     ensures ok { IfOk result (λ out. (these : List OneRead) × MakesReads R.history R.remaining reader.old these reader.new
         × IsAtEnd (R.remaining reader.new)
-        × ReadsAll ⟦<Utf8LossyDecoder<S, A> as TendrilSink<Tendril<Bytes, A>>>⟧.takes
-        ⟦<Utf8LossyDecoder<S, A> as TendrilSink<Tendril<Bytes, A>>>⟧.finishes max_reads decoder these out) }
+        × ReadsAll ⟦<Decoder<K, S, A> as TendrilSink<Tendril<Bytes, A>>>⟧.takes
+        ⟦<Decoder<K, S, A> as TendrilSink<Tendril<Bytes, A>>>⟧.finishes max_reads decoder these out) }
     ensures stopped { IfErr result (λ s. (these : List OneRead) × MakesReads R.history R.remaining reader.old these reader.new
-        × Halts ⟦<Utf8LossyDecoder<S, A> as TendrilSink<Tendril<Bytes, A>>>⟧.takes
-        ⟦<Utf8LossyDecoder<S, A> as TendrilSink<Tendril<Bytes, A>>>⟧.refuses
-        ⟦<Utf8LossyDecoder<S, A> as TendrilSink<Tendril<Bytes, A>>>⟧.ends max_reads decoder these s.refusal s.sink) }
+        × Halts ⟦<Decoder<K, S, A> as TendrilSink<Tendril<Bytes, A>>>⟧.takes
+        ⟦<Decoder<K, S, A> as TendrilSink<Tendril<Bytes, A>>>⟧.refuses
+        ⟦<Decoder<K, S, A> as TendrilSink<Tendril<Bytes, A>>>⟧.ends max_reads decoder these s.refusal s.sink) }
 {
     read_from(alloc, decoder, reader, max_reads)
 }

@@ -3,6 +3,7 @@ use Rattle.std.proofs.Common.{◌≡◌, ◌⊎◌, ℕ, Bool, true, false, List
 use Rattle.std.proofs.lemmas.Str.{encodes-append}
 use Rattle.std.specs.Prelude.{IfSome, encode_utf8_all}
 use Rattle.tendril.specs.Decoders.{DecodingStops}
+use Rattle.tendril.specs.Decodings.{utf8}
 use Rattle.tendril.specs.Fmt.Parts.{IsFrontOf}
 use Rattle.tendril.specs.Lossy.{Told, characters, due}
 use Rattle.tendril.specs.Proofs.Halted.{halted as sink_halted}
@@ -14,6 +15,7 @@ use Rattle.tendril.specs.Refusal.{Refusal}
 use Rattle.tendril.specs.Refusal.TheVariants.{Failed}
 use Rattle.tendril.specs.SentBytes.{sent_bytes, told_bytes}
 use Rattle.tendril.specs.Sinks.{Sent, IsSent, told_of}
+use Rattle.tendril.specs.Utf8Laws.{is_utf8}
 use Rattle.use_csv.proofs.Whole.{After, Takes, goes_on}
 use Rattle.use_csv.specs.Follows.{unmarked-append}
 use Rattle.use_csv.specs.Spelled.{unmarked}
@@ -64,11 +66,11 @@ module _ {S : Type 0} (spelled given_on : S → List ℕ) (start : List ℕ)
   pub halted : {D : Type 0} (inner : D → S) (held : D → List ℕ) (failed : D → Bool) (ends : D → Refusal → Type 0)
       (sink : S) (d : D) (most : ℕ) (these : List OneRead) (r : Refusal) (handed : Option D)
       → inner d ≡ sink → held d ≡ [] → failed d ≡ false → After spelled start sink []
-      → Halts (DecoderTakes (Takes spelled) inner held failed)
+      → Halts (DecoderTakes utf8 (Takes spelled) inner held failed)
       (λ d e r n. (failed n ≡ true) × (((failed d ≡ true) × (r ≡ Failed) × (inner n ≡ inner d))
-      ⊎ ((failed d ≡ false) × DecodingStops (Takes spelled) Refuses (inner d) (held d) e r (inner n))))
+      ⊎ ((failed d ≡ false) × DecodingStops utf8 (Takes spelled) Refuses (inner d) (held d) e r (inner n))))
       ends most d these r handed
       → IfSome handed (λ n. Front (inner n) (due (given these)))
   halted inner held failed =
-      sink_halted (Takes spelled) Refuses (After spelled start) Front (goes_on spelled start) begins grows refused
-      inner held failed
+      sink_halted utf8 is_utf8 (Takes spelled) Refuses (After spelled start) Front (goes_on spelled start) begins grows
+      refused inner held failed

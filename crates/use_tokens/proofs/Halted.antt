@@ -10,10 +10,12 @@ use Rattle.tendril.specs.Lossy.{Told, characters, due}
 use Rattle.tendril.specs.Proofs.Halted.{halted as sink_halted}
 use Rattle.tendril.specs.Proofs.Refused.{DecoderTakes}
 use Rattle.tendril.specs.Decoders.{DecodingStops}
+use Rattle.tendril.specs.Decodings.{utf8}
 use Rattle.tendril.specs.Readings.{Halts}
 use Rattle.tendril.specs.Reads.{OneRead, given}
 use Rattle.tendril.specs.SentBytes.{sent_bytes, told_bytes}
 use Rattle.tendril.specs.Sinks.{Sent, IsSent, told_of}
+use Rattle.tendril.specs.Utf8Laws.{is_utf8}
 use Rattle.use_tokens.proofs.Whole.{After, Takes, goes_on}
 use Rattle.use_tokens.specs.Spelled.{TokensSpellPrefix, joined_sources}
 use Rattle.use_tokens.specs.declared.token.Token.{Token}
@@ -58,10 +60,10 @@ module _ {S : Type 0} (tokens : S → List Token) (left : S → List ℕ) (start
   pub halted : {D : Type 0} (inner : D → S) (held : D → List ℕ) (failed : D → Bool) (ends : D → Refusal → Type 0)
       (sink : S) (d : D) (max_reads : ℕ) (these : List OneRead) (r : Refusal) (handed : Option D)
       → inner d ≡ sink → held d ≡ [] → failed d ≡ false → After tokens left start sink []
-      → Halts (DecoderTakes (Takes tokens left) inner held failed)
+      → Halts (DecoderTakes utf8 (Takes tokens left) inner held failed)
       (λ d e r n. (failed n ≡ true) × (((failed d ≡ true) × (r ≡ Failed) × (inner n ≡ inner d))
-      ⊎ ((failed d ≡ false) × DecodingStops (Takes tokens left) Refuses (inner d) (held d) e r (inner n))))
+      ⊎ ((failed d ≡ false) × DecodingStops utf8 (Takes tokens left) Refuses (inner d) (held d) e r (inner n))))
       ends max_reads d these r handed
       → IfSome handed (λ n. Front (inner n) (due (given these)))
-  halted inner held failed = sink_halted (Takes tokens left) Refuses (After tokens left start) Front
+  halted inner held failed = sink_halted utf8 is_utf8 (Takes tokens left) Refuses (After tokens left start) Front
       (goes_on tokens left start) begins grows refused inner held failed

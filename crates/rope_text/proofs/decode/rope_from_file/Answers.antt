@@ -1,6 +1,8 @@
 use Rattle.std.proofs.Common.{[], refl, sym, subst, inl}
 use Rattle.tendril_stream.proofs.Stands.{stands_at_nothing}
 use Rattle.tendril_stream.specs.Compositions.{StandsAt}
+use Rattle.tendril_stream.specs.Decodings.{utf8}
+use Rattle.tendril_stream.specs.Utf8Laws.{is_utf8}
 use Rattle.rope_text.proofs.Decoded.{new_has}
 use Rattle.rope_text.specs.Ropes.{RopeText}
 use Rattle.rope_text.specs.Sink.{HasCharacters, goes_on_by}
@@ -18,7 +20,7 @@ returns-in-Err-clause-stopped g c =
         d,
         refl,
         made.failed,
-        subst (λ k. StandsAt HasCharacters d.inner_sink k []) (sym made.kept)
-            (stands_at_nothing _ HasCharacters goes_on_by d.inner_sink has),
+        subst (λ k. StandsAt utf8 HasCharacters d.inner_sink k []) (sym made.kept)
+            (stands_at_nothing utf8 is_utf8 _ HasCharacters goes_on_by d.inner_sink has),
       ),
     )

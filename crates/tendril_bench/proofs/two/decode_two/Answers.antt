@@ -1,6 +1,7 @@
 use Rattle.std.proofs.Common.{◌≡◌, ◌∙◌, [], ◌++◌, ap, subst, sym}
 use Rattle.std.proofs.lemmas.Result.{IfOk-weaker}
 use Rattle.tendril.specs.Compositions.{StandsAt}
+use Rattle.tendril.specs.Decodings.{utf8}
 use Rattle.tendril.specs.Events.{sent}
 use Rattle.tendril.specs.Sinks.{told}
 use Rattle.tendril_bench.proofs.two.decode_two.Goals as goal
@@ -14,7 +15,7 @@ returns c =
     let two = c.process-2.new.self in
     let empty = ap (λ a. told (sent a.events.items)) c.new-decoder.ensures.sink
     ∙ ap (λ l. told (sent l)) c.new.ensures in
-    let start = subst (λ k. StandsAt (λ a t. told (sent a.events.items) ≡ t) none.inner_sink k [])
+    let start = subst (λ k. StandsAt utf8 (λ a t. told (sent a.events.items) ≡ t) none.inner_sink k [])
     (sym c.new-decoder.ensures.kept) (l.begins none.inner_sink empty) in
     let at_first = l.goes_on none.inner_sink one.inner_sink none.kept one.kept [] first start
     c.in_ok-process.ensures.ok.2 in

@@ -8,6 +8,7 @@ use Rattle.tendril_cli.specs.Decodings.{DecodeStops, JoinRefused, WritesFrontOfT
 use Rattle.tendril_lossy.specs.Lossy.{characters, due_open, kept}
 use Rattle.tendril_stream.proofs.Fed.{given-push}
 use Rattle.tendril_stream.specs.Decoders.{Decodes}
+use Rattle.tendril_stream.specs.Decodings.{utf8}
 use Rattle.tendril_stream.specs.Readings.{ReadsOnce}
 use Rattle.tendril_stream.specs.Sinks.{told_of}
 use Rattle.tendril_stream.specs.Reads.{MayReadOn, given}
@@ -28,7 +29,7 @@ returns-in_err-write_text-clause-stops g c = λ before these on some ready.
     let once = subst (ReadsOnce g.R.CountedRead.history g.R.CountedRead.remaining c.args.reader.now
     c.read_once.new.reader d n
     (λ d e n. (d.failed ≡ false) × (n.failed ≡ false)
-    × Decodes (λ a e b. chars b ≡ chars a ++ characters (told_of e)) d.inner_sink d.kept e n.inner_sink n.kept))
+    × Decodes utf8 (λ a e b. chars b ≡ chars a ++ characters (told_of e)) d.inner_sink d.kept e n.inner_sink n.kept))
     c.if-branch.false c.in_ok-read_once.ensures.ok in
     let bytes = n.inner_sink in
     let stands = ready_stands (λ s. chars s) these before _ d.kept d.inner_sink d.failed d.inner_sink ready refl in
@@ -59,7 +60,7 @@ returns-clause-read g c = λ before these ready not.
     let once = subst (ReadsOnce g.R.CountedRead.history g.R.CountedRead.remaining c.args.reader.now
     c.read_once.new.reader d n
     (λ d e n. (d.failed ≡ false) × (n.failed ≡ false)
-    × Decodes (λ a e b. chars b ≡ chars a ++ characters (told_of e)) d.inner_sink d.kept e n.inner_sink n.kept))
+    × Decodes utf8 (λ a e b. chars b ≡ chars a ++ characters (told_of e)) d.inner_sink d.kept e n.inner_sink n.kept))
     c.if-branch.false c.in_ok-read_once.ensures.ok in
     let bytes = n.inner_sink in
     let stands = ready_stands (λ s. chars s) these before _ d.kept d.inner_sink d.failed d.inner_sink ready refl in

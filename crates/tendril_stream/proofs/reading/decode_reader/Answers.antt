@@ -1,5 +1,7 @@
 use Rattle.std.proofs.Common.{◌≡◌, ◌∷◌, [], ◌++◌, ◌∙◌, ap, ⊎_elim}
 use Rattle.std.proofs.lemmas.Result.{IfErr-weaker, IfOk-weaker}
+use Rattle.tendril_stream.specs.Decodings.{utf8}
+use Rattle.tendril_stream.specs.Utf8Laws.{is_utf8}
 use Rattle.tendril_stream.proofs.Own.{process_clash, end_clash}
 use Rattle.tendril_stream.proofs.Refused.{stands_read, stream_stops}
 use Rattle.tendril_stream.proofs.Stands.{ends_at}
@@ -13,12 +15,12 @@ pub returns-clause-ok : goal.returns-clause-ok
 returns-clause-ok g c = IfOk-weaker c.read_decoded.result _ _ (λ out h.
     let d = c.new-decoder.result in
     let all = h.3 in
-    let stands = stands_read (λ a e b. sent b.events.items ≡ sent a.events.items ++ e ∷ []) (λ d. d.inner_sink)
-    (λ d. d.kept) (λ d. d.failed) (λ a t. told (sent a.events.items) ≡ t)
+    let stands = stands_read utf8 (λ a e b. sent b.events.items ≡ sent a.events.items ++ e ∷ []) (λ d. d.inner_sink)
+    (λ d. d.kept) (λ d. d.failed) is_utf8 (λ a t. told (sent a.events.items) ≡ t)
     (λ t a e b is_sent h c. stored_on (sent a.events.items) (sent b.events.items) e t c h)
     c.new.result d all.last h.0 c.new-decoder.ensures.sink c.new-decoder.ensures.kept c.new-decoder.ensures.failed
     (ap (λ l. told (sent l)) c.new.ensures) all.receives in
-    let e = ends_at _ (λ a t. told (sent a.events.items) ≡ t)
+    let e = ends_at utf8 is_utf8 _ (λ a t. told (sent a.events.items) ≡ t)
     (λ t a e b is_sent h c. stored_on (sent a.events.items) (sent b.events.items) e t c h)
     (λ a o. o.items ≡ a.events.items) all.last.inner_sink all.last.kept (given h.0) out stands.0 all.finished.1 in
     (h.0, h.1, h.2, ap (λ l. told (sent l)) e.2 ∙ e.1, all.ends, all.within)) c.read_decoded.ensures.ok
@@ -31,8 +33,8 @@ returns-clause-stopped g c = IfErr-weaker c.read_decoded.result _ _ (λ s h. (
       let d = c.new-decoder.result in
       ⊎_elim
       (λ k.
-      let stands = stands_read (λ a e b. sent b.events.items ≡ sent a.events.items ++ e ∷ []) (λ d. d.inner_sink)
-      (λ d. d.kept) (λ d. d.failed) (λ a t. told (sent a.events.items) ≡ t)
+      let stands = stands_read utf8 (λ a e b. sent b.events.items ≡ sent a.events.items ++ e ∷ []) (λ d. d.inner_sink)
+      (λ d. d.kept) (λ d. d.failed) is_utf8 (λ a t. told (sent a.events.items) ≡ t)
       (λ t a e b is_sent h c. stored_on (sent a.events.items) (sent b.events.items) e t c h)
       c.new.result d k.sink h.0 c.new-decoder.ensures.sink c.new-decoder.ensures.kept c.new-decoder.ensures.failed
       (ap (λ l. told (sent l)) c.new.ensures) k.receives in
@@ -43,7 +45,8 @@ returns-clause-stopped g c = IfErr-weaker c.read_decoded.result _ _ (λ s h. (
       v)
       h.2,
   let d = c.new-decoder.result in
-      stream_stops _ _ (λ d. d.inner_sink) (λ d. d.kept) (λ d. d.failed) _ (λ a t. told (sent a.events.items) ≡ t)
+      stream_stops utf8 _ _ (λ d. d.inner_sink) (λ d. d.kept) (λ d. d.failed) is_utf8 _
+      (λ a t. told (sent a.events.items) ≡ t)
       (λ t a e b is_sent h c. stored_on (sent a.events.items) (sent b.events.items) e t c h) c.new.result d
       c.args.max_reads h.0 s.refusal s.sink
       c.new-decoder.ensures.sink c.new-decoder.ensures.kept c.new-decoder.ensures.failed

@@ -7,10 +7,13 @@ use Rattle.std.specs.Prelude.{codes, MatchResult}
 use Rattle.tendril_lossy.proofs.Resume.{after_text, after_broken, still_open}
 use Rattle.tendril_lossy.specs.Completions.{BreaksAt, CompletesTo}
 use Rattle.tendril_lossy.specs.Lossy.{Char, due_open, kept, replaced}
+use Rattle.tendril_stream.specs.Decodings.{PieceMay}
+use Rattle.tendril_stream.proofs.Feeds.{piece_grows}
+use Rattle.tendril_stream.specs.Sinks.{IsSentOf}
 use Rattle.tendril_stream.proofs.Feeds.{Feeds-none, Feeds-one, Stops-call, Stops-more}
 use Rattle.tendril_stream.proofs.Turns.{short_handed, rest_kept}
 use Rattle.tendril_stream.specs.Sinks.{Piece}
-use Rattle.tendril_stream.proofs.decoder.resume.Goals as goal
+use Rattle.tendril_stream.proofs.utf8.resume.Goals as goal
 
 pub returns-then-is_empty-clause-ok : goal.returns-then-is_empty-clause-ok
 returns-then-is_empty-clause-ok g c =
@@ -18,7 +21,7 @@ returns-then-is_empty-clause-ok g c =
     let nil : c.args.kept.now ≡ [] = sym c.kept.ensures.bytes
     ∙ nil_from_length c.kept.result.now (grind (arith, nat_tests)) in (
       [],
-      Feeds-none g.S.TendrilSink.takes c.args.piece.now c.args.sink.now,
+      Feeds-none g.S.TendrilSink.takes (IsSentOf c.args.piece.now) c.args.sink.now,
       ap (λ l. due_open (l ++ p)) nil,
       ap
           (λ l. kept (l ++ p)) nil,
@@ -41,7 +44,8 @@ returns-in_err-replace-in-Err-clause-err g c =
     let a = after_broken k p c.in-Err.field-0 c.complete_from.new.piece.bytes h in
     let q = err_from_is_err_and c.from_residual-in_err-replace-in-Err.result
     c.from_residual-in_err-replace-in-Err.ensures.1 in
-    rw (q.1, q.2) (Stops-more g.S.TendrilSink.takes g.S.TendrilSink.refuses c.args.piece.now c.args.sink.now
+    rw (q.1, q.2) (Stops-more g.S.TendrilSink.takes g.S.TendrilSink.refuses (IsSentOf c.args.piece.now)
+    (PieceMay c.args.piece.now) (piece_grows c.args.piece.now) c.args.sink.now
     c.replace.new.sink (replaced (codes "invalid byte sequence")) (due_open c.complete_from.new.piece.bytes)
     (due_open (k ++ p)) _ (c.in_err-replace-in-Err.ensures.err c.args.piece.now) (sym a.0))
 
@@ -61,7 +65,8 @@ returns-in_err-send-in-Ok-clause-err g c =
     let fit = short_handed c.args.piece.now t k p rest some whole (c.from_short_str.ensures.copied
     ∙ sym (ap length c.from_short_str.ensures.bytes)) in
     let q = err_from_is_err_and c.from_residual.result c.from_residual.ensures.1 in
-    rw (q.1, q.2) (Stops-call g.S.TendrilSink.takes g.S.TendrilSink.refuses c.args.piece.now c.args.sink.now
+    rw (q.1, q.2) (Stops-call g.S.TendrilSink.takes g.S.TendrilSink.refuses (IsSentOf c.args.piece.now)
+    (PieceMay c.args.piece.now) c.args.sink.now
     (Piece t) (due_open rest) (due_open (k ++ p)) _ c.send.new.sink fit (sym a.0) c.in_err-send-in-Ok.ensures.err)
 
 pub returns-in_ok-send-in-Ok-clause-ok : goal.returns-in_ok-send-in-Ok-clause-ok
@@ -80,7 +85,7 @@ returns-in_ok-send-in-Ok-clause-ok g c =
     let fit = short_handed c.args.piece.now t k p rest some whole (c.from_short_str.ensures.copied
     ∙ sym (ap length c.from_short_str.ensures.bytes)) in (
       map Char (chars t.bytes),
-      Feeds-one g.S.TendrilSink.takes c.args.piece.now c.args.sink.now
+      Feeds-one g.S.TendrilSink.takes (IsSentOf c.args.piece.now) c.args.sink.now
           (Piece t) c.send.new.sink fit c.in_ok-send-in-Ok.ensures.ok,
       a.0,
       a.1,

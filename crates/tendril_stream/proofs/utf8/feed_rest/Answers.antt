@@ -4,7 +4,7 @@ use Rattle.tendril_text.specs.Decoding.{PopsText}
 use Rattle.tendril_lossy.specs.Lossy.{IsOpen}
 use Rattle.tendril_lossy.specs.declared.search.Ending.TheVariants.{Broken}
 use Rattle.tendril_stream.proofs.Turns.{ended, more, start, stopped, unbroken, unpopped, unsent}
-use Rattle.tendril_stream.proofs.decoder.feed_rest.Goals as goal
+use Rattle.tendril_stream.proofs.utf8.feed_rest.Goals as goal
 
 pub new_without_validating-requires : goal.new_without_validating-requires
 new_without_validating-requires g c =

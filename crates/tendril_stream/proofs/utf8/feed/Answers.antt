@@ -1,10 +1,12 @@
 use Rattle.std.proofs.Common.{◌∙◌, ◌++◌, sym, subst}
 use Rattle.std.proofs.lemmas.Result.{err_from_is_err_and}
 use Rattle.tendril_lossy.specs.Lossy.{due_open}
+use Rattle.tendril_stream.specs.Decodings.{PieceMay}
+use Rattle.tendril_stream.specs.Sinks.{IsSentOf}
 use Rattle.tendril_stream.specs.Decoders.{ResumesPiece}
 use Rattle.tendril_stream.proofs.Feeds.{Feeds-append, Feeds-same, Stops-after}
 use Rattle.tendril_stream.proofs.Turns.{Feeds-through, Stops-through}
-use Rattle.tendril_stream.proofs.decoder.feed.Goals as goal
+use Rattle.tendril_stream.proofs.utf8.feed.Goals as goal
 
 pub returns-in_ok-held-clause-ok : goal.returns-in_ok-held-clause-ok
 returns-in_ok-held-clause-ok g c =
@@ -14,9 +16,11 @@ returns-in_ok-held-clause-ok g c =
     let r = subst (λ done. ResumesPiece g.S.TendrilSink.takes c.args.sink.now c.args.held.now piece done
     c.resume.new.sink c.resume.new.kept rest) c.if-branch.true c.in_ok-resume.ensures.ok in
     let f = c.in_ok-held.ensures.ok in (
-      Feeds-same g.S.TendrilSink.takes piece c.args.sink.now c.feed_rest.new.sink (r.0 ++ due_open rest.bytes) all
+      Feeds-same g.S.TendrilSink.takes (IsSentOf piece) c.args.sink.now c.feed_rest.new.sink
+          (r.0 ++ due_open rest.bytes) all
           (sym r.2)
-          (Feeds-append g.S.TendrilSink.takes piece c.args.sink.now c.resume.new.sink c.feed_rest.new.sink r.0
+          (Feeds-append g.S.TendrilSink.takes (IsSentOf piece) c.args.sink.now c.resume.new.sink c.feed_rest.new.sink
+          r.0
           (due_open rest.bytes) r.1
           (Feeds-through g.S.TendrilSink.takes g.S.TendrilSink.refuses piece rest r.5 r.6 c.resume.new.sink
           c.feed_rest.new.sink (due_open rest.bytes) f.0)),
@@ -32,7 +36,8 @@ returns-in_err-held-clause-err g c =
     c.resume.new.sink c.resume.new.kept rest) c.if-branch.true c.in_ok-resume.ensures.ok in
     let q = err_from_is_err_and c.from_residual-in_err-held.result c.from_residual-in_err-held.ensures.1 in
     rw (q.1, q.2) (
-    Stops-after g.S.TendrilSink.takes g.S.TendrilSink.refuses piece c.args.sink.now c.resume.new.sink
+    Stops-after g.S.TendrilSink.takes g.S.TendrilSink.refuses (IsSentOf piece)
+    (PieceMay piece) c.args.sink.now c.resume.new.sink
     c.feed_rest.new.sink r.0 (due_open rest.bytes) all _ r.1
     (Stops-through g.S.TendrilSink.takes g.S.TendrilSink.refuses piece rest r.5 r.6 c.resume.new.sink
     c.feed_rest.new.sink (due_open rest.bytes) _ c.in_err-held.ensures.err)

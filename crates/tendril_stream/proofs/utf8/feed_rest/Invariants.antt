@@ -1,6 +1,6 @@
 use Rattle.std.proofs.Common.{length}
 use Rattle.tendril_stream.proofs.Turns.{SoFar}
-use Rattle.tendril_stream.proofs.decoder.feed_rest.Given as goal
+use Rattle.tendril_stream.proofs.utf8.feed_rest.Given as goal
 
 abbrev pub invariant-loop-piece : goal.invariant-loop-piece
 invariant-loop-piece g l = SoFar g.S.TendrilSink.takes l.fn.piece l.fn.sink l.piece l.sink

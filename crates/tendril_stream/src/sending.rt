@@ -1,0 +1,39 @@
+//! What every decoder sends to its sink.
+ghost use Rattle.std.specs.Prelude.{OnOk, IfErr};
+ghost use Rattle.tendril_lossy.specs.Lossy.{replaced};
+ghost use Rattle.tendril_stream.specs.Decodings.{PieceMay};
+ghost use Rattle.tendril_stream.specs.Sinks.{Piece, Feeds, IsSentOf, RefusesCall, Stops};
+
+use crate::sink::TendrilSink;
+use std::alloc::Global;
+use std::borrow::CowStr;
+use tendril_block::Refusal;
+use tendril_text::fmt::UTF8;
+use tendril_text::{Atomicity, Tendril};
+
+/// Sends a text to the sink. Any error of the sink becomes `SinkRefused`.
+pub fn send<S: TendrilSink<Tendril<UTF8, A>>, A: Atomicity>(
+    sink: &mut S,
+    text: Tendril<UTF8, A>,
+) -> Result<(), Refusal>
+    ensures ok { OnOk result (S.takes sink.old (Piece text) sink.new) }
+    ensures err { IfErr result (λ r. RefusesCall S.refuses sink.old (Piece text) r sink.new) }
+{
+    sink.process(text).map_err(|_| Refusal::SinkRefused)
+}
+
+/// Sends an error to the sink, and then U+FFFD. Any error of the sink becomes `SinkRefused`.
+pub fn replace<S: TendrilSink<Tendril<UTF8, A>>, A: Atomicity>(
+    sink: &mut S,
+    alloc: Global,
+    words: &'static str,
+) -> Result<(), Refusal>
+    ensures ok { (piece : _) → OnOk result (Feeds S.takes (IsSentOf piece) sink.old (replaced words.now) sink.new) }
+    ensures err { (piece : _) → IfErr result (λ r.
+        Stops S.takes S.refuses (IsSentOf piece) (PieceMay piece) sink.old (replaced words.now) r sink.new) }
+{
+    if let Err(_) = sink.error(CowStr::Borrowed(words)) {
+        return Err(Refusal::SinkRefused);
+    }
+    send(sink, Tendril::from_short_str(alloc, "\u{FFFD}"))
+}
