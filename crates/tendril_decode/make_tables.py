@@ -1,0 +1,205 @@
+#!/usr/bin/env python3
+"""Writes the tables of the encodings of one byte: make_tables.py FOLDER
+
+FOLDER has the indexes of the Encoding Standard as NAME.tsv, a line for each pointer: the pointer, a tab and the code
+point in hexadecimal. Written are src/tables.rt, src/tables/*.rt and proofs/PackedTables.antt, beside this script.
+"""
+import sys
+from hashlib import sha256
+from pathlib import Path
+
+HERE = Path(__file__).resolve().parent
+BASIS = 0xCBF29CE484222325
+PRIME = 0x100000001B3
+
+# The index of each encoding, and its sum. x-user-defined has none: its table follows from its definition.
+INDEXES = {
+    "ibm866": "bd0932b1d1adc2da27151b8c8850aec287e8fb201e5815c4078c626652605d27",
+    "iso-8859-2": "fddb27a79dee7a3852d9916e076f2d95d37216e2a2134351348d20f0421fd009",
+    "iso-8859-3": "e034f899c952b4a1034456e6664f21bbfd45de4aa3bbb5ce553898edcf9bea9c",
+    "iso-8859-4": "6776d1ab21e5e92f748e42ca0289365e5d2076177a1638ba1dd1ec41677aa282",
+    "iso-8859-5": "0de5e6220c1e3b44bd097d81d03c71f1f2ef1eff1b7bf191ae9b6c4f26cbfdc8",
+    "iso-8859-6": "b30af60a2abf2bbc933b2430e1cf6dbd6aa43938088a47926191460e45b9cf56",
+    "iso-8859-7": "8f5760a1b15a6463471c85098778e23740220750f378b7f8d63b55f0f21e1cab",
+    "iso-8859-8": "981afb41898dee95c353c7aa277a70bc628fd16a085efe0a1e2142d490be828b",
+    "iso-8859-10": "ed974ef687ad534b23f3110bc32a267bc7a1286180f6267712ed5a0d54e890df",
+    "iso-8859-13": "94896f9b769b8bfd7838e9f4951668805ce90b52f0b3d6a9d8aafc7c53486fa3",
+    "iso-8859-14": "eab3325ab48b5ba39e0a1a690d0d828585b71dc45d16a8b53cd38670b7d582fa",
+    "iso-8859-15": "a1bf039b7eb4f7d496ae7e526244f0feaf6add9de600711b96f7fe5a803d4d96",
+    "iso-8859-16": "00a0d66dc780834c424686e963506c4f039e16ec4357def1b90d70ccdeba0202",
+    "koi8-r": "720f51422eb6835e4bb0471520973ee680bc2f64f75f91a9cc014395cd6d98da",
+    "koi8-u": "4b562ef46221951aa8deb7b3407fda0de0ebe46bb25b5e3f07e74c764731ca64",
+    "macintosh": "321c23ea44dd6decb6e10fc4e0f71663eee39caab30caf155a51bc17e1fbb796",
+    "windows-874": "d4499955f584f5f599c94c19fe954f5487e0fff29ad8b0b4c2d756afb70856d6",
+    "windows-1250": "c7f99e2598267047840088283f3b937c7f59efdbf926fe0d006fe8ee992a1723",
+    "windows-1251": "612c837aca51da51f9c42575adc1ca54442a2326f5a4e6155f4212f13b3505dc",
+    "windows-1252": "a9919ed65e751f9dded7b98d6f239dc263c7d00e288f6c77ae822927c2f32e75",
+    "windows-1253": "1a1bd9f0fcfcb36affc8a1e935eb2891bbd0e46951f43d118323589607742091",
+    "windows-1254": "8549fcf8fa385655277866999e09f9a611a2ab0d94fdf65bef284684b8097ae2",
+    "windows-1255": "2391967596096a9d4b698b247dcbdc685ec11188d27602824520907ef32fb969",
+    "windows-1256": "c40e4e00a70f98d58c108f1a46151ce3284d0620115218f58c16382148126b97",
+    "windows-1257": "31057063876d1a4b7f6b4b74c645c117f5763b109e4235e97f0c6d201732f3b6",
+    "windows-1258": "0a182c0f07635080bdec6450345d5a146d0fd82ba351553a71e6b885d54b9999",
+    "x-mac-cyrillic": "6f4e1a7193ce9e755db27f44c3652e0f4479d569bb5854df48b1a5f9a9388735",
+}
+USER_DEFINED = "x-user-defined"
+
+# The variants of SingleByte, and the table of each.
+VARIANTS = {
+    "Ibm866": "ibm866",
+    "Iso8859_2": "iso-8859-2",
+    "Iso8859_3": "iso-8859-3",
+    "Iso8859_4": "iso-8859-4",
+    "Iso8859_5": "iso-8859-5",
+    "Iso8859_6": "iso-8859-6",
+    "Iso8859_7": "iso-8859-7",
+    "Iso8859_8": "iso-8859-8",
+    "Iso8859_8I": "iso-8859-8",
+    "Iso8859_10": "iso-8859-10",
+    "Iso8859_13": "iso-8859-13",
+    "Iso8859_14": "iso-8859-14",
+    "Iso8859_15": "iso-8859-15",
+    "Iso8859_16": "iso-8859-16",
+    "Koi8R": "koi8-r",
+    "Koi8U": "koi8-u",
+    "Macintosh": "macintosh",
+    "Windows874": "windows-874",
+    "Windows1250": "windows-1250",
+    "Windows1251": "windows-1251",
+    "Windows1252": "windows-1252",
+    "Windows1253": "windows-1253",
+    "Windows1254": "windows-1254",
+    "Windows1255": "windows-1255",
+    "Windows1256": "windows-1256",
+    "Windows1257": "windows-1257",
+    "Windows1258": "windows-1258",
+    "XMacCyrillic": "x-mac-cyrillic",
+    "XUserDefined": USER_DEFINED,
+}
+
+
+def read_index(folder, name):
+    """The code points of the bytes from 0x80 on, 0 where there is none."""
+    if name == USER_DEFINED:
+        return [0xF780 + pointer for pointer in range(128)]
+    data = (folder / f"{name}.tsv").read_bytes()
+    if sha256(data).hexdigest() != INDEXES[name]:
+        sys.exit(f"{name}.tsv: not the index that the tables were made from")
+    codes = [0] * 128
+    for line in data.decode().splitlines():
+        pointer, code = line.split("\t")
+        codes[int(pointer)] = int(code, 16)
+    return codes
+
+
+def packed(code):
+    """The UTF-8 of a code point, least significant byte first, with its length in the top byte."""
+    utf8 = chr(code).encode()
+    return int.from_bytes(utf8, "little") | len(utf8) << 24
+
+
+def rows(numbers, width):
+    """The lines of an array, eight numbers each."""
+    texts = [f"0x{number:0{width}X}" for number in numbers]
+    return [f"    {', '.join(texts[at:at + 8])}," for at in range(0, len(texts), 8)]
+
+
+def module_of(name):
+    return name.replace("-", "_")
+
+
+def table_file(name, codes):
+    const = module_of(name).upper()
+    entries = [packed(byte) for byte in range(128)] + [packed(code) if code else 0 for code in codes]
+    return [
+        f"//! {name}. Written by make_tables.py.",
+        "",
+        "/// The characters of the bytes from 0x80 on, 0 where a byte has none.",
+        "#[rattlefmt::skip]",
+        f"pub const {const}: [u16; 128] = [",
+        *rows(codes, 4),
+        "];",
+        "",
+        "/// Each byte's character in UTF-8, first byte lowest, and its length in the top byte; 0 where there is none.",
+        "#[rattlefmt::skip]",
+        f"pub static PACKED_{const}: [u32; 256] = [",
+        *rows(entries, 8),
+        "];",
+    ]
+
+
+def sum_of(codes):
+    """FNV-1a of the UTF-8 of all 256 bytes, with 0xFF for a byte that has no character."""
+    total = BASIS
+    for code in list(range(128)) + [code or None for code in codes]:
+        for byte in b"\xFF" if code is None else chr(code).encode():
+            total = (total ^ byte) * PRIME % 2**64
+    return total
+
+
+def sums_file(tables):
+    lines = [
+        "//! What the bytes 0x00 to 0xFF decode to in each encoding. Written by make_tables.py.",
+        "",
+        "use crate::single_byte::SingleByte;",
+        "",
+        "/// FNV-1a of the UTF-8 of the 256 characters, with 0xFF for a byte that has none.",
+        "#[rattlefmt::skip]",
+        f"pub(crate) const SUMS: [(SingleByte, u64); {len(VARIANTS)}] = [",
+    ]
+    for variant, name in VARIANTS.items():
+        lines.append(f"    (SingleByte::{variant}, 0x{sum_of(tables[name]):016X}),")
+    return lines + ["];"]
+
+
+def modules_file(tables):
+    modules = {module_of(name): [f"pub mod {module_of(name)};"] for name in tables}
+    modules["sums"] = ["#[cfg(test)]", "pub(crate) mod sums;"]
+    lines = ["//! The tables of the encodings of one byte. Written by make_tables.py.", ""]
+    return lines + [line for module in sorted(modules) for line in modules[module]]
+
+
+def proofs_file(tables):
+    lines = [
+        "-- Each entry of a packed table is that of the table that the specification names. Written by make_tables.py.",
+        "use Rattle.std.proofs.Common.{◌≡◌, true, refl}",
+        "use Rattle.std.specs.Char.{encode_utf8}",
+        "use Rattle.tendril_decode.specs.Packed.{ArePacked}",
+        "use Rattle.tendril_decode.proofs.PackedSteps.{all_packed, entries_ok}",
+    ]
+    for name in sorted(tables, key=module_of):
+        const = module_of(name).upper()
+        place = f"Rattle.tendril_decode.specs.declared.tables.{module_of(name)}.TheConstants"
+        lines.append(f"use {place}.{{{const}, PACKED_{const}}}")
+    for name in sorted(tables, key=module_of):
+        module = module_of(name)
+        const = module.upper()
+        lines += [
+            "",
+            f"ok-{module} : entries_ok {const} 0 PACKED_{const} ≡ true",
+            "unfolding entries_ok encode_utf8",
+            f"ok-{module} = refl",
+            "",
+            f"pub packed-{module} : ArePacked {const} PACKED_{const}",
+            f"packed-{module} = all_packed {const} PACKED_{const} ok-{module} refl",
+        ]
+    lines += ["", "pub ruleset packed_tables = ("]
+    lines += [f"  packed-{module_of(name)}," for name in sorted(tables, key=module_of)]
+    return lines + [")"]
+
+
+def write(path, lines):
+    (HERE / path).write_text("\n".join(lines) + "\n")
+
+
+def main():
+    folder = Path(sys.argv[1])
+    tables = {name: read_index(folder, name) for name in VARIANTS.values()}
+    for name, codes in tables.items():
+        write(f"src/tables/{module_of(name)}.rt", table_file(name, codes))
+    write("src/tables/sums.rt", sums_file(tables))
+    write("src/tables.rt", modules_file(tables))
+    write("proofs/PackedTables.antt", proofs_file(tables))
+
+
+main()

@@ -1,0 +1,10 @@
+pub mod Machines
+pub mod SingleSteps
+pub mod Lanes
+pub mod ReplacementSteps
+pub mod Utf16Runs
+pub mod Utf16Steps
+pub mod Utf8Machine
+pub mod PackedSteps
+pub mod PackedTables
+pub mod Embeddings
