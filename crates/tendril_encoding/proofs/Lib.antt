@@ -1,0 +1,9 @@
+pub mod New
+pub mod Parts
+pub mod Ascii
+pub mod Wholes
+pub mod Sniffs
+pub mod MarkLaws
+pub mod Begun
+pub mod Decoded
+pub mod Joins

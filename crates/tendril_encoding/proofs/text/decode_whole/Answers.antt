@@ -1,0 +1,56 @@
+use Rattle.std.proofs.Common.{◌≡◌, ◌-◌, ◌+◌, ◌≤◌, ◌++◌, length, take, drop, refl, sym, ap, subst, ◌∙◌, arith}
+use Rattle.std.proofs.Math.Seq.{take-add}
+use Rattle.std.proofs.lemmas.List.{take_all}
+use Rattle.std.proofs.lemmas.Result.{IfOk-weaker}
+use Rattle.std.specs.Prelude.{encode_utf8_all}
+use Rattle.tendril_encoding.proofs.Joins.{after, goes_on, takes}
+use Rattle.tendril_encoding.specs.HasMarks.{has_marks}
+use Rattle.tendril_encoding.specs.StateLaws.{is_decoding_from}
+use Rattle.tendril_encoding.specs.States.{decoding_from}
+use Rattle.tendril_lossy.specs.Lossy.{characters}
+use Rattle.tendril_stream.proofs.Stands.{ends_at, stands_at_nothing, stands_on}
+use Rattle.tendril_stream.specs.Compositions.{StandsAt}
+use Rattle.tendril_encoding.proofs.text.decode_whole.Goals as goal
+
+pub loop-at-init : goal.loop-at-init
+loop-at-init c =
+    let start = c.args.decoder.decoder.kept in
+    record {
+      within = omega arith;
+      failed = c.requires.failed;
+      stands = stands_at_nothing (decoding_from start) (is_decoding_from start c.requires.start) takes after goes_on
+          c.args.decoder.decoder.inner_sink c.requires.sink;
+    }
+
+pub loop-at-preserved : goal.loop-at-preserved
+loop-at-preserved c =
+    let start = c.args.decoder.decoder.kept in
+    let bytes = c.args.bytes.now in
+    let at = c.loop-at.at in
+    let end = at + c.min.result in
+    let old = c.loop-at.decoder.decoder in
+    let new = c.process.new.self.decoder in
+    let piece = c.in_ok-piece.piece in
+    let h = c.in_ok-process.ensures.ok in
+    let same : end - at ≡ c.min.result = omega arith in
+    let cut : take at bytes ++ piece.bytes ≡ take end bytes =
+    ap (λ l. take at bytes ++ l) (c.in_ok-piece.ensures.1.bytes ∙ ap (λ n. take n (drop at bytes)) same)
+    ∙ sym (take-add at c.min.result bytes) in
+    record {
+      within = omega arith;
+      failed = h.1;
+      stands = subst (StandsAt (decoding_from start) after new.inner_sink new.kept) cut
+          (stands_on (decoding_from start) (is_decoding_from start c.requires.start) takes after goes_on old.inner_sink
+          new.inner_sink old.kept new.kept (take at bytes) piece c.loop-at.invariant.stands h.2);
+    }
+
+pub returns : goal.returns
+returns c = IfOk-weaker c.finish.result _ _ (λ out h.
+    let start = c.args.decoder.decoder.kept in
+    let bytes = c.args.bytes.now in
+    let last = c.loop-at.decoder.decoder in
+    let all : take c.loop-at.at bytes ≡ bytes = take_all c.loop-at.at bytes c.loop-at-test.false in
+    let e = ends_at (decoding_from start) (is_decoding_from start c.requires.start) takes after goes_on
+    (λ a o. (o.0.bytes ≡ a.text.bytes) × (o.1 ≡ a.malformed)) last.inner_sink last.kept bytes out
+    (subst (StandsAt (decoding_from start) after last.inner_sink last.kept) all c.loop-at.invariant.stands) h.1 in
+    (e.2.0 ∙ e.1.0, e.2.1 ∙ e.1.1)) c.finish.ensures.ok

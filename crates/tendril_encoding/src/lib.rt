@@ -1,0 +1,23 @@
+//! Decoding of streams in the encodings of the web.
+#![tactic(auto)]
+
+mod begin;
+mod decode;
+mod kept;
+mod known;
+mod lossy;
+mod mark;
+mod search;
+mod slices;
+#[cfg(test)]
+mod tests;
+mod text;
+mod theorems;
+mod whole;
+
+pub use kept::Kept;
+pub use lossy::LossyDecoder;
+pub use mark::BomHandling;
+pub use tendril_labels::{Encoding, Label, labels};
+pub use text::decode_to_text;
+pub use theorems::laws;
