@@ -29,6 +29,6 @@ pub use latin1::Latin1;
 pub use local::{utf8_ends, wtf8_ends};
 pub use subset::SubsetOf;
 pub use theorems::laws;
-pub use units::{Wtf8Units, decode_wtf8, encode_wtf8, wtf8_len};
+pub use units::{Wtf8Units, decode_wtf8, encode_wtf8, put_code_point, wtf8_len};
 pub use utf8::UTF8;
 pub use wtf8::WTF8;

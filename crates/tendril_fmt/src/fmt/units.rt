@@ -268,9 +268,10 @@ fn is_trail(unit: u16) -> bool
     0xDC00 <= unit && unit < 0xE000
 }
 
-// Writes the bytes of a code point at an offset, and returns the offset after them.
+/// Writes the WTF-8 of a code point at an offset, and returns the offset after it: one to four bytes, three for a
+/// surrogate.
 #[inline]
-fn put_code_point(bytes: &mut [u8], at: usize, code: u32) -> usize
+pub fn put_code_point(bytes: &mut [u8], at: usize, code: u32) -> usize
     requires point { IsCodePoint code }
     requires fits { at + length (encode_utf8 code) ≤ length bytes.old }
     ensures place { result ≡ at + length (encode_utf8 code) }
