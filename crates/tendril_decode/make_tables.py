@@ -1,5 +1,5 @@
 #!/usr/bin/env python3
-"""Writes the tables of the encodings of one byte: make_tables.py FOLDER
+"""Writes the tables of the encodings: make_tables.py FOLDER
 
 FOLDER has the indexes of the Encoding Standard as NAME.tsv, a line for each pointer: the pointer, a tab and the code
 point in hexadecimal. Written are src/tables.rt, src/tables/*.rt and proofs/PackedTables.antt, beside this script.
@@ -12,7 +12,7 @@ HERE = Path(__file__).resolve().parent
 BASIS = 0xCBF29CE484222325
 PRIME = 0x100000001B3
 
-# The index of each encoding, and its sum. x-user-defined has none: its table follows from its definition.
+# The index of each encoding of one byte, and its sum. x-user-defined has none: its table follows from its definition.
 INDEXES = {
     "ibm866": "bd0932b1d1adc2da27151b8c8850aec287e8fb201e5815c4078c626652605d27",
     "iso-8859-2": "fddb27a79dee7a3852d9916e076f2d95d37216e2a2134351348d20f0421fd009",
@@ -43,6 +43,17 @@ INDEXES = {
     "x-mac-cyrillic": "6f4e1a7193ce9e755db27f44c3652e0f4479d569bb5854df48b1a5f9a9388735",
 }
 USER_DEFINED = "x-user-defined"
+
+# The indexes of the encodings of several bytes: the sum, how many pointers there are, and the bits of an entry.
+LARGE = {
+    "big5": ("b05cdda3078c3abfb5c588b3ca26bdb2a94e2e73fe7fb6d81444fd33afd528b4", 126 * 157, 32),
+    "euc-kr": ("a75f965759415c15799ded82490222aea7d574e763f4ecbb1df7075f361c5814", 126 * 190, 16),
+    "gb18030": ("6bd539538b42591131bc8d03a2b4dc536423496a6edfbd6e0c70b65b637827ec", 126 * 190, 16),
+    "jis0208": ("f235ba66d12d68acae9c5905a58c9f69fd23b5dd497cbe6436991a360ca512c9", 60 * 188, 16),
+    "jis0212": ("4ba92c0440e8d59849d2874f8aaad65f05e91bdf9840398cccf5e82ba211cf4d", 94 * 94, 16),
+}
+RANGES = "gb18030-ranges"
+RANGES_SUM = "60e4762daebd1c40b74d5696aaff25645e797fe184b5574f68110e5894011e6f"
 
 # The variants of SingleByte, and the table of each.
 VARIANTS = {
@@ -78,18 +89,28 @@ VARIANTS = {
 }
 
 
-def read_index(folder, name):
+def read_pairs(folder, name, total):
+    """The pointers of an index, and the code point of each."""
+    data = (folder / f"{name}.tsv").read_bytes()
+    if sha256(data).hexdigest() != total:
+        sys.exit(f"{name}.tsv: not the index that the tables were made from")
+    lines = (line.split("\t") for line in data.decode().splitlines())
+    return [(int(pointer), int(code, 16)) for pointer, code in lines]
+
+
+def read_index(folder, name, total, count):
+    """The code point of each pointer, 0 where there is none."""
+    codes = [0] * count
+    for pointer, code in read_pairs(folder, name, total):
+        codes[pointer] = code
+    return codes
+
+
+def read_single(folder, name):
     """The code points of the bytes from 0x80 on, 0 where there is none."""
     if name == USER_DEFINED:
         return [0xF780 + pointer for pointer in range(128)]
-    data = (folder / f"{name}.tsv").read_bytes()
-    if sha256(data).hexdigest() != INDEXES[name]:
-        sys.exit(f"{name}.tsv: not the index that the tables were made from")
-    codes = [0] * 128
-    for line in data.decode().splitlines():
-        pointer, code = line.split("\t")
-        codes[int(pointer)] = int(code, 16)
-    return codes
+    return read_index(folder, name, INDEXES[name], 128)
 
 
 def packed(code):
@@ -98,10 +119,14 @@ def packed(code):
     return int.from_bytes(utf8, "little") | len(utf8) << 24
 
 
-def rows(numbers, width):
-    """The lines of an array, eight numbers each."""
+def rows(numbers, width, count=8):
+    """The lines of an array, some numbers each."""
     texts = [f"0x{number:0{width}X}" for number in numbers]
-    return [f"    {', '.join(texts[at:at + 8])}," for at in range(0, len(texts), 8)]
+    return lines_of(texts, count)
+
+
+def lines_of(texts, count):
+    return [f"    {', '.join(texts[at:at + count])}," for at in range(0, len(texts), count)]
 
 
 def module_of(name):
@@ -124,6 +149,32 @@ def table_file(name, codes):
         "#[rattlefmt::skip]",
         f"pub static PACKED_{const}: [u32; 256] = [",
         *rows(entries, 8),
+        "];",
+    ]
+
+
+def large_file(name, codes, bits):
+    width, count = (4, 14) if bits == 16 else (5, 12)
+    return [
+        f"//! The index {name}. Written by make_tables.py.",
+        "",
+        "/// The character of each pointer, 0 where there is none.",
+        "#[rattlefmt::skip]",
+        f"pub static {module_of(name).upper()}: [u{bits}; {len(codes)}] = [",
+        *rows(codes, width, count),
+        "];",
+    ]
+
+
+def ranges_file(pairs):
+    texts = [f"({pointer}, 0x{code:X})" for pointer, code in pairs]
+    return [
+        "//! The index gb18030 ranges. Written by make_tables.py.",
+        "",
+        "/// The first pointer of each range of four-byte sequences, and its character.",
+        "#[rattlefmt::skip]",
+        f"pub static {module_of(RANGES).upper()}: [(u32, u32); {len(pairs)}] = [",
+        *lines_of(texts, 6),
         "];",
     ]
 
@@ -152,10 +203,10 @@ def sums_file(tables):
     return lines + ["];"]
 
 
-def modules_file(tables):
-    modules = {module_of(name): [f"pub mod {module_of(name)};"] for name in tables}
+def modules_file(names):
+    modules = {module_of(name): [f"pub mod {module_of(name)};"] for name in names}
     modules["sums"] = ["#[cfg(test)]", "pub(crate) mod sums;"]
-    lines = ["//! The tables of the encodings of one byte. Written by make_tables.py.", ""]
+    lines = ["//! The tables of the encodings. Written by make_tables.py.", ""]
     return lines + [line for module in sorted(modules) for line in modules[module]]
 
 
@@ -194,11 +245,14 @@ def write(path, lines):
 
 def main():
     folder = Path(sys.argv[1])
-    tables = {name: read_index(folder, name) for name in VARIANTS.values()}
+    tables = {name: read_single(folder, name) for name in VARIANTS.values()}
     for name, codes in tables.items():
         write(f"src/tables/{module_of(name)}.rt", table_file(name, codes))
     write("src/tables/sums.rt", sums_file(tables))
-    write("src/tables.rt", modules_file(tables))
+    for name, (total, count, bits) in LARGE.items():
+        write(f"src/tables/{module_of(name)}.rt", large_file(name, read_index(folder, name, total, count), bits))
+    write(f"src/tables/{module_of(RANGES)}.rt", ranges_file(read_pairs(folder, RANGES, RANGES_SUM)))
+    write("src/tables.rt", modules_file([*tables, *LARGE, RANGES]))
     write("proofs/PackedTables.antt", proofs_file(tables))
 
 

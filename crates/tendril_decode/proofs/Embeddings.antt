@@ -7,11 +7,11 @@ module _ {S T : Type 0} (m : Machine S) (n : Machine T) (h : S → T)
     (steps : (s : S) (b : ℕ) → n.step (h s) b ≡ h (m.step s b))
     (tells : (s : S) (b : ℕ) → n.tells (h s) b ≡ m.tells s b)
   where
-    pub state-embed : (s : S) (bs : List ℕ) → state_after n (h s) bs ≡ h (state_after m s bs)
+    state-embed : (s : S) (bs : List ℕ) → state_after n (h s) bs ≡ h (state_after m s bs)
     state-embed s [] = refl
     state-embed s (b ∷ bs) = ap (λ t. state_after n t bs) (steps s b) ∙ state-embed (m.step s b) bs
 
-    pub told-embed : (s : S) (bs : List ℕ) → told_from n (h s) bs ≡ told_from m s bs
+    told-embed : (s : S) (bs : List ℕ) → told_from n (h s) bs ≡ told_from m s bs
     told-embed s [] = refl
     told-embed s (b ∷ bs) = ap₂ (λ l t. l ++ told_from n t bs) (tells s b) (steps s b)
         ∙ ap (λ l. m.tells s b ++ l) (told-embed (m.step s b) bs)
@@ -26,11 +26,3 @@ module _ {S T : Type 0} (m : Machine S) (n : Machine T) (h : S → T)
       told = told-embed s input ∙ d.told ∙ ap (λ l. map Char d.characters ++ (marks ++ l)) (sym (told-embed t rest));
       state = state-embed s input ∙ ap h d.state ∙ sym (state-embed t rest);
     }
-
--- Where a machine starts changes nothing of what follows a state.
-module _ {S : Type 0} (m : Machine S) (start : S) where
-  pub state-start : (s : S) (bs : List ℕ) → state_after (record m { start = start }) s bs ≡ state_after m s bs
-  state-start = state-embed m (record m { start = start }) (λ s. s) (λ s b. refl) (λ s b. refl)
-
-  pub told-start : (s : S) (bs : List ℕ) → told_from (record m { start = start }) s bs ≡ told_from m s bs
-  told-start = told-embed m (record m { start = start }) (λ s. s) (λ s b. refl) (λ s b. refl)

@@ -6,7 +6,7 @@ use Rattle.std.proofs.lemmas.List.{map-append}
 use Rattle.std.proofs.lemmas.Str.{encodes-append}
 use Rattle.std.proofs.lemmas.Bool.{and_parts, and_from}
 use Rattle.tendril_lossy.specs.Lossy.{Told, Char}
-use Rattle.tendril_decode.specs.Machines.{Machine, state_after, told_from, decoding, DecodesTo}
+use Rattle.tendril_decode.specs.Machines.{Machine, state_after, told_from, DecodesTo}
 
 pub scalars-append : (cs ds : List ℕ) → all_scalars cs ≡ true → all_scalars ds ≡ true → all_scalars (cs ++ ds) ≡ true
 scalars-append [] ds h k = k
@@ -22,15 +22,6 @@ module _ {S : Type 0} (m : Machine S) where
   told-append s [] b = refl
   told-append s (x ∷ a) b = ap (λ l. m.tells s x ++ l) (told-append (m.step s x) a b)
       ∙ sym (append_assoc (m.tells s x) (told_from m (m.step s x) a) (told_from m (state_after m (m.step s x) a) b))
-
-  -- a whole stream, cut once: what the first part tells, then what the second and the end tell from the state there
-  pub decoding-append : (a b : List ℕ) → decoding m (a ++ b)
-      ≡ told_from m m.start a ++ (told_from m (state_after m m.start a) b
-      ++ m.ends (state_after m (state_after m m.start a) b))
-  decoding-append a b =
-      ap₂ (λ l s. l ++ m.ends s) (told-append m.start a b) (state-append m.start a b)
-      ∙ append_assoc (told_from m m.start a) (told_from m (state_after m m.start a) b)
-      (m.ends (state_after m (state_after m m.start a) b))
 
   pub DecodesTo-none : (s : S) (input : List ℕ) → DecodesTo m s input [] [] s input
   DecodesTo-none s input =

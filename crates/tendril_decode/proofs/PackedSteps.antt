@@ -1,7 +1,6 @@
 -- Steps of the decoder by packed entries, and the test of a table of them.
-use Rattle.std.proofs.Common.{◌≡◌, ℕ, zero, suc, ◌+◌, ◌-◌, ◌<◌, ◌≤◌, Bool, true, false, List, [], ◌∷◌, ◌++◌, length}
-use Rattle.std.proofs.Common.{take, slice_index, refl, sym, ap, subst, cond, ◌∙◌, arith, ◌&&◌, leb-true, ltb-true}
-use Rattle.std.proofs.Common.{zero-add}
+use Rattle.std.proofs.Common.{◌≡◌, ℕ, zero, suc, ◌+◌, ◌-◌, ◌<◌, Bool, true, false, List, [], ◌∷◌, length}
+use Rattle.std.proofs.Common.{slice_index, refl, sym, ap, subst, cond, ◌∙◌, arith, ◌&&◌, leb-true, ltb-true}
 use Rattle.std.specs.Prelude.{nat_lt, nat_le, ◌||◌, ◌==◌, if◌then◌else◌}
 use Rattle.std.specs.Char.{encode_utf8}
 use Rattle.std.specs.Str.{bytes_eq}
@@ -13,21 +12,6 @@ use Rattle.tendril_lossy.specs.Lossy.{Char}
 use Rattle.tendril_decode.specs.Machines.{invalid}
 use Rattle.tendril_decode.specs.Packed.{entry_len, entry_bytes, IsPacked, ArePacked}
 use Rattle.tendril_decode.specs.Single.{tells_byte}
-use Rattle.std.proofs.lemmas.List.{take-take, length-take-le}
-
-take_past : (xs ys : List ℕ) (n : ℕ) → take (length xs + n) (xs ++ ys) ≡ xs ++ take n ys
-take_past [] ys n = ap (λ k. take k ys) (zero-add n)
-take_past (x ∷ xs) ys n =
-    let e : suc (length xs) + n ≡ suc (length xs + n) = omega arith in
-    ap (λ k. take k (x ∷ (xs ++ ys))) e ∙ ap (λ l. x ∷ l) (take_past xs ys n)
-
--- the first n bytes of those that were written
-pub front_written : (new old bytes : List ℕ) (at n end : ℕ) → take end new ≡ take at old ++ bytes → at ≤ length old
-    → at + n ≤ end → take (at + n) new ≡ take at old ++ take n bytes
-front_written new old bytes at n end e le few =
-    let same : at ≡ length (take at old) = sym (length-take-le at old le) in
-    sym (take-take (at + n) end new few) ∙ ap (take (at + n)) e
-    ∙ ap (λ k. take (k + n) (take at old ++ bytes)) same ∙ take_past (take at old) bytes n
 
 -- the code of a byte in a table
 abbrev code_at : List ℕ → ℕ → ℕ

@@ -1,7 +1,7 @@
 -- Steps of the decoder of UTF-16.
-use Rattle.std.proofs.Common.{◌≡◌, ℕ, zero, suc, ◌+◌, ◌*◌, ◌-◌, ◌<◌, ◌≤◌, Bool, true, false, List, [], ◌∷◌, ◌++◌}
-use Rattle.std.proofs.Common.{length, take, drop, slice_index, refl, sym, ap, ap₂, subst, ◌∙◌, arith, append-nil}
-use Rattle.std.proofs.Common.{append_assoc, map, lit≤}
+use Rattle.std.proofs.Common.{◌≡◌, ℕ, zero, suc, ◌+◌, ◌*◌, ◌-◌, ◌≤◌, Bool, true, false, List, [], ◌∷◌, ◌++◌}
+use Rattle.std.proofs.Common.{length, take, drop, slice_index, sym, ap, ap₂, subst, ◌∙◌, arith, append-nil}
+use Rattle.std.proofs.Common.{append_assoc, map}
 use Rattle.std.specs.Prelude.{Option, Some, None}
 use Rattle.std.specs.Char.{IsScalar, encode_utf8}
 use Rattle.std.specs.List.{range_with_len}
@@ -11,10 +11,9 @@ use Rattle.std.specs.Char.Utf16.{is_high_surrogate, is_low_surrogate, surrogate_
 use Rattle.std.proofs.lemmas.Bool.{and_parts, cond-true, cond-false}
 use Rattle.std.proofs.lemmas.Bool.Decides.{nat_tests}
 use Rattle.std.proofs.lemmas.List.{drop_more, get_or-drop, take_rest, length-drop}
-use Rattle.std.proofs.lemmas.Str.{length-encode, len_utf8_bounds}
-use Rattle.tendril_lossy.specs.Lossy.{Told, Char}
+use Rattle.tendril_lossy.specs.Lossy.{Char}
 use Rattle.tendril_decode.specs.Machines.{Machine, told_from, state_after, DecodesTo}
-use Rattle.tendril_decode.specs.Utf16.{utf16, unit_of, tells_byte, step_byte, tells_unit, tells_alone, lead_after}
+use Rattle.tendril_decode.specs.Utf16.{utf16, unit_of, tells_unit, tells_alone, lead_after}
 use Rattle.tendril_decode.specs.Utf16Runs.{unit_at, first_units}
 use Rattle.tendril_decode.specs.declared.utf16.Utf16.{Utf16}
 use Rattle.tendril_decode.proofs.Machines.{DecodesTo-more, DecodesTo-char, DecodesTo-marks}
@@ -42,18 +41,6 @@ two_more input read le =
 pub length-rest : (input : List ℕ) (read : ℕ)
     → length (take (length input - read) (drop read input)) ≡ length input - read
 length-rest input read = ap length (take_rest input read) ∙ length-drop read input
-
-pub four_at_most : (c : ℕ) → length (encode_utf8 c) ≤ 4
-four_at_most c = omega (arith, length-encode c, (len_utf8_bounds c).1)
-
--- how many single bytes are kept
-abbrev pub odd_count : Option ℕ → ℕ
-odd_count None = 0
-odd_count (Some b) = 1
-
-pub one_at_most : (odd : Option ℕ) → odd_count odd ≤ 1
-one_at_most None = lit≤ tt
-one_at_most (Some b) = lit≤ tt
 
 module _ (n : ℕ) (big : Bool) where
   abbrev machine : Machine (Utf16 n)
@@ -180,36 +167,3 @@ module _ (n : ℕ) (big : Bool) where
       nothing (drop j input)) end
       (run_from s input text read 0 count long (sym (ap (λ l. all_scalars (first_units big l count)) rest) ∙ scalars)
       (subst (λ j. DecodesTo machine s input text [] nothing (drop j input)) start d)))
-
-  -- a byte from any state
-  module _ (s t u : Utf16 n) (input text : List ℕ) (read : ℕ) (lt : read < length input)
-      (d : DecodesTo machine s input text [] t (drop read input))
-      (goes : machine.step t (slice_index input read) ≡ u) where
-    pub byte_scalar : (c : ℕ) → IsScalar c → machine.tells t (slice_index input read) ≡ Char c ∷ []
-        → DecodesTo machine s input (text ++ encode_utf8 c) [] u (drop (read + 1) input)
-    byte_scalar c scalar tells =
-        let b = slice_index input read in
-        let last = drop (read + 1) input in
-        DecodesTo-more machine s t u input text (drop read input) (encode_utf8 c) last [] d
-        (subst (λ l. DecodesTo machine t l (encode_utf8 c) [] u last) (sym (drop_more input read 0 lt))
-        (DecodesTo-char machine t u (b ∷ []) last c scalar (append-nil (machine.tells t b) ∙ tells) goes))
-
-    pub byte_marks : (marks : List Told) → machine.tells t (slice_index input read) ≡ marks
-        → DecodesTo machine s input text marks u (drop (read + 1) input)
-    byte_marks marks tells =
-        let b = slice_index input read in
-        let last = drop (read + 1) input in
-        subst (λ l. DecodesTo machine s input l marks u last) (append-nil text)
-        (DecodesTo-more machine s t u input text (drop read input) [] last marks d
-        (subst (λ l. DecodesTo machine t l [] marks u last) (sym (drop_more input read 0 lt))
-        (DecodesTo-marks machine t u (b ∷ []) last marks (append-nil (machine.tells t b) ∙ tells) goes)))
-
-  -- a byte that ends a character is the second of a unit
-  pub scalar_odds : (s t : Utf16 n) (b c : ℕ) → machine.tells s b ≡ Char c ∷ [] → machine.step s b ≡ t
-      → (odd_count s.odd ≡ 1) × (odd_count t.odd ≡ 0)
-  scalar_odds s t b c = go s.lead s.odd
-    where
-      go : (lead odd : Option ℕ) → tells_byte big lead odd b ≡ Char c ∷ [] → step_byte big lead odd b ≡ t
-          → (odd_count odd ≡ 1) × (odd_count t.odd ≡ 0)
-      go lead None e f = absurd (cc)
-      go lead (Some a) e f = (refl, ap (λ (v : Utf16 n). odd_count v.odd) (sym f))

@@ -20,6 +20,11 @@ abbrev pub broken_marks : Bool → List Told
 broken_marks true = invalid
 broken_marks false = []
 
+-- whether nothing is told
+abbrev pub tells_nothing : List Told → Bool
+tells_nothing [] = true
+tells_nothing (t ∷ ts) = false
+
 module _ {S : Type 0} (m : Machine S) where
   -- the state after these bytes
   abbrev pub state_after : S → List ℕ → S
@@ -31,10 +36,6 @@ module _ {S : Type 0} (m : Machine S) where
   told_from s [] = []
   told_from s (b ∷ bs) = m.tells s b ++ told_from (m.step s b) bs
 
-  -- what a whole stream tells
-  abbrev pub decoding : List ℕ → List Told
-  decoding bs = told_from m.start bs ++ m.ends (state_after m.start bs)
-
   -- From the state s, the input tells the characters of the text, then the marks, then what `rest` tells from the
   -- state t; and the state after the input is that after `rest`.
   pub record DecodesTo (s : S) (input text : List ℕ) (marks : List Told) (t : S) (rest : List ℕ) : Type 0 where
@@ -43,3 +44,12 @@ module _ {S : Type 0} (m : Machine S) where
     pub written : text ≡ encode_utf8_all characters
     pub told : told_from s input ≡ map Char characters ++ (marks ++ told_from t rest)
     pub state : state_after s input ≡ state_after t rest
+
+  -- From the state s, the end tells the characters of the text, and then, if a malformed sequence follows it, that and
+  -- what the end tells from the state t.
+  pub record EndsTo (s : S) (text : List ℕ) (broken : Bool) (t : S) : Type 0 where
+    pub characters : List ℕ
+    pub scalars : all_scalars characters ≡ true
+    pub written : text ≡ encode_utf8_all characters
+    pub told : m.ends s ≡ map Char characters ++ (broken_marks broken ++ m.ends t)
+    pub stops : broken ≡ false → m.ends t ≡ []

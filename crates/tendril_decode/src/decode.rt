@@ -4,8 +4,8 @@ use crate::part::Part;
 
 /// The state of a decoder between two slices of a stream. What it decodes is a machine over bytes.
 pub trait Decode: Drop {
-    ghost use Rattle.std.specs.Prelude.{◌≡◌, ◌+◌, ◌*◌, ◌<◌, ◌≤◌, ◌⊎◌, ℕ, Bool, true, [], length, take, drop, if◌then◌else◌};
-    ghost use Rattle.tendril_decode.specs.Machines.{Machine, DecodesTo, broken_marks, invalid};
+    ghost use Rattle.std.specs.Prelude.{◌≡◌, ◌+◌, ◌*◌, ◌<◌, ◌≤◌, ◌⊎◌, ℕ, Bool, true, length, take, drop};
+    ghost use Rattle.tendril_decode.specs.Machines.{Machine, DecodesTo, EndsTo, broken_marks, tells_nothing};
 
     /// The machine.
     ghost machine: { Machine Self };
@@ -13,16 +13,25 @@ pub trait Decode: Drop {
     /// The states that occur.
     ghost fits: { Self → Bool };
 
-    /// How many steps may be made in a state without reading a byte: at most 3.
+    /// How many steps may be made in a state without reading a byte: at most 4.
     ghost weight: { Self → ℕ };
 
-    ghost few: { (s : Self) → weight s ≤ 3 };
+    ghost few: { (s : Self) → weight s ≤ 4 };
 
-    /// Whether the stream may end here. If not, its end is a malformed sequence.
+    /// Whether the end of the stream outputs nothing.
     fn is_complete(&self) -> bool
-        ensures { (machine).ends self.now ≡ (if result then [] else invalid) };
+        ensures { result ≡ tells_nothing ((machine).ends self.now) };
 
-    /// DecodesTo bytes up to their end or through a malformed sequence, and writes the UTF-8 of what is before that.
+    /// Decodes the end of the stream up to its first malformed sequence, and writes the UTF-8 of what is before that. After
+    /// a malformed sequence, the end is still to be decoded.
+    fn end(&mut self, out: &mut [u8]) -> Part
+        requires fits { fits self.old ≡ true }
+        requires room { 4 ≤ length out.old }
+        ensures fits { fits self.new ≡ true }
+        ensures written { result.written ≤ length out.new }
+        ensures ends { EndsTo machine self.old (take result.written out.new) result.broken self.new };
+
+    /// Decodes bytes up to their end or through a malformed sequence, and writes the UTF-8 of what is before that.
     fn decode(&mut self, input: &[u8], out: &mut [u8]) -> Part
         requires fits { fits self.old ≡ true }
         requires room { 3 * length input.now + 4 ≤ length out.old }

@@ -129,6 +129,10 @@ impl Decode for SingleByte {
         true
     }
 
+    fn end(&mut self, _out: &mut [u8]) -> Part {
+        Part::empty(false)
+    }
+
     fn decode(&mut self, input: &[u8], out: &mut [u8]) -> Part {
         decode_packed(*self, self.entries(), input, out)
     }

@@ -1,5 +1,9 @@
-//! The tables of the encodings of one byte. Written by make_tables.py.
+//! The tables of the encodings. Written by make_tables.py.
 
+pub mod big5;
+pub mod euc_kr;
+pub mod gb18030;
+pub mod gb18030_ranges;
 pub mod ibm866;
 pub mod iso_8859_10;
 pub mod iso_8859_13;
@@ -13,6 +17,8 @@ pub mod iso_8859_5;
 pub mod iso_8859_6;
 pub mod iso_8859_7;
 pub mod iso_8859_8;
+pub mod jis0208;
+pub mod jis0212;
 pub mod koi8_r;
 pub mod koi8_u;
 pub mod macintosh;

@@ -4,7 +4,7 @@ ghost use Rattle.std.specs.Char.Utf16.{is_high_surrogate, is_low_surrogate, surr
 ghost use Rattle.std.specs.Char.{IsScalar};
 ghost use Rattle.tendril_decode.specs.declared.utf16.Utf16.{Utf16};
 ghost use Rattle.tendril_decode.specs.Machines.{DecodesTo, broken_marks};
-ghost use Rattle.tendril_decode.specs.Utf16.{IsStep, is_fit, unit_of, utf16};
+ghost use Rattle.tendril_decode.specs.Utf16.{unit_of, utf16};
 
 mod runs;
 #[cfg(test)]
@@ -12,8 +12,9 @@ mod tests;
 
 use crate::decode::Decode;
 use crate::part::Part;
-use crate::put::put_code_point;
+use crate::steps::{Step, Steps, decode_steps};
 use runs::decode_run;
+use tendril_fmt::fmt::put_code_point;
 
 /// The state between two slices of UTF-16. `BIG` says whether the high byte of a unit comes first.
 #[derive(Clone, Copy, Debug, PartialEq, Eq)]
@@ -30,15 +31,6 @@ pub type Utf16Le = Utf16<false>;
 /// UTF-16BE.
 pub type Utf16Be = Utf16<true>;
 
-// What a byte gives. After `BrokenLead` it is still to be taken.
-#[derive(Clone, Copy)]
-enum Step {
-    Nothing,
-    Scalar(u32),
-    BrokenUnit,
-    BrokenLead,
-}
-
 impl<const BIG: bool> Utf16<BIG> {
     /// The state at the start of a stream.
     pub fn new() -> Self
@@ -49,13 +41,20 @@ impl<const BIG: bool> Utf16<BIG> {
             odd: None,
         }
     }
+}
 
-    // Takes a byte.
-    fn step(&mut self, byte: u8) -> Step
-        requires { is_fit self.old ≡ true }
-        ensures fits { is_fit self.new ≡ true }
-        ensures step { IsStep BIG self.old byte self.new result }
-    {
+impl<const BIG: bool> Steps for Utf16<BIG> {
+    ghost use Rattle.tendril_decode.specs.Utf16.{is_fit, utf16, weight as kept_weight, weight_few};
+
+    ghost machine = { utf16 BIG };
+
+    ghost fits = { λ s. is_fit s };
+
+    ghost weight = { λ s. kept_weight s };
+
+    ghost few = { λ s. weight_few s };
+
+    fn step(&mut self, byte: u8) -> Step {
         let Some(first) = self.odd else {
             self.odd = Some(byte);
             return Step::Nothing;
@@ -64,7 +63,7 @@ impl<const BIG: bool> Utf16<BIG> {
         if let Some(lead) = self.lead {
             self.lead = None;
             if !is_trail(unit) {
-                return Step::BrokenLead;
+                return Step::BrokenBefore;
             }
             self.odd = None;
             return Step::Scalar(pair_code(lead, unit));
@@ -74,9 +73,20 @@ impl<const BIG: bool> Utf16<BIG> {
             self.lead = Some(unit);
             Step::Nothing
         } else if is_trail(unit) {
-            Step::BrokenUnit
+            Step::Broken
         } else {
             Step::Scalar(unit as u32)
+        }
+    }
+
+    fn run(&self, input: &[u8], out: &mut [u8], from: usize, start: usize) -> Part {
+        if self.is_complete() && input.len() - from >= 4 {
+            return decode_units(BIG, input, out, from, start);
+        }
+        Part {
+            read: from,
+            written: start,
+            broken: false,
         }
     }
 }
@@ -96,48 +106,18 @@ impl<const BIG: bool> Decode for Utf16<BIG> {
         self.lead.is_none() && self.odd.is_none()
     }
 
+    fn end(&mut self, _out: &mut [u8]) -> Part {
+        let complete = self.is_complete();
+        *self = Utf16::new();
+        Part::empty(!complete)
+    }
+
     fn decode(&mut self, input: &[u8], out: &mut [u8]) -> Part {
-        let mut read = 0;
-        let mut at = 0;
-        while read < input.len() {
-            if self.lead.is_none() && self.odd.is_none() && input.len() - read >= 4 {
-                let part = decode_units(BIG, input, out, read, at);
-                if part.broken {
-                    return part;
-                }
-                read = part.read;
-                at = part.written;
-            } else {
-                match self.step(input[read]) {
-                    Step::Nothing => {}
-                    Step::Scalar(code) => at = put_code_point(out, at, code),
-                    Step::BrokenUnit => {
-                        return Part {
-                            read: read + 1,
-                            written: at,
-                            broken: true,
-                        };
-                    }
-                    Step::BrokenLead => {
-                        return Part {
-                            read,
-                            written: at,
-                            broken: true,
-                        };
-                    }
-                }
-                read += 1;
-            }
-        }
-        Part {
-            read,
-            written: at,
-            broken: false,
-        }
+        decode_steps(self, input, out)
     }
 }
 
-// DecodesTo units from an offset on, and writes from another offset on, where nothing is kept. It leaves at most three
+// Decodes units from an offset on, and writes from another offset on, where nothing is kept. It leaves at most three
 // bytes, so that no pair is cut.
 fn decode_units(big: bool, input: &[u8], out: &mut [u8], from: usize, start: usize) -> Part
     requires some { from + 4 ≤ length input.now }

@@ -7,3 +7,11 @@ pub mod MarkLaws
 pub mod Begun
 pub mod Decoded
 pub mod Joins
+pub mod SingleTables
+pub mod ManyBytes
+pub mod Scalars
+pub mod UnitBytes
+pub mod Shorts
+pub mod FirstStates
+pub mod OutputLaws
+pub mod Halts

@@ -1,12 +1,12 @@
--- A part of the input that is decoded, and what follows it.
+-- A part of the input, or of its end, that is decoded, and what follows it.
 use Rattle.std.proofs.Common.{◌≡◌, ℕ, ◌+◌, ◌-◌, ◌≤◌, length, drop, arith, length-drop, List, ◌++◌, map, sym, ap, ap₂}
-use Rattle.std.proofs.Common.{◌∙◌, append_assoc}
+use Rattle.std.proofs.Common.{◌∙◌, ◌<◌, Bool, true, false, append_assoc, append-nil, length-append}
 use Rattle.std.specs.Prelude.{IsUtf8, chars, slice_range}
 use Rattle.std.proofs.lemmas.Str.{chars_from_encodes}
 use Rattle.std.proofs.lemmas.List.{drop-append-le, drop-drop, length-take}
 use Rattle.std.proofs.lemmas.List.Folds.{drop_split}
 use Rattle.tendril_lossy.specs.Lossy.{Told, Char}
-use Rattle.tendril_decode.specs.Machines.{Machine, told_from, state_after, DecodesTo}
+use Rattle.tendril_decode.specs.Machines.{Machine, told_from, state_after, DecodesTo, EndsTo, broken_marks}
 use Rattle.tendril_decode.proofs.Machines.{told-append, state-append}
 
 module _ {S : Type 0} (m : Machine S) (s t : S) (input text rest : List ℕ) (marks : List Told)
@@ -32,6 +32,36 @@ module _ {S : Type 0} (m : Machine S) (s t : S) (input text rest : List ℕ) (ma
   pub part_state : (more : List ℕ) → state_after m s (input ++ more) ≡ state_after m t (rest ++ more)
   part_state more = state-append m s input more ∙ ap (λ u. state_after m u more) d.state
       ∙ sym (state-append m t rest more)
+
+-- a part of the end
+module _ {S : Type 0} (m : Machine S) (s t : S) (text : List ℕ) (broken : Bool) (d : EndsTo m s text broken t) where
+  end_utf8 : IsUtf8 text
+  end_utf8 = (d.characters, (d.scalars, sym d.written))
+
+  pub end_told : m.ends s ≡ (map Char (chars text) ++ broken_marks broken) ++ m.ends t
+  end_told =
+      d.told
+      ∙ ap (λ l. l ++ (broken_marks broken ++ m.ends t))
+      (ap (map Char) (chars_from_encodes d.characters text end_utf8 (sym d.written)))
+      ∙ sym (append_assoc (map Char (chars text)) (broken_marks broken) (m.ends t))
+
+  -- the last part tells all that is left
+  pub end_last : broken ≡ false → m.ends s ≡ map Char (chars text) ++ broken_marks broken
+  end_last whole =
+      end_told ∙ ap (λ l. (map Char (chars text) ++ broken_marks broken) ++ l) (d.stops whole)
+      ∙ append-nil (map Char (chars text) ++ broken_marks broken)
+
+  -- a malformed sequence leaves less to tell
+  pub end_shorter : broken ≡ true → length (m.ends t) < length (m.ends s)
+  end_shorter is =
+      let marks : length (broken_marks broken) ≡ 2 = ap (λ b. length (broken_marks b)) is in
+      omega (
+        arith,
+        marks,
+        ap length d.told,
+        length-append (map Char d.characters) (broken_marks broken ++ m.ends t),
+        length-append (broken_marks broken) (m.ends t),
+      )
 
 -- after a part of the input that begins at an offset
 after_part : (input : List ℕ) (at end read : ℕ) → at ≤ end → read ≤ length (slice_range input at end)

@@ -5,7 +5,7 @@ use Rattle.std.proofs.lemmas.List.{nil_from_length}
 use Rattle.std.proofs.lemmas.Str.{IsUtf8-from_ascii, chars-nil}
 use Rattle.std.specs.Prelude.{IsAscii, IsTrue, chars}
 use Rattle.tendril_block.specs.declared.refusal.Refusal.{Refusal}
-use Rattle.tendril_decode.specs.Machines.{invalid, told_from, state_after}
+use Rattle.tendril_decode.specs.Machines.{told_from, state_after}
 use Rattle.tendril_decode.specs.declared.any_decoder.AnyDecoder.{AnyDecoder}
 use Rattle.tendril_encoding.proofs.Ascii.{out_ascii}
 use Rattle.tendril_encoding.specs.Known.{EndsKnown, FeedsKnown, FitKnown, StopsInEndKnown, StopsInKnown, after_known}
@@ -99,15 +99,15 @@ pub end_new : (e : Sent) → IsShortOrNew e → IsSentIn no_piece e
 end_new e h = h no_piece
 
 module _ {S : Type 0} (takes : S → Sent → S → Type 0) (refuses : S → Sent → Refusal → S → Type 0) (c : Chosen)
-    (d : AnyDecoder) (is : c ≡ Slices d) (end : slices.ends d ≡ invalid) where
-  pub ends_slices : (a b : S) → FeedsNew takes a invalid b → EndsKnown takes a c b
+    (d : AnyDecoder) (is : c ≡ Slices d) where
+  pub ends_slices : (a b : S) → FeedsNew takes a (slices.ends d) b → EndsKnown takes a c b
   ends_slices a b h =
       Feeds-weaker takes (IsSentIn no_piece) IsShortOrNew end_new a b (ends_known c)
-      (subst (λ l. FeedsNew takes a l b) (sym (ap ends_known is ∙ end)) h)
+      (subst (λ x. FeedsNew takes a (ends_known x) b) (sym is) h)
 
-  pub end_stops_slices : (a b : S) (r : Refusal) → NewStops takes refuses a invalid r b
+  pub end_stops_slices : (a b : S) (r : Refusal) → NewStops takes refuses a (slices.ends d) r b
       → StopsInEndKnown takes refuses a c r b
   end_stops_slices a b r h =
       Stops-weaker takes refuses (IsSentIn no_piece) (MayFail no_piece) IsShortOrNew NoMemory end_new
-      (λ x e may. inl may)
-      a b (ends_known c) r (subst (λ l. NewStops takes refuses a l r b) (sym (ap ends_known is ∙ end)) h)
+      (λ x e may. inl may) a b (ends_known c) r
+      (subst (λ x. NewStops takes refuses a (ends_known x) r b) (sym is) h)

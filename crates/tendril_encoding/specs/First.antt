@@ -1,10 +1,22 @@
 -- What is kept at the start of a stream, by its encoding or byte order mark.
-use Rattle.std.specs.Prelude.{Option, Some, None, [], true, false}
+use Rattle.std.specs.Prelude.{[], true, false}
+use Rattle.tendril_decode.specs.Big5.{big5_first, big5_pair}
+use Rattle.tendril_decode.specs.EucJp.{euc_jp}
+use Rattle.tendril_decode.specs.EucKr.{kr_first, kr_pair}
+use Rattle.tendril_decode.specs.Gb18030.{gb18030}
+use Rattle.tendril_decode.specs.Iso2022Jp.{iso_2022_jp}
 use Rattle.tendril_decode.specs.Replacement.{replacement}
+use Rattle.tendril_decode.specs.ShiftJis.{sjis_first, sjis_pair}
+use Rattle.tendril_decode.specs.TwoBytes.{two_bytes}
 use Rattle.tendril_decode.specs.Utf16.{utf16}
 use Rattle.tendril_decode.specs.declared.any_decoder.AnyDecoder.TheVariants.{Single, Utf16Le as any_utf16_le}
 use Rattle.tendril_decode.specs.declared.any_decoder.AnyDecoder.TheVariants.{Utf16Be as any_utf16_be}
 use Rattle.tendril_decode.specs.declared.any_decoder.AnyDecoder.TheVariants.{Replacement as any_replacement}
+use Rattle.tendril_decode.specs.declared.any_decoder.AnyDecoder.TheVariants.{Big5 as any_big5, EucJp as any_euc_jp}
+use Rattle.tendril_decode.specs.declared.any_decoder.AnyDecoder.TheVariants.{EucKr as any_euc_kr}
+use Rattle.tendril_decode.specs.declared.any_decoder.AnyDecoder.TheVariants.{Gb18030 as any_gb18030}
+use Rattle.tendril_decode.specs.declared.any_decoder.AnyDecoder.TheVariants.{Iso2022Jp as any_iso_2022_jp}
+use Rattle.tendril_decode.specs.declared.any_decoder.AnyDecoder.TheVariants.{ShiftJis as any_shift_jis}
 use Rattle.tendril_decode.specs.declared.single_byte.SingleByte.{SingleByte}
 use Rattle.tendril_decode.specs.declared.single_byte.SingleByte.TheVariants.{Ibm866 as single_ibm866}
 use Rattle.tendril_decode.specs.declared.single_byte.SingleByte.TheVariants.{Iso8859_2 as single_iso8859_2}
@@ -61,22 +73,25 @@ first_utf16_le = Slices (any_utf16_le (utf16 false).start)
 abbrev pub first_utf16_be : Chosen
 first_utf16_be = Slices (any_utf16_be (utf16 true).start)
 
-abbrev first_single : SingleByte → Option Chosen
-first_single s = Some (Slices (Single s))
+abbrev first_single : SingleByte → Chosen
+first_single s = Slices (Single s)
 
--- the seven encodings of several bytes have no decoder yet
-abbrev pub first_chosen : Encoding → Option Chosen
-first_chosen Utf8 = Some first_utf8
-first_chosen Utf16Le = Some first_utf16_le
-first_chosen Utf16Be = Some first_utf16_be
-first_chosen Replacement = Some (Slices (any_replacement replacement.start))
-first_chosen Big5 = None
-first_chosen EucJp = None
-first_chosen EucKr = None
-first_chosen Gb18030 = None
-first_chosen Gbk = None
-first_chosen Iso2022Jp = None
-first_chosen ShiftJis = None
+abbrev first_gb18030 : Chosen
+first_gb18030 = Slices (any_gb18030 gb18030.start)
+
+-- GBK is decoded as gb18030
+abbrev pub first_chosen : Encoding → Chosen
+first_chosen Utf8 = first_utf8
+first_chosen Utf16Le = first_utf16_le
+first_chosen Utf16Be = first_utf16_be
+first_chosen Replacement = Slices (any_replacement replacement.start)
+first_chosen Big5 = Slices (any_big5 (two_bytes big5_first big5_pair).start)
+first_chosen EucJp = Slices (any_euc_jp euc_jp.start)
+first_chosen EucKr = Slices (any_euc_kr (two_bytes kr_first kr_pair).start)
+first_chosen Gb18030 = first_gb18030
+first_chosen Gbk = first_gb18030
+first_chosen Iso2022Jp = Slices (any_iso_2022_jp iso_2022_jp.start)
+first_chosen ShiftJis = Slices (any_shift_jis (two_bytes sjis_first sjis_pair).start)
 first_chosen Ibm866 = first_single single_ibm866
 first_chosen Iso8859_2 = first_single single_iso8859_2
 first_chosen Iso8859_3 = first_single single_iso8859_3

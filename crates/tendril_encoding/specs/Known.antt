@@ -1,10 +1,12 @@
 -- Decoding in an encoding that is known.
-use Rattle.std.specs.Prelude.{◌≡◌, ◌==◌, ℕ, Bool, true, false, List, [], ◌∷◌, length, IsAscii}
+use Rattle.std.specs.Prelude.{◌≡◌, ◌==◌, ℕ, Bool, true, false, List, [], length, IsAscii}
 use Rattle.tendril_block.specs.declared.refusal.Refusal.{Refusal}
 use Rattle.tendril_decode.specs.Any.{any_machine, is_fit}
-use Rattle.tendril_decode.specs.Machines.{Machine, told_from, state_after}
+use Rattle.tendril_decode.specs.Machines.{Machine, told_from, state_after, tells_nothing}
 use Rattle.tendril_decode.specs.declared.any_decoder.AnyDecoder.{AnyDecoder}
-use Rattle.tendril_decode.specs.declared.any_decoder.AnyDecoder.TheVariants.{Single, Replacement}
+use Rattle.tendril_decode.specs.declared.any_decoder.AnyDecoder.TheVariants.{Single, Big5, EucJp, EucKr, Gb18030}
+use Rattle.tendril_decode.specs.declared.any_decoder.AnyDecoder.TheVariants.{Iso2022Jp, ShiftJis, Utf16Le}
+use Rattle.tendril_decode.specs.declared.any_decoder.AnyDecoder.TheVariants.{Utf16Be, Replacement}
 use Rattle.tendril_encoding.specs.Sends.{IsSentIn, MayFail}
 use Rattle.tendril_encoding.specs.declared.known.Chosen.{Chosen}
 use Rattle.tendril_encoding.specs.declared.known.Chosen.TheVariants.{Pieces, Slices}
@@ -31,23 +33,27 @@ abbrev pub ends_known : Chosen → List Told
 ends_known (Pieces k) = utf8.ends k
 ends_known (Slices s) = slices.ends s
 
--- whether ASCII bytes are passed on as they are: in UTF-8 if no bytes are kept, and in the encodings of one byte
+-- whether ASCII bytes are passed on as they are: where no bytes are kept, and the encoding decodes them to themselves
 abbrev pub slices_pass : AnyDecoder → Bool
 slices_pass (Single s) = true
-slices_pass other = false
+slices_pass (Big5 s) = tells_nothing (slices.ends (Big5 s))
+slices_pass (EucJp s) = tells_nothing (slices.ends (EucJp s))
+slices_pass (EucKr s) = tells_nothing (slices.ends (EucKr s))
+slices_pass (Gb18030 s) = tells_nothing (slices.ends (Gb18030 s))
+slices_pass (Iso2022Jp s) = false
+slices_pass (ShiftJis s) = tells_nothing (slices.ends (ShiftJis s))
+slices_pass (Utf16Le s) = false
+slices_pass (Utf16Be s) = false
+slices_pass (Replacement s) = false
 
 abbrev pub passes_known : Chosen → Bool
 passes_known (Pieces k) = length k == 0
 passes_known (Slices s) = slices_pass s
 
 -- whether no byte of an unfinished sequence is kept: the end of the stream outputs nothing
-abbrev is_empty : List Told → Bool
-is_empty [] = true
-is_empty (t ∷ ts) = false
-
 abbrev pub keeps_nothing_known : Chosen → Bool
 keeps_nothing_known (Pieces k) = length k == 0
-keeps_nothing_known (Slices s) = is_empty (slices.ends s)
+keeps_nothing_known (Slices s) = tells_nothing (slices.ends s)
 
 -- the states that occur
 abbrev pub FitsKnown : Chosen → Type 0

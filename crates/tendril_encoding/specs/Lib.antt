@@ -10,3 +10,5 @@ pub mod Choices
 pub mod Laws
 pub mod HasMarks
 pub mod Wholes
+pub mod Stopping
+pub mod Outputs

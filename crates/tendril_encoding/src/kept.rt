@@ -1,9 +1,9 @@
 //! What a decoder of any encoding keeps of a stream between two pieces.
-ghost use Rattle.std.specs.Prelude.{◌≡◌, Some};
+ghost use Rattle.std.specs.Prelude.{◌≡◌};
 
 use crate::decode::{decode, end};
 use crate::known::Known;
-use crate::mark::{BomHandling, Mark, Marks, Seen};
+use crate::mark::{BomHandling, Marks, Seen};
 use std::alloc::Global;
 use std::marker::Model;
 use tendril_block::Refusal;
@@ -50,46 +50,51 @@ impl Model for Kept {
 }
 
 impl Kept {
-    ghost use Rattle.tendril_encoding.specs.Choices.{start_for};
+    ghost use Rattle.tendril_encoding.specs.Choices.{start_encoding, start_for};
     ghost use Rattle.tendril_encoding.specs.States.{keeps_nothing};
 
-    /// Returns what is kept at the start of a stream, or `None` if the encoding has no decoder yet. Allocates nothing.
+    /// Returns what is kept at the start of a stream. Allocates nothing.
     ///
     /// ```
     /// let kept = Kept::new(alloc, Encoding::SHIFT_JIS, BomHandling::Sniff);
-    /// assert_eq!(rt; kept.is_none(), true);
+    /// assert_eq!(rt; kept.keeps_nothing(), true);
     /// ```
-    pub fn new(alloc: Global, encoding: Encoding, bom: BomHandling) -> Option<Self>
+    pub fn new(alloc: Global, encoding: Encoding, bom: BomHandling) -> Self
         ensures { result ≡ start_for encoding bom }
     {
-        let known = Known::new(encoding)?;
         let sniffing = Marks::of(encoding, bom).map(|marks| Sniffing {
             marks,
             seen: Seen::Nothing,
         });
-        Some(Kept {
+        let known = Known::new(encoding);
+        Kept {
             state: State { known, sniffing },
             buffer: Vec::new(alloc),
-        })
+        }
     }
 
-    /// Returns what is kept at the start of a stream in UTF-8, whose mark is kept. Allocates nothing.
-    pub(crate) fn utf8(alloc: Global) -> Self
-        ensures { Some result ≡ start_for Encoding.Utf8 BomHandling.Keep }
+    /// Returns what `LossyDecoder::new_encoding` keeps at the start of a stream: a byte order mark decides the encoding,
+    /// but for UTF-8, whose own mark is kept. Allocates nothing.
+    ///
+    /// ```
+    /// let kept = Kept::new_encoding(alloc, Encoding::KOI8_R);
+    /// assert_eq!(rt; kept.encoding(), Encoding::KOI8_R);
+    /// ```
+    pub fn new_encoding(alloc: Global, encoding: Encoding) -> Self
+        ensures { result ≡ start_encoding encoding }
     {
-        Kept {
-            state: State {
-                known: Known::marked(Mark::OfUtf8),
-                sniffing: None,
-            },
-            buffer: Vec::new(alloc),
-        }
+        let bom = if encoding == Encoding::Utf8 {
+            BomHandling::Keep
+        } else {
+            BomHandling::Sniff
+        };
+        Self::new(alloc, encoding, bom)
     }
 
     /// The encoding. A byte order mark may change it once, with the first bytes of the stream.
     ///
     /// ```
-    /// let kept = Kept::new(alloc, Encoding::KOI8_R, BomHandling::Sniff).ok_or("no decoder")?;
+    /// let kept = Kept::new(alloc, Encoding::KOI8_R, BomHandling::Sniff);
     /// assert_eq!(rt; kept.encoding(), Encoding::KOI8_R);
     /// ```
     pub fn encoding(&self) -> Encoding
@@ -101,7 +106,7 @@ impl Kept {
     /// Returns a copy, with which the same stream can be decoded again from here. Allocates nothing.
     ///
     /// ```
-    /// let kept = Kept::new(alloc, Encoding::KOI8_R, BomHandling::Sniff).ok_or("no decoder")?;
+    /// let kept = Kept::new(alloc, Encoding::KOI8_R, BomHandling::Sniff);
     /// assert_eq!(rt; kept.copy(alloc).encoding(), Encoding::KOI8_R);
     /// ```
     pub fn copy(&self, alloc: Global) -> Self

@@ -1,5 +1,5 @@
 //! Decoding of pieces in an encoding that is known.
-ghost use Rattle.std.specs.Prelude.{◌≡◌, ◌+◌, ◌*◌, ◌≤◌, true, false, ℕ, length, IsAscii, OnOk, IfErr, MatchOption};
+ghost use Rattle.std.specs.Prelude.{◌≡◌, ◌+◌, ◌*◌, ◌≤◌, true, false, ℕ, length, IsAscii, OnOk, IfErr};
 ghost use Rattle.tendril_block.specs.declared.atomicity.TheConstants.{MAX_LEN};
 ghost use Rattle.tendril_decode.specs.Any.{is_fit};
 ghost use Rattle.tendril_encoding.specs.Known.{EndsKnown, FeedsKnown, FitsKnown, StopsInKnown, StopsInEndKnown, after_known, keeps_nothing_known, passes_known, slices};
@@ -9,10 +9,13 @@ ghost use Rattle.tendril_encoding.specs.First.{after_mark, first_chosen};
 ghost use Rattle.tendril_labels.specs.declared.encoding.Encoding.{Encoding};
 
 use crate::mark::Mark;
-use crate::slices::{PART, feed, send_invalid};
+use crate::slices::{PART, end_slices, feed};
 use std::alloc::Global;
 use tendril_block::Refusal;
-use tendril_decode::{AnyDecoder, Decode, Replacement, SingleByte, Utf16Be, Utf16Le};
+use tendril_decode::{
+    AnyDecoder, Big5, Decode, EucJp, EucKr, Gb18030, Iso2022Jp, Replacement, ShiftJis, SingleByte,
+    Utf16Be, Utf16Le,
+};
 use tendril_labels::Encoding;
 use tendril_stream::{KeptUtf8, PieceDecoding, TendrilSink, send};
 use tendril_text::fmt::{Bytes, UTF8};
@@ -33,13 +36,15 @@ pub struct Known {
 }
 
 impl Known {
-    /// Returns what is kept at the start of a stream, or `None` if the encoding has no decoder yet.
-    pub(crate) fn new(encoding: Encoding) -> Option<Self>
-        ensures { MatchOption result (first_chosen encoding ≡ None)
-            (λ k. (k.encoding ≡ encoding) × (first_chosen encoding ≡ Some k.chosen)) }
+    /// Returns what is kept at the start of a stream.
+    pub(crate) fn new(encoding: Encoding) -> Self
+        ensures encoding { result.encoding ≡ encoding }
+        ensures chosen { result.chosen ≡ first_chosen encoding }
     {
-        let chosen = chosen_for(encoding)?;
-        Some(Known { encoding, chosen })
+        Known {
+            encoding,
+            chosen: chosen_for(encoding),
+        }
     }
 
     /// Returns what is kept after a byte order mark.
@@ -84,15 +89,20 @@ impl Chosen {
         }
     }
 
-    // Whether the piece is passed on as it is: it is ASCII, and its bytes stand for themselves.
+    // Whether the piece is passed on as it is: it is ASCII, and the encoding decodes ASCII bytes to themselves.
     fn passes(&self, piece: &[u8]) -> bool
         ensures whole { result ≡ true → (passes_known self.now ≡ true) × IsAscii piece.now }
         ensures other { result ≡ false → passes_known self.now ≡ true → IsAscii piece.now → ⊥ }
     {
         let alone = match self {
             Chosen::Pieces(kept) => kept.is_empty(),
-            Chosen::Slices(AnyDecoder::Single(_)) => true,
-            Chosen::Slices(_) => false,
+            Chosen::Slices(
+                AnyDecoder::Iso2022Jp(_)
+                | AnyDecoder::Utf16Le(_)
+                | AnyDecoder::Utf16Be(_)
+                | AnyDecoder::Replacement(_),
+            ) => false,
+            Chosen::Slices(decoder) => decoder.is_complete(),
         };
         alone && piece.is_ascii()
     }
@@ -138,12 +148,7 @@ impl Chosen {
     {
         match self {
             Chosen::Pieces(kept) => kept.decode_end(alloc, sink),
-            Chosen::Slices(decoder) => {
-                if decoder.is_complete() {
-                    return Ok(());
-                }
-                send_invalid(alloc, sink)
-            }
+            Chosen::Slices(decoder) => end_slices(alloc, sink, decoder),
         }
     }
 }
@@ -174,53 +179,49 @@ fn decode_slices<S: TendrilSink<Tendril<UTF8, A>>, A: Atomicity>(
 }
 
 // Returns what is kept at the start of a stream.
-fn chosen_for(encoding: Encoding) -> Option<Chosen>
+fn chosen_for(encoding: Encoding) -> Chosen
     ensures { result ≡ first_chosen encoding }
 {
-    match encoding {
-        Encoding::Utf8 => Some(Chosen::Pieces(KeptUtf8::new())),
-        Encoding::Utf16Le => Some(Chosen::Slices(AnyDecoder::Utf16Le(Utf16Le::new()))),
-        Encoding::Utf16Be => Some(Chosen::Slices(AnyDecoder::Utf16Be(Utf16Be::new()))),
-        Encoding::Replacement => Some(Chosen::Slices(AnyDecoder::Replacement(Replacement::new()))),
-        Encoding::Big5
-        | Encoding::EucJp
-        | Encoding::EucKr
-        | Encoding::Gb18030
-        | Encoding::Gbk
-        | Encoding::Iso2022Jp
-        | Encoding::ShiftJis => None,
-        Encoding::Ibm866 => Some(Chosen::Slices(AnyDecoder::Single(SingleByte::Ibm866))),
-        Encoding::Iso8859_2 => Some(Chosen::Slices(AnyDecoder::Single(SingleByte::Iso8859_2))),
-        Encoding::Iso8859_3 => Some(Chosen::Slices(AnyDecoder::Single(SingleByte::Iso8859_3))),
-        Encoding::Iso8859_4 => Some(Chosen::Slices(AnyDecoder::Single(SingleByte::Iso8859_4))),
-        Encoding::Iso8859_5 => Some(Chosen::Slices(AnyDecoder::Single(SingleByte::Iso8859_5))),
-        Encoding::Iso8859_6 => Some(Chosen::Slices(AnyDecoder::Single(SingleByte::Iso8859_6))),
-        Encoding::Iso8859_7 => Some(Chosen::Slices(AnyDecoder::Single(SingleByte::Iso8859_7))),
-        Encoding::Iso8859_8 => Some(Chosen::Slices(AnyDecoder::Single(SingleByte::Iso8859_8))),
-        Encoding::Iso8859_8I => Some(Chosen::Slices(AnyDecoder::Single(SingleByte::Iso8859_8I))),
-        Encoding::Iso8859_10 => Some(Chosen::Slices(AnyDecoder::Single(SingleByte::Iso8859_10))),
-        Encoding::Iso8859_13 => Some(Chosen::Slices(AnyDecoder::Single(SingleByte::Iso8859_13))),
-        Encoding::Iso8859_14 => Some(Chosen::Slices(AnyDecoder::Single(SingleByte::Iso8859_14))),
-        Encoding::Iso8859_15 => Some(Chosen::Slices(AnyDecoder::Single(SingleByte::Iso8859_15))),
-        Encoding::Iso8859_16 => Some(Chosen::Slices(AnyDecoder::Single(SingleByte::Iso8859_16))),
-        Encoding::Koi8R => Some(Chosen::Slices(AnyDecoder::Single(SingleByte::Koi8R))),
-        Encoding::Koi8U => Some(Chosen::Slices(AnyDecoder::Single(SingleByte::Koi8U))),
-        Encoding::Macintosh => Some(Chosen::Slices(AnyDecoder::Single(SingleByte::Macintosh))),
-        Encoding::Windows874 => Some(Chosen::Slices(AnyDecoder::Single(SingleByte::Windows874))),
-        Encoding::Windows1250 => Some(Chosen::Slices(AnyDecoder::Single(SingleByte::Windows1250))),
-        Encoding::Windows1251 => Some(Chosen::Slices(AnyDecoder::Single(SingleByte::Windows1251))),
-        Encoding::Windows1252 => Some(Chosen::Slices(AnyDecoder::Single(SingleByte::Windows1252))),
-        Encoding::Windows1253 => Some(Chosen::Slices(AnyDecoder::Single(SingleByte::Windows1253))),
-        Encoding::Windows1254 => Some(Chosen::Slices(AnyDecoder::Single(SingleByte::Windows1254))),
-        Encoding::Windows1255 => Some(Chosen::Slices(AnyDecoder::Single(SingleByte::Windows1255))),
-        Encoding::Windows1256 => Some(Chosen::Slices(AnyDecoder::Single(SingleByte::Windows1256))),
-        Encoding::Windows1257 => Some(Chosen::Slices(AnyDecoder::Single(SingleByte::Windows1257))),
-        Encoding::Windows1258 => Some(Chosen::Slices(AnyDecoder::Single(SingleByte::Windows1258))),
-        Encoding::XMacCyrillic => Some(Chosen::Slices(AnyDecoder::Single(
-            SingleByte::XMacCyrillic,
-        ))),
-        Encoding::XUserDefined => Some(Chosen::Slices(AnyDecoder::Single(
-            SingleByte::XUserDefined,
-        ))),
-    }
+    let decoder = match encoding {
+        Encoding::Utf8 => return Chosen::Pieces(KeptUtf8::new()),
+        Encoding::Utf16Le => AnyDecoder::Utf16Le(Utf16Le::new()),
+        Encoding::Utf16Be => AnyDecoder::Utf16Be(Utf16Be::new()),
+        Encoding::Replacement => AnyDecoder::Replacement(Replacement::new()),
+        Encoding::Big5 => AnyDecoder::Big5(Big5::new()),
+        Encoding::EucJp => AnyDecoder::EucJp(EucJp::new()),
+        Encoding::EucKr => AnyDecoder::EucKr(EucKr::new()),
+        Encoding::Gb18030 | Encoding::Gbk => AnyDecoder::Gb18030(Gb18030::new()),
+        Encoding::Iso2022Jp => AnyDecoder::Iso2022Jp(Iso2022Jp::new()),
+        Encoding::ShiftJis => AnyDecoder::ShiftJis(ShiftJis::new()),
+        Encoding::Ibm866 => AnyDecoder::Single(SingleByte::Ibm866),
+        Encoding::Iso8859_2 => AnyDecoder::Single(SingleByte::Iso8859_2),
+        Encoding::Iso8859_3 => AnyDecoder::Single(SingleByte::Iso8859_3),
+        Encoding::Iso8859_4 => AnyDecoder::Single(SingleByte::Iso8859_4),
+        Encoding::Iso8859_5 => AnyDecoder::Single(SingleByte::Iso8859_5),
+        Encoding::Iso8859_6 => AnyDecoder::Single(SingleByte::Iso8859_6),
+        Encoding::Iso8859_7 => AnyDecoder::Single(SingleByte::Iso8859_7),
+        Encoding::Iso8859_8 => AnyDecoder::Single(SingleByte::Iso8859_8),
+        Encoding::Iso8859_8I => AnyDecoder::Single(SingleByte::Iso8859_8I),
+        Encoding::Iso8859_10 => AnyDecoder::Single(SingleByte::Iso8859_10),
+        Encoding::Iso8859_13 => AnyDecoder::Single(SingleByte::Iso8859_13),
+        Encoding::Iso8859_14 => AnyDecoder::Single(SingleByte::Iso8859_14),
+        Encoding::Iso8859_15 => AnyDecoder::Single(SingleByte::Iso8859_15),
+        Encoding::Iso8859_16 => AnyDecoder::Single(SingleByte::Iso8859_16),
+        Encoding::Koi8R => AnyDecoder::Single(SingleByte::Koi8R),
+        Encoding::Koi8U => AnyDecoder::Single(SingleByte::Koi8U),
+        Encoding::Macintosh => AnyDecoder::Single(SingleByte::Macintosh),
+        Encoding::Windows874 => AnyDecoder::Single(SingleByte::Windows874),
+        Encoding::Windows1250 => AnyDecoder::Single(SingleByte::Windows1250),
+        Encoding::Windows1251 => AnyDecoder::Single(SingleByte::Windows1251),
+        Encoding::Windows1252 => AnyDecoder::Single(SingleByte::Windows1252),
+        Encoding::Windows1253 => AnyDecoder::Single(SingleByte::Windows1253),
+        Encoding::Windows1254 => AnyDecoder::Single(SingleByte::Windows1254),
+        Encoding::Windows1255 => AnyDecoder::Single(SingleByte::Windows1255),
+        Encoding::Windows1256 => AnyDecoder::Single(SingleByte::Windows1256),
+        Encoding::Windows1257 => AnyDecoder::Single(SingleByte::Windows1257),
+        Encoding::Windows1258 => AnyDecoder::Single(SingleByte::Windows1258),
+        Encoding::XMacCyrillic => AnyDecoder::Single(SingleByte::XMacCyrillic),
+        Encoding::XUserDefined => AnyDecoder::Single(SingleByte::XUserDefined),
+    };
+    Chosen::Slices(decoder)
 }

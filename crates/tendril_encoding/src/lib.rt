@@ -7,6 +7,8 @@ mod kept;
 mod known;
 mod lossy;
 mod mark;
+mod pieces;
+mod reading;
 mod search;
 mod slices;
 #[cfg(test)]
@@ -18,6 +20,8 @@ mod whole;
 pub use kept::Kept;
 pub use lossy::LossyDecoder;
 pub use mark::BomHandling;
+pub use pieces::decode_pieces;
+pub use reading::decode_reader;
 pub use tendril_labels::{Encoding, Label, labels};
 pub use text::decode_to_text;
 pub use theorems::laws;

@@ -1,5 +1,5 @@
 //! A decoder of streams in any encoding.
-ghost use Rattle.std.specs.Prelude.{◌≡◌, None, Some, false, MatchOption};
+ghost use Rattle.std.specs.Prelude.{◌≡◌, false};
 ghost use Rattle.std.specs.Borrow.{Lends, sem};
 ghost use Rattle.tendril_encoding.specs.Choices.{start_encoding, start_for};
 ghost use Rattle.tendril_labels.specs.declared.encoding.Encoding.TheVariants.{Utf8};
@@ -17,8 +17,8 @@ use tendril_text::{Atomicity, NonAtomic, Tendril};
 /// Decodes pieces of bytes in an encoding to texts for a sink, with an error and U+FFFD for each malformed sequence.
 ///
 /// A character that is cut by the end of a piece is completed from the next one. A piece of ASCII is passed on as it is
-/// where ASCII bytes stand for themselves; what else isn't UTF-8 is decoded to new texts: one for each piece and each
-/// malformed sequence in it.
+/// where the encoding decodes ASCII bytes to themselves; what else isn't UTF-8 is decoded to new texts: beside the
+/// U+FFFD, at most one for each piece of up to 1 GiB and each malformed sequence in it.
 ///
 /// A call returns `SinkRefused` if the sink returns any error, `Memory` if an allocation fails, and `Count` if a block
 /// has as many references as it can have. All calls after an error return `Failed`.
@@ -39,58 +39,48 @@ impl<S: TendrilSink<Tendril<UTF8, A>>, A: Atomicity> LossyDecoder<S, A> {
     /// ```
     pub fn utf8(alloc: Global, inner_sink: S) -> Self
         ensures sink { result.decoder.inner_sink ≡ inner_sink }
-        ensures kept { Some result.decoder.kept ≡ start_for Utf8 BomHandling.Keep }
+        ensures kept { result.decoder.kept ≡ start_for Utf8 BomHandling.Keep }
         ensures failed { result.decoder.failed ≡ false }
     {
-        Self::over(alloc, Kept::utf8(alloc), inner_sink)
+        Self::new_with(alloc, Encoding::Utf8, BomHandling::Keep, inner_sink)
     }
 
     /// Returns a decoder of the encoding, or of the one that a byte order mark names (`BomHandling::Sniff`); UTF-8 is
-    /// decoded as by `utf8`. Returns `None` if the encoding has no decoder yet. Allocates nothing.
+    /// decoded as by `utf8`. Allocates nothing.
     ///
     /// ```
     /// let decoder = LossyDecoder::new_encoding(alloc, Encoding::WINDOWS_1252, Accumulate::new(alloc));
-    /// let events = decoder.ok_or("no decoder")?.one(ByteTendril::from_slice(alloc, b"\xE9")?)?; // "é"
+    /// let events = decoder.one(ByteTendril::from_slice(alloc, b"\xE9")?)?; // "é"
     /// assert_eq!(rt; events.len(), 1);
     /// ```
-    pub fn new_encoding(alloc: Global, encoding: Encoding, inner_sink: S) -> Option<Self>
-        ensures { MatchOption result (start_encoding encoding ≡ None) (λ d. (d.decoder.inner_sink ≡ inner_sink)
-            × (start_encoding encoding ≡ Some d.decoder.kept) × (d.decoder.failed ≡ false)) }
+    pub fn new_encoding(alloc: Global, encoding: Encoding, inner_sink: S) -> Self
+        ensures sink { result.decoder.inner_sink ≡ inner_sink }
+        ensures kept { result.decoder.kept ≡ start_encoding encoding }
+        ensures failed { result.decoder.failed ≡ false }
     {
-        let bom = if encoding == Encoding::Utf8 {
-            BomHandling::Keep
-        } else {
-            BomHandling::Sniff
-        };
-        Self::new_with(alloc, encoding, bom, inner_sink)
+        Self::over(alloc, Kept::new_encoding(alloc, encoding), inner_sink)
     }
 
-    /// Returns a decoder of the encoding, with what becomes of a byte order mark, or `None` if the encoding has no decoder
-    /// yet. Allocates nothing.
+    /// Returns a decoder of the encoding, with what becomes of a byte order mark. Allocates nothing.
     ///
     /// ```
     /// let sink = Accumulate::new(alloc);
     /// let decoder = LossyDecoder::new_with(alloc, Encoding::UTF_16LE, BomHandling::Remove, sink);
-    /// let events = decoder.ok_or("no decoder")?.one(ByteTendril::from_slice(alloc, b"\xFF\xFEa\x00")?)?; // "a"
+    /// let events = decoder.one(ByteTendril::from_slice(alloc, b"\xFF\xFEa\x00")?)?; // "a"
     /// assert_eq!(rt; events.len(), 1);
     /// ```
-    pub fn new_with(
-        alloc: Global,
-        encoding: Encoding,
-        bom: BomHandling,
-        inner_sink: S,
-    ) -> Option<Self>
-        ensures { MatchOption result (start_for encoding bom ≡ None) (λ d. (d.decoder.inner_sink ≡ inner_sink)
-            × (start_for encoding bom ≡ Some d.decoder.kept) × (d.decoder.failed ≡ false)) }
+    pub fn new_with(alloc: Global, encoding: Encoding, bom: BomHandling, inner_sink: S) -> Self
+        ensures sink { result.decoder.inner_sink ≡ inner_sink }
+        ensures kept { result.decoder.kept ≡ start_for encoding bom }
+        ensures failed { result.decoder.failed ≡ false }
     {
-        let kept = Kept::new(alloc, encoding, bom)?;
-        Some(Self::over(alloc, kept, inner_sink))
+        Self::over(alloc, Kept::new(alloc, encoding, bom), inner_sink)
     }
 
     /// Returns a decoder that begins with what `kept` has of a stream. Allocates nothing.
     ///
     /// ```
-    /// let kept = Kept::new(alloc, Encoding::KOI8_R, BomHandling::Keep).ok_or("no decoder")?;
+    /// let kept = Kept::new(alloc, Encoding::KOI8_R, BomHandling::Keep);
     /// let decoder: LossyDecoder<Accumulate> = LossyDecoder::over(alloc, kept, Accumulate::new(alloc));
     /// assert_eq!(rt; decoder.finish()?.len(), 0);
     /// ```
@@ -119,8 +109,8 @@ impl<S: TendrilSink<Tendril<UTF8, A>>, A: Atomicity> LossyDecoder<S, A> {
     /// The encoding of the stream. A byte order mark may change it once.
     ///
     /// ```
-    /// let decoder = LossyDecoder::new_encoding(alloc, Encoding::KOI8_R, Accumulate::new(alloc));
-    /// let mut decoder: LossyDecoder<Accumulate> = decoder.ok_or("no decoder")?;
+    /// let sink = Accumulate::new(alloc);
+    /// let mut decoder: LossyDecoder<Accumulate> = LossyDecoder::new_encoding(alloc, Encoding::KOI8_R, sink);
     /// decoder.process(ByteTendril::from_slice(alloc, b"\xFE\xFF")?)?;
     /// assert_eq!(rt; decoder.encoding(), Encoding::UTF_16BE);
     /// ```

@@ -45,6 +45,28 @@ pub(crate) fn feed<M: Decode, S: TendrilSink<Tendril<UTF8, A>>, A: Atomicity>(
     Ok(())
 }
 
+/// Decodes the end of a stream, and sends what it outputs to the sink.
+pub(crate) fn end_slices<M: Decode, S: TendrilSink<Tendril<UTF8, A>>, A: Atomicity>(
+    alloc: Global,
+    sink: &mut S,
+    state: &mut M,
+) -> Result<(), Refusal>
+    requires { M.fits state.old ≡ true }
+    ensures fits { M.fits state.new ≡ true }
+    ensures told { OnOk result (FeedsNew S.takes sink.old ((M.machine).ends state.old) sink.new) }
+    ensures err { IfErr result (λ r. NewStops S.takes S.refuses sink.old ((M.machine).ends state.old) r sink.new) }
+{
+    let mut out = [0; 4];
+    loop {
+        let part = state.end(&mut out);
+        let text = unsafe { std::str::from_utf8_unchecked(&out[..part.written]) };
+        send_part(alloc, sink, text, part.broken)?;
+        if !part.broken {
+            return Ok(());
+        }
+    }
+}
+
 // Sends a text to the sink, and what follows it.
 fn send_part<S: TendrilSink<Tendril<UTF8, A>>, A: Atomicity>(
     alloc: Global,
@@ -82,8 +104,8 @@ fn send_text<S: TendrilSink<Tendril<UTF8, A>>, A: Atomicity>(
     send(sink, text)
 }
 
-/// Sends a malformed sequence to the sink: an error, and U+FFFD.
-pub(crate) fn send_invalid<S: TendrilSink<Tendril<UTF8, A>>, A: Atomicity>(
+// Sends a malformed sequence to the sink: an error, and U+FFFD.
+fn send_invalid<S: TendrilSink<Tendril<UTF8, A>>, A: Atomicity>(
     alloc: Global,
     sink: &mut S,
 ) -> Result<(), Refusal>

@@ -45,10 +45,7 @@ const fn marked(
 }
 
 fn holds(alloc: Global, row: &Row) -> Result<bool, Fail> {
-    let Some(mut decoder) = LossyDecoder::new_with(alloc, row.encoding, row.bom, Whole::new(alloc))
-    else {
-        return Ok(false);
-    };
+    let mut decoder = LossyDecoder::new_with(alloc, row.encoding, row.bom, Whole::new(alloc));
     for piece in row.pieces {
         decoder.process(ByteTendril::from_slice(alloc, piece)?)?;
     }

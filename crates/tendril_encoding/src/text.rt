@@ -1,8 +1,8 @@
 //! Decoding of a whole input at once.
-ghost use Rattle.std.specs.Prelude.{◌≡◌, None, Some, false, IfOk, MatchOption};
+ghost use Rattle.std.specs.Prelude.{◌≡◌, false, IfErr, IfOk};
 ghost use Rattle.tendril_encoding.specs.Choices.{start_encoding};
 ghost use Rattle.tendril_encoding.specs.StateLaws.{IsStreamStart};
-ghost use Rattle.tendril_encoding.specs.Wholes.{DecodesInput, IsNewWhole};
+ghost use Rattle.tendril_encoding.specs.Wholes.{DecodesInput, InputMay, IsNewWhole};
 
 use crate::lossy::LossyDecoder;
 use crate::whole::Whole;
@@ -16,14 +16,13 @@ use tendril_text::{ByteTendril, StrTendril};
 const PIECE: usize = 1 << 16;
 
 /// Decodes a whole input, and returns the text and whether something in it was malformed. A byte order mark decides the
-/// encoding, as in `LossyDecoder::new_encoding`. Returns `None` if the encoding has no decoder yet.
+/// encoding, as in `LossyDecoder::new_encoding`.
 ///
 /// Returns `Memory` or `SinkRefused` if an allocation fails, `SinkRefused` also if the text would have more than
-/// 4294967295 bytes.
+/// 4294967295 bytes, or `Count` if a block has as many references as it can have.
 ///
 /// ```
-/// let decoded = decode_to_text(alloc, Encoding::WINDOWS_1252, b"caf\xE9").ok_or("no decoder")?;
-/// let (text, malformed) = decoded?;
+/// let (text, malformed) = decode_to_text(alloc, Encoding::WINDOWS_1252, b"caf\xE9")?;
 /// assert_eq!(rt; text.as_str(), "café");
 /// assert_eq!(rt; malformed, false);
 /// ```
@@ -31,12 +30,12 @@ pub fn decode_to_text(
     alloc: Global,
     encoding: Encoding,
     bytes: &[u8],
-) -> Option<Result<(StrTendril, bool), Refusal>>
-    ensures { MatchOption result (start_encoding encoding ≡ None)
-        (λ r. IfOk r (λ t. DecodesInput (start_encoding encoding) bytes.now t.0.bytes t.1)) }
+) -> Result<(StrTendril, bool), Refusal>
+    ensures ok { IfOk result (λ t. DecodesInput (start_encoding encoding) bytes.now t.0.bytes t.1) }
+    ensures err { IfErr result (λ e. InputMay bytes.now e) }
 {
-    let decoder = LossyDecoder::new_encoding(alloc, encoding, Whole::new(alloc))?;
-    Some(decode_whole(alloc, decoder, bytes))
+    let decoder = LossyDecoder::new_encoding(alloc, encoding, Whole::new(alloc));
+    decode_whole(alloc, decoder, bytes)
 }
 
 // Decodes a whole input by a new decoder.
@@ -48,7 +47,8 @@ fn decode_whole(
     requires start { IsStreamStart decoder.decoder.kept }
     requires sink { IsNewWhole decoder.decoder.inner_sink }
     requires failed { decoder.decoder.failed ≡ false }
-    ensures { IfOk result (λ t. DecodesInput (Some decoder.decoder.kept) bytes.now t.0.bytes t.1) }
+    ensures ok { IfOk result (λ t. DecodesInput decoder.decoder.kept bytes.now t.0.bytes t.1) }
+    ensures err { IfErr result (λ e. InputMay bytes.now e) }
 {
     let mut at = 0;
     while at < bytes.len() {

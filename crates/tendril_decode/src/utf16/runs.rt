@@ -3,8 +3,9 @@
 ghost use Rattle.std.specs.Prelude.{◌≡◌, ◌+◌, ◌*◌, ◌<◌, ◌≤◌, ◌⊎◌, ◌++◌, ℕ, length, take, true, slice_index};
 ghost use Rattle.std.specs.List.{flat_map};
 ghost use Rattle.std.specs.Str.{all_scalars, encode_utf8_all};
-ghost use Rattle.tendril_decode.specs.Utf16Runs.{byte_at, first_set, first_units, three_bytes, two_bytes, units_of};
+ghost use Rattle.tendril_decode.specs.Utf16Runs.{byte_at, first_units, three_bytes, two_bytes, units_of};
 
+use crate::ascii::first_set;
 use crate::put::put_run;
 use std::simd::prelude::*;
 
@@ -18,7 +19,7 @@ pub(super) struct Run {
     pub(super) end: usize,
 }
 
-// DecodesTo the leading units of a block that have as many bytes in UTF-8 as this first one, if there are enough bytes
+// Decodes the leading units of a block that have as many bytes in UTF-8 as this first one, if there are enough bytes
 // for a block.
 #[inline(always)]
 pub(super) fn decode_run(big: bool, first: u16, bytes: &[u8], out: &mut [u8], at: usize) -> Run
@@ -206,15 +207,3 @@ const WHOLE: [usize; 32] = [
     0, 1, 2, 3, 4, 5, 6, 7, 8, 9, 10, 11, 12, 13, 14, 15, 16, 17, 18, 19, 20, 21, 22, 23, 24, 25,
     26, 27, 28, 29, 30, 31,
 ];
-
-// The place of the lowest bit that is set, or `BLOCK` if none is.
-#[inline(always)]
-fn first_set(mask: u64) -> usize
-    ensures { result ≡ first_set BLOCK mask }
-{
-    if mask == 0 {
-        BLOCK
-    } else {
-        mask.trailing_zeros() as usize
-    }
-}

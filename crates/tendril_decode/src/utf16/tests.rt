@@ -38,7 +38,7 @@ const PAIRS: [&str; 12] = [
         \u{FFFF}\u{FFFD}|\u{FFFF}\u{FFFD}|\u{FFFF}\u{FFFD}|\u{FFFF}\u{FFFD}|\u{FFFF}\u{E000}|\u{FFFF}\u{FFFF}|",
 ];
 
-// DecodesTo a slice, and writes U+FFFD for each malformed sequence.
+// Decodes a slice, and writes U+FFFD for each malformed sequence.
 fn decode_lossy<D: Decode>(
     state: &mut D,
     input: &[u8],
@@ -61,7 +61,7 @@ fn decode_lossy<D: Decode>(
     Ok(())
 }
 
-// DecodesTo a stream that is cut once.
+// Decodes a stream that is cut once.
 fn decode_cut<const BIG: bool>(
     alloc: Global,
     input: &[u8],
@@ -74,13 +74,14 @@ fn decode_cut<const BIG: bool>(
     let mut state = Utf16::<BIG>::new();
     decode_lossy(&mut state, &input[..cut], &mut text)?;
     decode_lossy(&mut state, &input[cut..], &mut text)?;
-    if !state.is_complete() {
+    let part = state.end(&mut [0; 4]);
+    if part.broken {
         text.extend_from_slice("\u{FFFD}".as_bytes())?;
     }
     Ok(text)
 }
 
-// DecodesTo the pairs that a unit begins.
+// Decodes the pairs that a unit begins.
 fn decode_pairs<const BIG: bool>(
     alloc: Global,
     first: u16,

@@ -1,7 +1,7 @@
-use Rattle.std.proofs.Common.{◌≡◌, ◌+◌, ◌<◌, ◌++◌, [], length, take, drop, slice_index, sym, ap, subst, ◌∙◌, arith}
+use Rattle.std.proofs.Common.{◌≡◌, ◌+◌, ◌<◌, ◌++◌, [], length, take, drop, slice_index, refl, ap, subst, ◌∙◌, arith}
 use Rattle.tendril_decode.specs.Packed.{entry_len}
-use Rattle.tendril_decode.specs.Single.{DecodesIn}
-use Rattle.tendril_decode.proofs.SingleSteps.{char_done}
+use Rattle.tendril_decode.specs.Single.{DecodesIn, single_byte}
+use Rattle.tendril_decode.proofs.ByteSteps.{scalar_done}
 use Rattle.tendril_decode.proofs.packed.decode_few.Goals as goal
 
 pub loop-i-preserved : goal.loop-i-preserved
@@ -10,6 +10,7 @@ loop-i-preserved c =
     let input = c.args.input.now in
     let read = c.args.from + c.loop-i.i in
     let text = take c.loop-i.at c.loop-i.out in
+    let out = take c.put_packed-at.result c.put_packed-at.new.out in
     let b = slice_index input read in
     let small : b < 256 = omega (arith, c.type_inv.input read) in
     let p = c.requires.packed.each b small in
@@ -20,8 +21,7 @@ loop-i-preserved c =
     record {
       room = omega (arith, c.loop-i.invariant.room, c.put_packed-at.ensures.place, p.few);
       decodes = λ d.
-          subst (λ n. DecodesIn s input (take c.put_packed-at.result c.put_packed-at.new.out) [] (drop n input)) next
-          (subst (λ l. DecodesIn s input l [] (drop (read + 1) input))
-          (sym (c.put_packed-at.ensures.bytes ∙ ap (λ l. text ++ l) ch.3))
-          (char_done s input text read ch.0 lt (c.loop-i.invariant.decodes d) ch.1 ch.2));
+          subst (λ n. DecodesIn s input out [] (drop n input)) next
+          (scalar_done (single_byte s) s s s input text read lt (c.loop-i.invariant.decodes d) ch.0 out
+          (c.put_packed-at.ensures.bytes ∙ ap (λ l. text ++ l) ch.3) ch.1 ch.2 refl);
     }

@@ -5,7 +5,8 @@ use Rattle.std.specs.Str.{encode_utf8_all}
 use Rattle.tendril_decode.specs.Machines.{DecodesTo}
 use Rattle.tendril_decode.specs.Utf16.{utf16}
 use Rattle.tendril_decode.specs.Utf16Runs.{first_units}
-use Rattle.tendril_decode.proofs.Utf16Steps.{unit_done, pair_done, run_done, length-rest, four_at_most}
+use Rattle.tendril_decode.proofs.Utf16Steps.{unit_done, pair_done, run_done, length-rest}
+use Rattle.tendril_decode.proofs.Lengths.{four_at_most}
 use Rattle.tendril_decode.proofs.utf16.decode_units.Goals as goal
 
 pub put_code_point-at-requires-clause-fits : goal.put_code_point-at-requires-clause-fits

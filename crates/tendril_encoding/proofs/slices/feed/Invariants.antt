@@ -16,4 +16,4 @@ invariant-loop-at g l = record {
 }
 
 abbrev pub decreases-loop-at : goal.decreases-loop-at
-decreases-loop-at g l = 4 * (length l.input - l.at) + g.M.Decode.weight l.state
+decreases-loop-at g l = 5 * (length l.input - l.at) + g.M.Decode.weight l.state

@@ -1,13 +1,10 @@
-use Rattle.std.proofs.Common.{◌≡◌, ◌-◌, ◌+◌, ◌≤◌, ◌++◌, length, take, drop, refl, sym, ap, subst, ◌∙◌, arith}
+use Rattle.std.proofs.Common.{◌≡◌, ◌-◌, ◌+◌, ◌++◌, take, drop, sym, ap, subst, ◌∙◌, arith}
 use Rattle.std.proofs.Math.Seq.{take-add}
 use Rattle.std.proofs.lemmas.List.{take_all}
 use Rattle.std.proofs.lemmas.Result.{IfOk-weaker}
-use Rattle.std.specs.Prelude.{encode_utf8_all}
 use Rattle.tendril_encoding.proofs.Joins.{after, goes_on, takes}
-use Rattle.tendril_encoding.specs.HasMarks.{has_marks}
 use Rattle.tendril_encoding.specs.StateLaws.{is_decoding_from}
 use Rattle.tendril_encoding.specs.States.{decoding_from}
-use Rattle.tendril_lossy.specs.Lossy.{characters}
 use Rattle.tendril_stream.proofs.Stands.{ends_at, stands_at_nothing, stands_on}
 use Rattle.tendril_stream.specs.Compositions.{StandsAt}
 use Rattle.tendril_encoding.proofs.text.decode_whole.Goals as goal
@@ -44,8 +41,8 @@ loop-at-preserved c =
           new.inner_sink old.kept new.kept (take at bytes) piece c.loop-at.invariant.stands h.2);
     }
 
-pub returns : goal.returns
-returns c = IfOk-weaker c.finish.result _ _ (λ out h.
+pub returns-clause-ok : goal.returns-clause-ok
+returns-clause-ok c = IfOk-weaker c.finish.result _ _ (λ out h.
     let start = c.args.decoder.decoder.kept in
     let bytes = c.args.bytes.now in
     let last = c.loop-at.decoder.decoder in

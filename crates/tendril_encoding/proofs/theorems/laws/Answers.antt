@@ -1,4 +1,5 @@
 use Rattle.tendril_encoding.proofs.MarkLaws.{marks_decide}
+use Rattle.tendril_encoding.proofs.OutputLaws.{decodes_to_scalars, is_threefold, keeps_ascii, units_spell_text}
 use Rattle.tendril_encoding.specs.StateLaws.{is_decoding_from}
 use Rattle.tendril_encoding.specs.States.{decoding_from}
 use Rattle.tendril_stream.proofs.Stands.{ends_at, stands_at_nothing, stands_on}
@@ -19,3 +20,15 @@ returns-clause-composes g c = λ start h.
 
 pub returns-clause-marks : goal.returns-clause-marks
 returns-clause-marks g c = marks_decide
+
+pub returns-clause-ascii : goal.returns-clause-ascii
+returns-clause-ascii g c = keeps_ascii
+
+pub returns-clause-scalars : goal.returns-clause-scalars
+returns-clause-scalars g c = decodes_to_scalars
+
+pub returns-clause-units : goal.returns-clause-units
+returns-clause-units g c = units_spell_text
+
+pub returns-clause-short : goal.returns-clause-short
+returns-clause-short g c = is_threefold

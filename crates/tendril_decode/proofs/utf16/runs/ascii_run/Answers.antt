@@ -1,7 +1,9 @@
 use Rattle.std.proofs.Common.{◌≡◌, ◌++◌, true, take, sym, ap, ◌∙◌, arith}
 use Rattle.std.specs.Str.{all_scalars, encode_utf8_all}
 use Rattle.tendril_decode.specs.Utf16Runs.{first_units, units_of}
-use Rattle.tendril_decode.proofs.Utf16Runs.{units_are, front_units, one_front, front_written}
+use Rattle.tendril_decode.proofs.Utf16Lanes.{units_are, front_units}
+use Rattle.tendril_decode.proofs.Utf16Runs.{one_front}
+use Rattle.tendril_decode.proofs.Written.{front_written}
 use Rattle.tendril_decode.proofs.utf16.runs.ascii_run.Goals as goal
 
 front : (c : goal.After-leading_ascii)

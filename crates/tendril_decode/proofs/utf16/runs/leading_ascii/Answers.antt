@@ -1,7 +1,7 @@
 use Rattle.std.proofs.Common.{◌≡◌, ℕ, ◌<◌, ◌≤◌, false, leb, eqb, not, replicate, bit_or, get_or, arith}
 use Rattle.std.specs.Simd.Lanes.{zip2, top}
 use Rattle.std.proofs.lemmas.Bool.Decides.{nat_tests}
-use Rattle.tendril_decode.proofs.Utf16Runs.{other, at_most, lanes_own, lanes_splat, lanes_zip, before_set, neither}
+use Rattle.tendril_decode.proofs.Utf16Lanes.{other, at_most, lanes_own, lanes_splat, lanes_zip, before_set, neither}
 use Rattle.tendril_decode.proofs.utf16.runs.leading_ascii.Goals as goal
 
 below : (l : ℕ) → leb 0x80 l ≡ false → l < 0x80

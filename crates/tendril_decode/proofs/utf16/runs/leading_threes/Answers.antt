@@ -2,8 +2,9 @@ use Rattle.std.proofs.Common.{◌≡◌, ℕ, ◌/◌, ◌<◌, ◌≤◌, ◌�
 use Rattle.std.specs.Simd.Lanes.{zip2, top}
 use Rattle.std.proofs.lemmas.Bool.{cases_lt}
 use Rattle.std.proofs.lemmas.Bool.Decides.{nat_tests}
-use Rattle.tendril_decode.proofs.Utf16Runs.{same, div, IsThree, lanes_own, lanes_splat, lanes_zip, lanes_divide}
-use Rattle.tendril_decode.proofs.Utf16Runs.{before_set, neither}
+use Rattle.tendril_decode.proofs.Utf16Lanes.{same, div, lanes_own, lanes_splat, lanes_zip, lanes_divide, before_set}
+use Rattle.tendril_decode.proofs.Utf16Lanes.{neither}
+use Rattle.tendril_decode.proofs.Utf16Runs.{IsThree}
 use Rattle.tendril_decode.proofs.utf16.runs.leading_threes.Goals as goal
 
 three : (h : ℕ) → eqb (h / 8) 0 ≡ false → eqb (h / 8) 27 ≡ false → IsThree h

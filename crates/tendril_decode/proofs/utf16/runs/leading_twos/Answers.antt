@@ -3,7 +3,8 @@ use Rattle.std.proofs.Common.{get_or, refl, arith, inl, inr}
 use Rattle.std.specs.Prelude.{◌⊎◌}
 use Rattle.std.specs.Simd.Lanes.{zip2, top}
 use Rattle.std.proofs.lemmas.Bool.Decides.{nat_tests}
-use Rattle.tendril_decode.proofs.Utf16Runs.{same, less, at_most, IsTwo, lanes_own, lanes_splat, lanes_zip, before_set}
+use Rattle.tendril_decode.proofs.Utf16Lanes.{same, less, at_most, lanes_own, lanes_splat, lanes_zip, before_set}
+use Rattle.tendril_decode.proofs.Utf16Runs.{IsTwo}
 use Rattle.tendril_decode.proofs.utf16.runs.leading_twos.Goals as goal
 
 abbrev stop : ℕ → ℕ → ℕ

@@ -1,7 +1,8 @@
 use Rattle.std.proofs.Common.{◌≡◌, ℕ, ◌+◌, List, ◌++◌, take, replicate, ap, ◌∙◌, append_assoc, arith}
 use Rattle.std.specs.Simd.Lanes.{zip2}
-use Rattle.tendril_decode.proofs.Utf16Runs.{add, mul, div, rem, lanes_own, lanes_splat, lanes_zip, lanes_divide}
-use Rattle.tendril_decode.proofs.Utf16Runs.{lane_small, threes_are, shuffled, places_0, places_1, places_2}
+use Rattle.tendril_decode.proofs.Utf16Lanes.{add, mul, div, rem, lanes_own, lanes_splat, lanes_zip, lanes_divide}
+use Rattle.tendril_decode.proofs.Utf16Lanes.{lane_small}
+use Rattle.tendril_decode.proofs.Utf16Shuffles.{threes_are, shuffled, places_0, places_1, places_2}
 use Rattle.tendril_decode.proofs.utf16.runs.put_threes.Goals as goal
 
 abbrev first_of : List ℕ → List ℕ

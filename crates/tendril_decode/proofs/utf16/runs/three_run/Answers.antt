@@ -2,7 +2,8 @@ use Rattle.std.proofs.Common.{◌≡◌, ◌+◌, ◌*◌, ◌++◌, true, take,
 use Rattle.std.specs.Str.{all_scalars, encode_utf8_all}
 use Rattle.std.specs.List.{flat_map}
 use Rattle.tendril_decode.specs.Utf16Runs.{first_units, units_of, three_bytes}
-use Rattle.tendril_decode.proofs.Utf16Runs.{lanes_front, three_unit, front_written}
+use Rattle.tendril_decode.proofs.Utf16Runs.{lanes_front, three_unit}
+use Rattle.tendril_decode.proofs.Written.{front_written}
 use Rattle.tendril_decode.proofs.utf16.runs.three_run.Goals as goal
 
 front : (c : goal.After-leading_threes)

@@ -1,0 +1,15 @@
+use Rattle.std.proofs.Common.{sym, ap, ◌∙◌}
+use Rattle.std.proofs.lemmas.Bool.{cond-true, cond-false}
+use Rattle.tendril_decode.specs.EucJp.{jis0212_pair}
+use Rattle.tendril_decode.specs.TwoBytes.{pair_of}
+use Rattle.tendril_decode.proofs.euc_jp.jis0212_pair.Goals as goal
+
+pub returns-then-not-are_cells-clause-value : goal.returns-then-not-are_cells-clause-value
+unfolding jis0212_pair
+returns-then-not-are_cells-clause-value c = sym (cond-false _ _ _ (sym c.if-not-are_cells.ensures))
+
+pub returns-clause-value : goal.returns-clause-value
+unfolding jis0212_pair
+returns-clause-value c =
+    c.pair_of.ensures.value ∙ ap pair_of c.jis0212_at.ensures.value
+    ∙ sym (cond-true _ _ _ (sym c.if-not-are_cells.ensures))

@@ -1,0 +1,8 @@
+use Rattle.std.proofs.Common.{◌≡◌, ◌≤◌, length, true}
+use Rattle.tendril_decode.proofs.sequences.with_slice.Given as goal
+
+abbrev pub invariant-loop : goal.invariant-loop
+invariant-loop g l = record {
+  fits : g.D.Decode.fits l.state ≡ true;
+  short : length l.rest ≤ 96;
+}
