@@ -1,5 +1,2 @@
-mod DecoderReads
-mod DecodingEnds
-mod JoiningSinks
+mod Utf8Texts
 mod WordLemmas
-mod WrittenTexts

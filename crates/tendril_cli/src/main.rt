@@ -1,8 +1,6 @@
 //! The program `tendril`: it runs commands on texts, one per line, or decodes its input.
 #![tactic(auto)]
 
-mod decode;
-mod joined;
 mod lines;
 mod program;
 #[cfg(test)]

@@ -3,22 +3,24 @@ ghost use Rattle.std.specs.Prelude.{◌≡◌, ◌≤◌, ◌↔◌, ◌⊎◌, 
 ghost use Rattle.std.specs.Io.KnownBytes.{IsAtEnd, Keeps};
 ghost use Rattle.tendril_script.specs.Words.{AskToRun};
 ghost use Rattle.tendril_script.specs.Writing.{AppendsFront};
-ghost use Rattle.tendril_cli.specs.Decodings.{DecodesAll, DecodingEnded, most_reads};
+ghost use Rattle.tendril_cli.specs.Decodings.{DecodesAll, DecodingEnded};
 ghost use Rattle.tendril_cli.specs.Endings.{Ended, usage};
 ghost use Rattle.tendril_cli.specs.Sessions.{Ran};
 ghost use Rattle.tendril_cli.specs.Words.{AskToDecode};
+ghost use Rattle.tendril_transcode.specs.Transcodings.{most_reads};
 
-use crate::decode::decode;
 use crate::lines::TextLines;
 use std::alloc::Global;
 use std::io::{Read, Write};
 use std::rt::Env;
 use tendril_script::{Program, run_program, run_words};
-use tendril_stream::Counted;
+use tendril_stream::{Counted, KeptUtf8};
 use tendril_text::block::Refusal;
+use tendril_transcode::transcode;
 
 impl Program for TextLines {
-    ghost use Rattle.tendril_cli.specs.Decodings.{DecodesAll, DecodingHalts, most_reads};
+    ghost use Rattle.tendril_transcode.specs.Transcodings.{most_reads};
+    ghost use Rattle.tendril_cli.specs.Decodings.{DecodesAll, DecodingHalts};
     ghost use Rattle.tendril_cli.specs.Endings.{program_name, usage};
     ghost use Rattle.tendril_cli.specs.Words.{AskToDecode};
 
@@ -49,7 +51,7 @@ impl Program for TextLines {
         if !asks_to_decode(words) {
             return None;
         }
-        Some(decode(alloc, &mut Counted::new(input), out))
+        Some(transcode(alloc, KeptUtf8::new(), &mut Counted::new(input), out))
     }
 }
 

@@ -1,7 +1,8 @@
 use Rattle.std.proofs.Common.{◌⊎◌, subst}
 use Rattle.tendril_script.specs.Endings.{RunEnded}
 use Rattle.tendril_script.specs.Sessions.{RanFrom}
-use Rattle.tendril_cli.specs.Decodings.{DecodesAll, DecodingEnded, most_reads}
+use Rattle.tendril_cli.specs.Decodings.{DecodesAll, DecodingEnded}
+use Rattle.tendril_transcode.specs.Transcodings.{most_reads}
 use Rattle.tendril_cli.specs.Endings.{program_name}
 use Rattle.tendril_cli.specs.Sessions.{Answers}
 use Rattle.tendril_cli.proofs.program.program_with_arguments.Goals as goal

@@ -1,0 +1,2 @@
+-- The definitions that the contracts of the program cite.
+pub mod Recodings

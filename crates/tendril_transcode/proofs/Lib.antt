@@ -1,0 +1,4 @@
+mod DecoderReads
+pub mod DecodingEnds
+mod JoiningSinks
+mod WrittenTexts

@@ -1,0 +1,2 @@
+-- The definitions that the contracts of decoding an input to an output cite.
+pub mod Transcodings
