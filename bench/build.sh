@@ -26,7 +26,7 @@ write_sources() {
     TENDRIL_SOURCES=$(cd "$TENDRIL_SOURCES" && pwd) || fail "TENDRIL_SOURCES is no folder"
     local missing='' crate folder
     echo '[patch.crates-io]' > "$sources"
-    for crate in tendril-0.5.1 new_debug_unreachable-1. bytes-1. simdutf8-0.1.; do
+    for crate in tendril-0.5.1 new_debug_unreachable-1. bytes-1. simdutf8-0.1. encoding_rs-0.8.31 cfg-if-1.; do
         folder=$(folder_of "$crate")
         [ -n "$folder" ] || missing="$missing $crate*"
         echo "${crate%-*} = { path = \"$folder\" }" >> "$sources"
@@ -59,7 +59,7 @@ add_exports() {
         | tar -C "$1/crates/port_exports" -xf -
     grep -rl use_tokens "$1/crates/port_exports" | xargs sed -i 's/Rattle\.use_tokens\./Rattle.port_exports./'
     local used='tendril tendril_queue tendril_stream tendril_text tendril_block tendril_fmt tendril_lossy'
-    printf 'port_exports staticlib: rope_text memchr %s\nport_threads: %s\n' "$used" "$used" >> "$1/crates.txt"
+    printf 'port_exports staticlib: rope_text memchr tendril_encoding tendril_decode tendril_labels %s\nport_threads: %s\n' "$used" "$used" >> "$1/crates.txt"
 }
 
 # build_port FROM NAME: proves and links a checkout's port.
@@ -90,5 +90,7 @@ if [ -n "${1:-}" ]; then
     build_port "$1" other
 fi
 cd "$bench"
+# As the port is compiled.
+export RUSTFLAGS="-C target-cpu=x86-64-v2 ${RUSTFLAGS:-}"
 cargo build --release --features "$features" "${from[@]}"
 echo "run: $bench/target/release/tendril_driver"

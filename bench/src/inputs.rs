@@ -23,6 +23,29 @@ const IDEOGRAPHS: &str = "\
 
 const PAIRS: &str = "🙂 🎉 🎊 👩 💩 😀 𝔸 𠮷";
 
+pub const FRENCH: &str = "\
+    le de un être et à il avoir ne je son que se qui ce dans en du elle au pour pas sur plus par \
+    mais avec tout nous même déjà très après où été état élève façade sous comme page texte";
+
+pub const RUSSIAN: &str = "\
+    и в не на быть он с что а по это она этот к но они мы весь который из у за ты от так о \
+    страница документ кодировка текст слово время человек год дело";
+
+pub const JAPANESE: &str = "\
+    これは 文字列 です。 漢字 と ひらがな カタカナ が ある 文書 の 要素 、 属性 を 読む とき 、 \
+    文字 の 符号化 方式 は 重要 である 。 日本語 ページ";
+
+pub const SIMPLIFIED: &str = "\
+    这是 一个 网页 ， 的 字符 编码 标准 。 浏览器 解析器 读取 文档 元素 和 属性 ， 我们 可以 \
+    没有 时候 中国 人 大 来 上 说 了 不 在 有";
+
+pub const TRADITIONAL: &str = "\
+    這是 一個 網頁 ， 的 字元 編碼 標準 。 瀏覽器 解析器 讀取 文件 元素 和 屬性 ， 我們 可以 \
+    沒有 時候 中國 人 大 來 上 說 了 不 在 有";
+
+pub const KOREAN: &str = "\
+    그리고 나는 있다 하는 것이 수 있는 문서 요소 속성 문자 부호화 표준 브라우저 한국어 페이지 를 은 는";
+
 const MOSTLY_ENGLISH: &str = "the quick brown fox parser attribute café 中文";
 
 /// Faults of the kinds that real pages have.
@@ -146,12 +169,22 @@ fn page(size: usize, seed: u64, words: &str) -> String {
 }
 
 /// Words, one right behind the other, of at least `size` bytes.
-fn row(size: usize, seed: u64, words: &str) -> String {
+pub fn row(size: usize, seed: u64, words: &str) -> String {
+    separated(size, seed, words, "")
+}
+
+/// Words, each with a space after it, of at least `size` bytes.
+pub fn prose(size: usize, seed: u64, words: &str) -> String {
+    separated(size, seed, words, " ")
+}
+
+fn separated(size: usize, seed: u64, words: &str, separator: &str) -> String {
     let words: Vec<&str> = words.split(' ').collect();
     let mut random = Random::new(seed);
     let mut text = String::with_capacity(size + 64);
     while text.len() < size {
         text.push_str(random.pick(&words));
+        text.push_str(separator);
     }
     text
 }

@@ -15,6 +15,7 @@ struct Exports {
     clone: Repeated,
     clone_atomic: Repeated,
     decode: OnBytes,
+    decode_label: unsafe extern "C" fn(*const u8, usize, *const u8, usize) -> u64,
     from_units: unsafe extern "C" fn(*const u16, usize, u64) -> u64,
     input: OnBytes,
     join: OnPieces,
@@ -60,6 +61,7 @@ macro_rules! exports {
             clone(bytes: *const u8, length: usize, calls: u64)
             clone_atomic(bytes: *const u8, length: usize, calls: u64)
             decode(bytes: *const u8, length: usize)
+            decode_label(bytes: *const u8, length: usize, label: *const u8, label_length: usize)
             from_units(units: *const u16, length: usize, times: u64)
             input(bytes: *const u8, length: usize)
             join(bytes: *const u8, length: usize, lengths: *const u32, count: usize, times: u64)
@@ -129,6 +131,14 @@ impl Port {
 
     pub fn decode(&self, bytes: &[u8]) -> u64 {
         on_bytes(self.exports.decode, bytes)
+    }
+
+    /// Decodes bytes in the encoding that has this label.
+    pub fn decode_label(&self, bytes: &[u8], label: &str) -> u64 {
+        // SAFETY: as in `on_bytes`, for two slices.
+        unsafe {
+            (self.exports.decode_label)(bytes.as_ptr(), bytes.len(), label.as_ptr(), label.len())
+        }
     }
 
     /// Makes a text of the units, so many times.

@@ -71,14 +71,23 @@ fn decode<'a>(
 
 /// Counts the bytes of the texts that it is given, and the errors.
 #[derive(Default)]
-struct Counting {
+pub struct Counting {
     bytes: u64,
     faults: u64,
 }
 
 impl Counting {
-    fn sum(&self) -> u64 {
+    pub fn sum(&self) -> u64 {
         self.bytes + (self.faults << 40)
+    }
+
+    pub fn text(&mut self, text: &[u8]) {
+        self.bytes += text.len() as u64;
+    }
+
+    pub fn malformed(&mut self) {
+        self.faults += 1;
+        self.text(black_box("\u{FFFD}").as_bytes());
     }
 }
 
@@ -116,7 +125,7 @@ fn decode_borrowed(input: &[u8]) -> u64 {
         buffer.drain(..buffer.len() - kept);
     }
     if !buffer.is_empty() {
-        fault(&mut seen);
+        seen.malformed();
     }
     seen.sum()
 }
@@ -126,18 +135,13 @@ fn decode_buffer(bytes: &[u8], seen: &mut Counting) -> usize {
     let mut rest = bytes;
     while let Err(error) = std::str::from_utf8(rest) {
         let (valid, after) = rest.split_at(error.valid_up_to());
-        seen.bytes += black_box(valid).len() as u64;
+        seen.text(black_box(valid));
         let Some(length) = error.error_len() else {
             return after.len();
         };
-        fault(seen);
+        seen.malformed();
         rest = &after[length..];
     }
-    seen.bytes += black_box(rest).len() as u64;
+    seen.text(black_box(rest));
     0
-}
-
-fn fault(seen: &mut Counting) {
-    seen.faults += 1;
-    seen.bytes += black_box("\u{FFFD}").len() as u64;
 }

@@ -3,6 +3,7 @@
 
 mod characters;
 mod decode;
+mod encodings;
 mod grow;
 mod input;
 mod make;
@@ -27,7 +28,7 @@ const PIECE: usize = 4096;
 
 /// All workloads, in the order of their ids but for those in threads, which stand last.
 pub fn all<'a>(inputs: &'a Inputs, ports: &'a [Port]) -> Vec<Workload<'a>> {
-    vec![
+    let mut all = vec![
         decode::ascii(inputs, ports),
         decode::multilingual(inputs, ports),
         decode::broken(inputs, ports),
@@ -73,7 +74,9 @@ pub fn all<'a>(inputs: &'a Inputs, ports: &'a [Port]) -> Vec<Workload<'a>> {
         units::made_of_pairs(inputs, ports),
         threads::shared(inputs, ports),
         threads::apart(inputs, ports),
-    ]
+    ];
+    all.extend(encodings::all(inputs, ports));
+    all
 }
 
 /// Keeps the last 16 values, so that each call makes one and drops an older one, and no compiler
