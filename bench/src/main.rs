@@ -2,22 +2,33 @@
 
 mod inputs;
 mod measure;
+mod picture;
 mod port;
+mod report;
+mod results;
 mod workloads;
 
 use inputs::Inputs;
 use measure::Workload;
+use report::{Page, Run};
+use results::Results;
+use std::error::Error;
+use std::path::PathBuf;
 use std::process::ExitCode;
 
-const USAGE: &str = "usage: tendril_driver [--rounds N] [--size BYTES] [--alone CONTENDER] [WORD..]
+const USAGE: &str =
+    "usage: tendril_driver [--rounds N] [--size BYTES] [--page FILE | --alone CONTENDER] [WORD..]
   --rounds  how often each contender runs (15)
   --size    how long the large inputs are (4194304)
+  --page    runs all workloads, and writes the results between the marks of this page and the
+            picture speed.svg beside it
   --alone   runs one contender only, and says what the process had in memory at most
   WORD      an id of a workload, or what the ids of several begin with; none: all run";
 
 struct Options {
     rounds: usize,
     size: usize,
+    page: Option<PathBuf>,
     alone: Option<String>,
     words: Vec<String>,
 }
@@ -27,6 +38,7 @@ impl Options {
         let mut options = Options {
             rounds: 15,
             size: 4 << 20,
+            page: None,
             alone: None,
             words: Vec::new(),
         };
@@ -36,12 +48,18 @@ impl Options {
                     options.rounds = arguments.next()?.parse().ok().filter(|it| *it > 0)?
                 }
                 "--size" => options.size = arguments.next()?.parse().ok()?,
+                "--page" => options.page = Some(arguments.next()?.into()),
                 "--alone" => options.alone = Some(arguments.next()?),
                 flag if flag.starts_with('-') => return None,
                 _ => options.words.push(word),
             }
         }
-        Some(options)
+        options.is_whole().then_some(options)
+    }
+
+    /// Whether a page gets all rows, if one is written.
+    fn is_whole(&self) -> bool {
+        self.page.is_none() || self.words.is_empty() && self.alone.is_none()
     }
 
     /// The workloads that the words ask for: a word that is an id means that one alone.
@@ -64,22 +82,67 @@ fn main() -> ExitCode {
         eprintln!("{USAGE}");
         return ExitCode::from(2);
     };
-    let inputs = Inputs::new(options.size);
-    let ports = port::builds();
-    println!(
-        "{} rounds; large inputs of {} bytes",
-        options.rounds, options.size
-    );
-    let chosen = options.choose(workloads::all(&inputs, &ports));
-    if chosen.is_empty() {
-        eprintln!("no workload has such an id\n{USAGE}");
-        return ExitCode::from(2);
-    }
-    for mut workload in chosen {
-        match &options.alone {
-            Some(contender) => workload.run_alone(contender, options.rounds),
-            None => workload.measure(options.rounds),
+    match run(&options) {
+        Ok(()) => ExitCode::SUCCESS,
+        Err(error) => {
+            eprintln!("tendril_driver: {error}");
+            ExitCode::FAILURE
         }
     }
-    ExitCode::SUCCESS
+}
+
+fn run(options: &Options) -> Result<(), Box<dyn Error>> {
+    let page = options.page.as_deref().map(Page::open).transpose()?;
+    let inputs = Inputs::new(options.size);
+    let ports = port::builds();
+    if page.is_some() && ports.is_empty() {
+        return Err("a page is about the port: build with the feature `port`".into());
+    }
+    let chosen = options.choose(workloads::all(&inputs, &ports));
+    if chosen.is_empty() {
+        return Err("no workload has such an id".into());
+    }
+    if let Some(contender) = &options.alone {
+        for mut workload in chosen {
+            workload.run_alone(contender, options.rounds);
+        }
+        return Ok(());
+    }
+    let run = Run::new(options.rounds, options.size);
+    println!("{run}");
+    let results = measure(chosen, options.rounds);
+    if let Some(page) = page {
+        page.write(&run, &results)?;
+    }
+    Ok(())
+}
+
+/// Measures the workloads, and prints the results of each when it has them.
+fn measure(workloads: Vec<Workload>, rounds: usize) -> Vec<Results> {
+    let measured = workloads.into_iter().map(|mut it| it.measure(rounds));
+    measured.inspect(|it| print!("{it}")).collect()
+}
+
+#[cfg(test)]
+mod tests {
+    use super::*;
+
+    fn parse(line: &str) -> Option<Options> {
+        Options::parse(line.split(' ').map(String::from))
+    }
+
+    #[test]
+    fn a_page_is_written_of_all_workloads() {
+        assert!(parse("--rounds 11 --page docs/SPEED.md").is_some());
+        assert!(parse("--page docs/SPEED.md a1").is_none());
+        assert!(parse("--page docs/SPEED.md --alone port").is_none());
+        assert!(parse("--alone port m").is_some());
+    }
+
+    #[test]
+    fn what_is_no_option_is_refused() {
+        assert!(parse("--page").is_none());
+        assert!(parse("--rounds 0").is_none());
+        assert!(parse("--table").is_none());
+    }
 }

@@ -2,36 +2,12 @@
 //! slow moment of the machine falls on all, and the ratio within a round is what counts.
 
 use crate::port::Port;
+use crate::results::{Results, Role, Timed, Unit};
 use std::hint::black_box;
 use std::time::{Duration, Instant};
 
 /// How long a contender runs untimed, at least, before each timed run.
 const WARM_UP: Duration = Duration::from_millis(20);
-
-/// What a workload's figures are given in.
-#[derive(Clone, Copy)]
-pub enum Unit {
-    /// Megabytes a second, since the work goes over so many bytes.
-    Bytes(usize),
-    /// Nanoseconds a call, since the work is so many calls.
-    Calls(usize),
-}
-
-impl Unit {
-    fn name(self) -> &'static str {
-        match self {
-            Unit::Bytes(_) => "MB/s",
-            Unit::Calls(_) => "ns/call",
-        }
-    }
-
-    fn show(self, seconds: f64) -> String {
-        match self {
-            Unit::Bytes(count) => format!("{:.0}", count as f64 / seconds / 1e6),
-            Unit::Calls(count) => format!("{:.2}", seconds * 1e9 / count as f64),
-        }
-    }
-}
 
 /// Whose time counts.
 #[derive(Clone, Copy, PartialEq)]
@@ -44,6 +20,7 @@ enum Clock {
 
 struct Contender<'a> {
     name: String,
+    role: Role,
     /// Whether it has to answer what the first contender answers.
     agrees: bool,
     /// How often its work has to be done to make the workload's.
@@ -53,17 +30,25 @@ struct Contender<'a> {
 
 pub struct Workload<'a> {
     pub id: &'static str,
-    title: &'static str,
+    name: &'static str,
+    details: &'static str,
     unit: Unit,
     clock: Clock,
     contenders: Vec<Contender<'a>>,
 }
 
 impl<'a> Workload<'a> {
-    pub fn new(id: &'static str, title: &'static str, unit: Unit) -> Workload<'a> {
+    /// One that is named in a few words; the details say the rest.
+    pub fn new(
+        id: &'static str,
+        name: &'static str,
+        details: &'static str,
+        unit: Unit,
+    ) -> Workload<'a> {
         Workload {
             id,
-            title,
+            name,
+            details,
             unit,
             clock: Clock::Thread,
             contenders: Vec::new(),
@@ -72,10 +57,15 @@ impl<'a> Workload<'a> {
 
     /// One whose contenders have threads of their own, and so answer the nanoseconds that they
     /// took.
-    pub fn on_the_wall(id: &'static str, title: &'static str, unit: Unit) -> Workload<'a> {
+    pub fn on_the_wall(
+        id: &'static str,
+        name: &'static str,
+        details: &'static str,
+        unit: Unit,
+    ) -> Workload<'a> {
         Workload {
             clock: Clock::Wall,
-            ..Workload::new(id, title, unit)
+            ..Workload::new(id, name, details, unit)
         }
     }
 
@@ -103,8 +93,16 @@ impl<'a> Workload<'a> {
         work: impl Fn(&'a Port) -> R,
     ) -> Workload<'a> {
         for port in ports {
-            self = self.with(port.name, work(port));
+            self = self.with(port.name, work(port)).listed_as(Role::Port);
         }
+        self
+    }
+
+    /// Says what the contender that was added last is in the table of the results. The first one
+    /// is a divisor without being listed.
+    pub fn listed_as(mut self, role: Role) -> Workload<'a> {
+        let last = self.contenders.last_mut();
+        last.expect("a contender was added").role = role;
         self
     }
 
@@ -116,8 +114,13 @@ impl<'a> Workload<'a> {
         run: impl FnMut() -> u64 + 'a,
     ) -> Workload<'a> {
         let run = Box::new(run);
+        let role = match self.contenders.len() {
+            0 => Role::Divisor,
+            _ => Role::Unlisted,
+        };
         self.contenders.push(Contender {
             name: name.into(),
+            role,
             agrees,
             times,
             run,
@@ -125,8 +128,8 @@ impl<'a> Workload<'a> {
         self
     }
 
-    /// Times each contender once in each round, and prints a table.
-    pub fn measure(&mut self, rounds: usize) {
+    /// Times each contender once in each round.
+    pub fn measure(&mut self, rounds: usize) -> Results {
         self.compare_answers();
         let count = self.contenders.len();
         let mut times = vec![Vec::with_capacity(rounds); count];
@@ -136,7 +139,7 @@ impl<'a> Workload<'a> {
             self.warm_up(at);
             times[at].push(self.time(at));
         }
-        self.print(&times);
+        self.results(times)
     }
 
     /// Runs a contender untimed, at least once, so that the timed run finds the heap and the caches
@@ -175,26 +178,20 @@ impl<'a> Workload<'a> {
         took * contender.times
     }
 
-    fn print(&self, times: &[Vec<f64>]) {
-        let unit = self.unit.name();
-        println!("\n### {} {}\n", self.id, self.title);
-        println!(
-            "| contender | best {unit} | median {unit} | time / the first's (median, range) |"
-        );
-        println!("|---|---:|---:|---:|");
-        for (contender, taken) in self.contenders.iter().zip(times) {
-            let sorted = sorted(taken.clone());
-            let ratios = sorted_ratios(taken, &times[0]);
-            let (median, tenth) = (taken.len() / 2, taken.len() / 10);
-            println!(
-                "| {} | {} | {} | {:.2} ({:.2} to {:.2}) |",
-                contender.name,
-                self.unit.show(sorted[0]),
-                self.unit.show(sorted[median]),
-                ratios[median],
-                ratios[tenth],
-                ratios[ratios.len() - 1 - tenth],
-            );
+    fn results(&self, times: Vec<Vec<f64>>) -> Results {
+        let contenders = self.contenders.iter().zip(times);
+        Results {
+            id: self.id,
+            name: self.name,
+            details: self.details,
+            unit: self.unit,
+            contenders: contenders
+                .map(|(it, seconds)| Timed {
+                    name: it.name.clone(),
+                    role: it.role,
+                    seconds,
+                })
+                .collect(),
         }
     }
 
@@ -216,21 +213,6 @@ impl<'a> Workload<'a> {
             peak()
         );
     }
-}
-
-fn sorted(mut times: Vec<f64>) -> Vec<f64> {
-    times.sort_by(f64::total_cmp);
-    times
-}
-
-fn sorted_ratios(times: &[f64], first: &[f64]) -> Vec<f64> {
-    sorted(
-        times
-            .iter()
-            .zip(first)
-            .map(|(time, first)| time / first)
-            .collect(),
-    )
 }
 
 /// The most that this process had in memory, in KiB.

@@ -2,27 +2,23 @@
 
 use super::RcView;
 use crate::inputs::Inputs;
-use crate::measure::{Unit, Workload};
+use crate::measure::Workload;
 use crate::port::Port;
+use crate::results::{Role, Unit};
 use std::rc::Rc;
 use tendril::fmt::UTF8;
 use tendril::{Atomic, Atomicity, NonAtomic, Tendril};
 
 /// Takes the characters off HTML in ASCII.
 pub fn ascii<'a>(inputs: &'a Inputs, ports: &'a [Port]) -> Workload<'a> {
-    characters(
-        "c1",
-        "pop_front_char to the end, HTML in ASCII",
-        &inputs.html,
-        ports,
-    )
+    characters("c1", "pop all characters, ASCII", &inputs.html, ports)
 }
 
 /// Takes the characters off multilingual text.
 pub fn multilingual<'a>(inputs: &'a Inputs, ports: &'a [Port]) -> Workload<'a> {
     characters(
         "c2",
-        "pop_front_char to the end, multilingual",
+        "pop all characters, multilingual",
         &inputs.mixed,
         ports,
     )
@@ -30,11 +26,12 @@ pub fn multilingual<'a>(inputs: &'a Inputs, ports: &'a [Port]) -> Workload<'a> {
 
 fn characters<'a>(
     id: &'static str,
-    title: &'static str,
+    name: &'static str,
     text: &'a str,
     ports: &'a [Port],
 ) -> Workload<'a> {
-    Workload::new(id, title, Unit::Calls(text.chars().count()))
+    let details = "`pop_front_char` to the end, for each character";
+    Workload::new(id, name, details, Unit::Calls(text.chars().count()))
         .with("tendril 0.5.1", move || pop_all::<NonAtomic>(text))
         .with("tendril 0.5.1, Atomic", move || pop_all::<Atomic>(text))
         .with("str::chars", move || text.chars().fold(0, fold))
@@ -47,6 +44,7 @@ fn characters<'a>(
             }
             sum
         })
+        .listed_as(Role::Counted)
         .with_ports(ports, |port| move || port.pop_characters(text))
 }
 

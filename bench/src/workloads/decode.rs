@@ -2,8 +2,9 @@
 
 use super::PIECE;
 use crate::inputs::Inputs;
-use crate::measure::{Unit, Workload};
+use crate::measure::Workload;
 use crate::port::Port;
+use crate::results::{Role, Unit};
 use std::borrow::Cow;
 use std::hint::black_box;
 use tendril::fmt::UTF8;
@@ -12,19 +13,14 @@ use tendril::{Atomicity, ByteTendril, Tendril, TendrilSink};
 
 /// Decodes HTML in ASCII.
 pub fn ascii<'a>(inputs: &'a Inputs, ports: &'a [Port]) -> Workload<'a> {
-    decode(
-        "a1",
-        "lossy decode in pieces of 4096 bytes, HTML in ASCII",
-        inputs.html.as_bytes(),
-        ports,
-    )
+    decode("a1", "decode ASCII", inputs.html.as_bytes(), ports)
 }
 
 /// Decodes text in many scripts, all of it valid.
 pub fn multilingual<'a>(inputs: &'a Inputs, ports: &'a [Port]) -> Workload<'a> {
     decode(
         "a2",
-        "lossy decode in pieces of 4096 bytes, multilingual",
+        "decode multilingual text",
         inputs.mixed.as_bytes(),
         ports,
     )
@@ -34,7 +30,7 @@ pub fn multilingual<'a>(inputs: &'a Inputs, ports: &'a [Port]) -> Workload<'a> {
 pub fn broken<'a>(inputs: &'a Inputs, ports: &'a [Port]) -> Workload<'a> {
     decode(
         "a3",
-        "lossy decode in pieces of 4096 bytes, broken",
+        "decode text with a fault about each 250 bytes",
         &inputs.broken,
         ports,
     )
@@ -42,21 +38,17 @@ pub fn broken<'a>(inputs: &'a Inputs, ports: &'a [Port]) -> Workload<'a> {
 
 /// Decodes bytes of which nearly each one is a fault.
 pub fn random<'a>(inputs: &'a Inputs, ports: &'a [Port]) -> Workload<'a> {
-    decode(
-        "a4",
-        "lossy decode in pieces of 4096 bytes, random bytes",
-        &inputs.random,
-        ports,
-    )
+    decode("a4", "decode random bytes", &inputs.random, ports)
 }
 
 fn decode<'a>(
     id: &'static str,
-    title: &'static str,
+    name: &'static str,
     input: &'a [u8],
     ports: &'a [Port],
 ) -> Workload<'a> {
-    Workload::new(id, title, Unit::Bytes(input.len()))
+    let details = "lossily, in pieces of 4096 bytes, to a sink that counts";
+    Workload::new(id, name, details, Unit::Bytes(input.len()))
         .with("tendril 0.5.1", move || decode_by_tendril(input))
         .with("std, borrowed &str by hand", move || decode_borrowed(input))
         .beside("String::from_utf8_lossy, the whole at once", move || {
@@ -66,6 +58,7 @@ fn decode<'a>(
             let pieces = input.chunks(PIECE).map(String::from_utf8_lossy);
             pieces.map(|it| it.into_owned().len() as u64).sum()
         })
+        .listed_as(Role::Owned)
         .with_ports(ports, |port| move || port.decode(input))
 }
 

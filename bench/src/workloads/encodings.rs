@@ -5,8 +5,9 @@ use super::decode::Counting;
 use crate::inputs::{
     FRENCH, Inputs, JAPANESE, KOREAN, RUSSIAN, SIMPLIFIED, TRADITIONAL, prose, row,
 };
-use crate::measure::{Unit, Workload};
+use crate::measure::Workload;
 use crate::port::Port;
+use crate::results::{Role, Unit};
 use encoding_rs::{DecoderResult, Encoding};
 use std::hint::black_box;
 use tendril::stream::LossyDecoder;
@@ -15,7 +16,7 @@ use tendril::{ByteTendril, TendrilSink};
 /// What is decoded: its id, the label of its encoding, what it is, and its bytes.
 struct Stream {
     id: &'static str,
-    title: &'static str,
+    name: &'static str,
     label: &'static str,
     bytes: Vec<u8>,
 }
@@ -37,38 +38,38 @@ fn streams(inputs: &Inputs) -> Vec<Stream> {
     let korean = &prose(size, 67, KOREAN);
     let high = inputs.random.iter().map(|it| it | 0x80).collect();
     vec![
-        of_text("v1", "windows-1252, HTML in ASCII", "windows-1252", ascii),
-        of_text("v2", "windows-1252, French", "windows-1252", french),
-        of_text("v3", "KOI8-R, Russian", "koi8-r", russian),
-        of_text("v4", "windows-1251, Russian", "windows-1251", russian),
-        of_bytes("v5", "windows-1252, all bytes above 7F", "windows-1252", high),
-        of_bytes("v6", "UTF-16LE, HTML in ASCII", "utf-16le", units(ascii)),
-        of_bytes("v7", "UTF-16LE, French", "utf-16le", units(french)),
-        of_bytes("v8", "UTF-16LE, Chinese", "utf-16le", units(simplified)),
-        of_bytes("v9", "UTF-16LE, pairs", "utf-16le", units(&inputs.pairs)),
-        of_bytes("v10", "windows-1257, random bytes", "windows-1257", inputs.random.clone()),
-        of_text("v11", "Shift_JIS, Japanese", "shift_jis", japanese),
-        of_text("v12", "EUC-JP, Japanese", "euc-jp", japanese),
-        of_text("v13", "ISO-2022-JP, Japanese", "iso-2022-jp", japanese),
-        of_text("v14", "GBK, Chinese", "gbk", simplified),
-        of_text("v15", "Big5, Chinese", "big5", traditional),
-        of_text("v16", "EUC-KR, Korean", "euc-kr", korean),
-        of_bytes("v17", "gb18030, random bytes", "gb18030", inputs.random.clone()),
-        of_bytes("v18", "Shift_JIS, random bytes", "shift_jis", inputs.random.clone()),
+        of_text("v1", "decode windows-1252, ASCII", "windows-1252", ascii),
+        of_text("v2", "decode windows-1252, French", "windows-1252", french),
+        of_text("v3", "decode KOI8-R, Russian", "koi8-r", russian),
+        of_text("v4", "decode windows-1251, Russian", "windows-1251", russian),
+        of_bytes("v5", "decode windows-1252, all bytes above 7F", "windows-1252", high),
+        of_bytes("v6", "decode UTF-16LE, ASCII", "utf-16le", units(ascii)),
+        of_bytes("v7", "decode UTF-16LE, French", "utf-16le", units(french)),
+        of_bytes("v8", "decode UTF-16LE, Chinese", "utf-16le", units(simplified)),
+        of_bytes("v9", "decode UTF-16LE, surrogate pairs", "utf-16le", units(&inputs.pairs)),
+        of_bytes("v10", "decode windows-1257, random bytes", "windows-1257", inputs.random.clone()),
+        of_text("v11", "decode Shift_JIS, Japanese", "shift_jis", japanese),
+        of_text("v12", "decode EUC-JP, Japanese", "euc-jp", japanese),
+        of_text("v13", "decode ISO-2022-JP, Japanese", "iso-2022-jp", japanese),
+        of_text("v14", "decode GBK, Chinese", "gbk", simplified),
+        of_text("v15", "decode Big5, Chinese", "big5", traditional),
+        of_text("v16", "decode EUC-KR, Korean", "euc-kr", korean),
+        of_bytes("v17", "decode gb18030, random bytes", "gb18030", inputs.random.clone()),
+        of_bytes("v18", "decode Shift_JIS, random bytes", "shift_jis", inputs.random.clone()),
     ]
 }
 
 /// The text in the encoding, all characters of which it has.
-fn of_text(id: &'static str, title: &'static str, label: &'static str, text: &str) -> Stream {
+fn of_text(id: &'static str, name: &'static str, label: &'static str, text: &str) -> Stream {
     let (bytes, _, replaced) = of_label(label).encode(text);
     assert!(!replaced, "{id}: a character is not in {label}");
-    of_bytes(id, title, label, bytes.into_owned())
+    of_bytes(id, name, label, bytes.into_owned())
 }
 
-fn of_bytes(id: &'static str, title: &'static str, label: &'static str, bytes: Vec<u8>) -> Stream {
+fn of_bytes(id: &'static str, name: &'static str, label: &'static str, bytes: Vec<u8>) -> Stream {
     Stream {
         id,
-        title,
+        name,
         label,
         bytes,
     }
@@ -85,18 +86,20 @@ fn of_label(label: &str) -> &'static Encoding {
 fn decode<'a>(stream: Stream, ports: &'a [Port]) -> Workload<'a> {
     let Stream {
         id,
-        title,
+        name,
         label,
         bytes,
     } = stream;
     let input: &'a [u8] = bytes.leak();
-    Workload::new(id, title, Unit::Bytes(input.len()))
+    let details = "in pieces of 4096 bytes, to a sink that counts";
+    Workload::new(id, name, details, Unit::Bytes(input.len()))
         .with("tendril 0.5.1 with encoding_rs", move || {
             decode_by_tendril(label, input)
         })
         .with("encoding_rs 0.8.31, to a buffer", move || {
             decode_by_encoding_rs(label, input)
         })
+        .listed_as(Role::Alone)
         .with_ports(ports, |port| move || port.decode_label(input, label))
 }
 

@@ -3,23 +3,24 @@
 
 use super::last_and_length;
 use crate::inputs::Inputs;
-use crate::measure::{Unit, Workload};
+use crate::measure::Workload;
 use crate::port::Port;
+use crate::results::{Role, Unit};
 use bytes::BytesMut;
 use tendril::{ByteTendril, StrTendril};
 
 /// Pushes pieces of 1 to 20 bytes, all onto one text.
 pub fn one_text<'a>(inputs: &'a Inputs, ports: &'a [Port]) -> Workload<'a> {
-    let title = "push_slice of 1 to 20 bytes, all onto one text, HTML in ASCII";
     let pieces = Pieces::new(&inputs.html, &inputs.pushes);
-    pushes("e1", title, pieces, usize::MAX, ports)
+    let name = "push 1 to 20 bytes, all onto one text";
+    pushes("e1", name, "ASCII", pieces, usize::MAX, ports)
 }
 
 /// Pushes pieces of 1 to 20 bytes, 20 onto a text.
 pub fn many_texts<'a>(inputs: &'a Inputs, ports: &'a [Port]) -> Workload<'a> {
-    let title = "push_slice of 1 to 20 bytes, 20 to a text, multilingual";
     let pieces = Pieces::new(&inputs.mixed, &inputs.mixed_pushes);
-    pushes("e2", title, pieces, 20, ports)
+    let name = "push 1 to 20 bytes, 20 to a text";
+    pushes("e2", name, "multilingual", pieces, 20, ports)
 }
 
 /// A text, and the lengths of the pieces that it is cut into.
@@ -66,12 +67,13 @@ impl<'a> Pieces<'a> {
 
 fn pushes<'a>(
     id: &'static str,
-    title: &'static str,
+    name: &'static str,
+    details: &'static str,
     pieces: Pieces<'a>,
     each: usize,
     ports: &'a [Port],
 ) -> Workload<'a> {
-    Workload::new(id, title, Unit::Calls(pieces.lengths.len()))
+    Workload::new(id, name, details, Unit::Calls(pieces.lengths.len()))
         .with("tendril 0.5.1, UTF8", move || {
             let push = |out: &mut StrTendril, it: &str| out.push_slice(it);
             pieces.push(each, StrTendril::new, push, |out| {
@@ -88,10 +90,12 @@ fn pushes<'a>(
                 last_and_length(out.as_bytes())
             })
         })
+        .listed_as(Role::Owned)
         .with("bytes::BytesMut", move || {
             let push = |out: &mut BytesMut, it: &str| out.extend_from_slice(it.as_bytes());
             pieces.push(each, BytesMut::new, push, |out| last_and_length(out))
         })
+        .listed_as(Role::Bytes)
         .with_ports(ports, |port| {
             move || port.push(pieces.text, pieces.lengths, each)
         })
@@ -115,8 +119,9 @@ pub fn joins<'a>(inputs: &'a Inputs, ports: &'a [Port]) -> Workload<'a> {
     };
     let slices: Vec<StrTendril> = pieces.lengths.iter().map(slice).collect();
     let copied = slices.clone();
-    let title = "push_tendril of adjacent slices of 12 to 40 bytes, 32 to a text";
-    let mut it = Workload::new("f", title, Unit::Calls(slices.len()))
+    let name = "push the slice that follows in the block";
+    let details = "slices of 12 to 40 bytes, each pushed onto the one before, 32 to a text";
+    let mut it = Workload::new("f", name, details, Unit::Calls(slices.len()))
         .with("tendril 0.5.1 (grows views)", move || grow_views(&slices))
         .with("tendril 0.5.1, push_slice (copies)", move || {
             copied.chunks(GROUP).map(copy_slices).sum()
@@ -124,10 +129,13 @@ pub fn joins<'a>(inputs: &'a Inputs, ports: &'a [Port]) -> Workload<'a> {
         .with("String::push_str (copies)", move || {
             let push = |out: &mut String, it: &str| out.push_str(it);
             pieces.push(GROUP, String::new, push, |out| out.len() as u64)
-        });
+        })
+        .listed_as(Role::Owned);
     for port in ports {
         let join = move || port.join(pieces.text, pieces.lengths, JOINS);
-        it = it.part(port.name, 1.0 / JOINS as f64, join);
+        it = it
+            .part(port.name, 1.0 / JOINS as f64, join)
+            .listed_as(Role::Port);
     }
     it
 }

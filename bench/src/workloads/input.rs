@@ -4,8 +4,9 @@
 use super::PIECE;
 use super::parse::add;
 use crate::inputs::Inputs;
-use crate::measure::{Unit, Workload};
+use crate::measure::Workload;
 use crate::port::Port;
+use crate::results::Unit;
 use std::collections::VecDeque;
 use tendril::StrTendril;
 
@@ -14,10 +15,13 @@ pub fn of_page<'a>(inputs: &'a Inputs, ports: &'a [Port]) -> Workload<'a> {
     let input = inputs.large.as_bytes();
     Workload::new(
         "n6",
-        "pieces pushed onto a queue, read by peek, eat, next and pop_except_from; HTML in ASCII",
+        "HTML read from a queue of texts",
+        "pieces of 4096 bytes pushed, read by `peek`, `eat`, `next` and `pop_except_from`",
         Unit::Bytes(input.len()),
     )
-    .with("tendril 0.5.1, a VecDeque", move || read_in_pieces(input))
+    .with("a deque of tendril 0.5.1's texts", move || {
+        read_in_pieces(input)
+    })
     .with_ports(ports, |port| move || port.input(input))
 }
 

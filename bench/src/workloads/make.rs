@@ -2,8 +2,9 @@
 
 use super::{ring, total};
 use crate::inputs::{Inputs, TAGS};
-use crate::measure::{Unit, Workload};
+use crate::measure::Workload;
 use crate::port::{Port, Words};
+use crate::results::{Role, Unit};
 use bytes::Bytes;
 use std::rc::Rc;
 use tendril::fmt::ASCII;
@@ -12,10 +13,10 @@ use tendril::{StrTendril, Tendril};
 /// Makes texts of 1 to 7 bytes, which stand inline in a tendril, and clones them.
 pub fn short(ports: &[Port]) -> Workload<'_> {
     const CALLS: usize = 2_000_000;
-    let title = "make, clone and drop both, of tag names of 1 to 7 bytes";
+    let name = "create, clone and drop 1 to 7 bytes";
     let tag = |at: usize| TAGS[at % TAGS.len()];
     let ascii = |word: &str| Tendril::<ASCII>::try_from_byte_slice(word.as_bytes());
-    Workload::new("g1", title, Unit::Calls(CALLS))
+    Workload::new("g1", name, "names of tags", Unit::Calls(CALLS))
         .with("tendril 0.5.1, UTF8", move || {
             make_pairs(CALLS, |at| StrTendril::from_slice(tag(at)), |it| it.len())
         })
@@ -26,9 +27,11 @@ pub fn short(ports: &[Port]) -> Workload<'_> {
         .with("String", move || {
             make_pairs(CALLS, |at| String::from(tag(at)), String::len)
         })
+        .listed_as(Role::Owned)
         .with("Rc<str>", move || {
             make_pairs(CALLS, |at| Rc::<str>::from(tag(at)), |it| it.len())
         })
+        .listed_as(Role::Counted)
         .with("bytes::Bytes (copied)", move || {
             make_pairs(
                 CALLS,
@@ -36,6 +39,7 @@ pub fn short(ports: &[Port]) -> Workload<'_> {
                 Bytes::len,
             )
         })
+        .listed_as(Role::Bytes)
         .with_ports(ports, |port| {
             let words = Words::new(&TAGS);
             move || port.make(&words, CALLS)
@@ -45,18 +49,20 @@ pub fn short(ports: &[Port]) -> Workload<'_> {
 /// Makes texts of 12 to 40 bytes, which don't, and clones them.
 pub fn long<'a>(inputs: &'a Inputs, ports: &'a [Port]) -> Workload<'a> {
     const CALLS: usize = 1_000_000;
-    let title = "make, clone and drop both, of words of 12 to 40 bytes";
+    let name = "create, clone and drop 12 to 40 bytes";
     let word = |at: usize| inputs.words[at % inputs.words.len()].as_str();
-    Workload::new("g2", title, Unit::Calls(CALLS))
+    Workload::new("g2", name, "words", Unit::Calls(CALLS))
         .with("tendril 0.5.1, UTF8", move || {
             make_pairs(CALLS, |at| StrTendril::from_slice(word(at)), |it| it.len())
         })
         .with("String", move || {
             make_pairs(CALLS, |at| String::from(word(at)), String::len)
         })
+        .listed_as(Role::Owned)
         .with("Rc<str>", move || {
             make_pairs(CALLS, |at| Rc::<str>::from(word(at)), |it| it.len())
         })
+        .listed_as(Role::Counted)
         .with_ports(ports, |port| {
             let words = Words::new(&inputs.words);
             move || port.make(&words, CALLS)
@@ -79,18 +85,21 @@ fn make_pairs<T: Clone + Default>(
 /// Makes many texts and keeps them, which also shows the memory that they take.
 pub fn kept<'a>(inputs: &'a Inputs, ports: &'a [Port]) -> Workload<'a> {
     const KEPT: usize = 500_000;
-    let title = "make and keep 500,000 texts of 12 to 40 bytes, and drop them";
+    let name = "create and keep 500,000 texts";
     let word = |at: usize| inputs.words[at % inputs.words.len()].as_str();
-    Workload::new("m", title, Unit::Calls(KEPT))
+    let details = "of 12 to 40 bytes, and drop them";
+    Workload::new("m", name, details, Unit::Calls(KEPT))
         .with("tendril 0.5.1, UTF8", move || {
             keep(KEPT, |at| StrTendril::from_slice(word(at)), |it| it.len())
         })
         .with("String", move || {
             keep(KEPT, |at| String::from(word(at)), String::len)
         })
+        .listed_as(Role::Owned)
         .with("Rc<str>", move || {
             keep(KEPT, |at| Rc::<str>::from(word(at)), |it| it.len())
         })
+        .listed_as(Role::Counted)
         .with_ports(ports, |port| {
             let words = Words::new(&inputs.words);
             move || port.keep(&words, KEPT)

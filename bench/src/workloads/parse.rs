@@ -4,8 +4,9 @@
 
 use super::PIECE;
 use crate::inputs::Inputs;
-use crate::measure::{Unit, Workload};
+use crate::measure::Workload;
 use crate::port::Port;
+use crate::results::{Role, Unit};
 use std::borrow::Cow;
 use tendril::fmt::UTF8;
 use tendril::stream::Utf8LossyDecoder;
@@ -13,8 +14,8 @@ use tendril::{ByteTendril, NonAtomic, StrTendril, TendrilSink};
 
 /// Cuts HTML in ASCII by a search over the bytes.
 pub fn by_search<'a>(inputs: &'a Inputs, ports: &'a [Port]) -> Workload<'a> {
-    let title = "decode, cut at '<', '&', NUL and CR by a search, push the runs; HTML in ASCII";
-    searches("n1", title, inputs.large.as_bytes(), ports)
+    let name = "tokenizer, cut by a search, ASCII";
+    searches("n1", name, inputs.large.as_bytes(), ports)
 }
 
 /// Cuts HTML in ASCII into runs of one class.
@@ -22,11 +23,13 @@ pub fn by_class<'a>(inputs: &'a Inputs, ports: &'a [Port]) -> Workload<'a> {
     let input = inputs.large.as_bytes();
     Workload::new(
         "n2",
-        "the same by pop_front_char_run; HTML in ASCII",
+        "tokenizer, cut by runs, ASCII",
+        "as n1, cut by `pop_front_char_run`",
         Unit::Bytes(input.len()),
     )
     .with("tendril 0.5.1", move || parse_by_tendril(input, Cut::Class))
     .with("&str, simdutf8, a String", move || parse_borrowed(input))
+    .listed_as(Role::Owned)
     .with_ports(ports, |port| move || port.parse_by_class(input))
 }
 
@@ -34,7 +37,7 @@ pub fn by_class<'a>(inputs: &'a Inputs, ports: &'a [Port]) -> Workload<'a> {
 pub fn multilingual<'a>(inputs: &'a Inputs, ports: &'a [Port]) -> Workload<'a> {
     searches(
         "n3",
-        "as n1; multilingual",
+        "tokenizer, cut by a search, multilingual",
         inputs.large_mixed.as_bytes(),
         ports,
     )
@@ -45,25 +48,28 @@ pub fn parts_alone<'a>(inputs: &'a Inputs, ports: &'a [Port]) -> Workload<'a> {
     let input = inputs.large.as_bytes();
     Workload::new(
         "n4",
-        "pieces validated and cut at '<', '&', NUL and CR; HTML in ASCII",
+        "the cuts of n1 alone",
+        "of pieces that are validated; nothing is pushed",
         Unit::Bytes(input.len()),
     )
-    .with("tendril 0.5.1, pop_front_char_run", move || {
+    .with("pop_front_char_run of tendril 0.5.1", move || {
         parts(input, parts_by_class)
     })
-    .with("tendril 0.5.1, 16 bytes at a time", move || {
+    .with("a search by SSE2 by hand", move || {
         parts(input, parts_by_blocks)
     })
+    .listed_as(Role::Divisor)
     .with_ports(ports, |port| move || port.parts(input))
 }
 
 fn searches<'a>(
     id: &'static str,
-    title: &'static str,
+    name: &'static str,
     input: &'a [u8],
     ports: &'a [Port],
 ) -> Workload<'a> {
-    Workload::new(id, title, Unit::Bytes(input.len()))
+    let details = "decode in pieces, cut at `<`, `&`, NUL and CR, push the runs onto a text";
+    Workload::new(id, name, details, Unit::Bytes(input.len()))
         .with("tendril 0.5.1", move || {
             parse_by_tendril(input, Cut::Search)
         })
@@ -71,6 +77,7 @@ fn searches<'a>(
             parse_by_tendril(input, Cut::Trusting)
         })
         .with("&str, simdutf8, a String", move || parse_borrowed(input))
+        .listed_as(Role::Owned)
         .with_ports(ports, |port| move || port.parse_by_search(input))
 }
 

@@ -1,8 +1,9 @@
 //! A text as a queue (k).
 
 use crate::inputs::Inputs;
-use crate::measure::{Unit, Workload};
+use crate::measure::Workload;
 use crate::port::Port;
+use crate::results::{Role, Unit};
 use bytes::BytesMut;
 use std::collections::VecDeque;
 use tendril::ByteTendril;
@@ -13,8 +14,8 @@ const QUEUED: usize = 128;
 /// Pops 8 bytes and pushes 8 in each turn, on a text of 128 bytes.
 pub fn queue<'a>(inputs: &'a Inputs, ports: &'a [Port]) -> Workload<'a> {
     let source = inputs.ten_kilobytes.as_bytes();
-    let title = "pop_front of 8 bytes and push_slice of 8, of a text of 128 bytes";
-    Workload::new("k", title, Unit::Calls(TURNS))
+    let name = "pop 8 bytes and push 8, as a queue";
+    Workload::new("k", name, "a text of 128 bytes", Unit::Calls(TURNS))
         .with("tendril 0.5.1, Bytes", move || {
             let turn = |text: &mut ByteTendril, piece: &[u8]| {
                 text.pop_front(8);
@@ -29,6 +30,7 @@ pub fn queue<'a>(inputs: &'a Inputs, ports: &'a [Port]) -> Workload<'a> {
             };
             turns(source, |it| it.to_vec(), |it| it[0], turn)
         })
+        .listed_as(Role::Owned)
         .with("VecDeque<u8>", move || {
             let turn = |text: &mut VecDeque<u8>, piece: &[u8]| {
                 text.drain(..8);
@@ -43,6 +45,7 @@ pub fn queue<'a>(inputs: &'a Inputs, ports: &'a [Port]) -> Workload<'a> {
             };
             turns(source, |it| BytesMut::from(it), |it| it[0], turn)
         })
+        .listed_as(Role::Bytes)
         .with_ports(ports, |port| move || port.queue(source, TURNS))
 }
 

@@ -2,17 +2,19 @@
 
 use super::last_and_length;
 use crate::inputs::{FEW_PIECES, Inputs, MANY_PIECES, PART, rope_length};
-use crate::measure::{Unit, Workload};
+use crate::measure::Workload;
 use crate::port::{Port, Words};
+use crate::results::Unit;
 use std::collections::VecDeque;
 use tendril::StrTendril;
 
-const BY_HAND: &str = "tendril 0.5.1 in deques";
+const BY_HAND: &str = "a deque of tendril 0.5.1's texts";
 
 /// Makes texts of 12 to 40 bytes and pushes them onto a rope.
 pub fn pushes<'a>(inputs: &'a Inputs, ports: &'a [Port]) -> Workload<'a> {
-    let title = "1,000,000 texts of 12 to 40 bytes made and pushed onto a rope";
-    Workload::new("r1", title, Unit::Calls(MANY_PIECES))
+    let name = "push 1,000,000 texts onto a rope";
+    let details = "of 12 to 40 bytes, which are created for it";
+    Workload::new("r1", name, details, Unit::Calls(MANY_PIECES))
         .with(BY_HAND, move || Rope::of(inputs, MANY_PIECES).sum())
         .with_ports(ports, |port| {
             let words = Words::new(&inputs.words);
@@ -22,9 +24,10 @@ pub fn pushes<'a>(inputs: &'a Inputs, ports: &'a [Port]) -> Workload<'a> {
 
 /// Makes such a rope and takes its characters off the front.
 pub fn characters<'a>(inputs: &'a Inputs, ports: &'a [Port]) -> Workload<'a> {
-    let title = "a rope of 1,000,000 texts made, and pop_front_char to its end (per character)";
+    let name = "pop all characters of a rope";
+    let details = "of 1,000,000 texts, which are created first; for each character";
     let characters = rope_length(&inputs.words, MANY_PIECES);
-    Workload::new("r2", title, Unit::Calls(characters))
+    Workload::new("r2", name, details, Unit::Calls(characters))
         .with(BY_HAND, move || pop_all(Rope::of(inputs, MANY_PIECES)))
         .with_ports(ports, |port| {
             let words = Words::new(&inputs.words);
@@ -42,25 +45,26 @@ fn pop_all(mut rope: Rope) -> u64 {
 
 /// Takes parts of a rope of few pieces.
 pub fn parts_of_few<'a>(inputs: &'a Inputs, ports: &'a [Port]) -> Workload<'a> {
-    let title = "a rope of 8,192 texts made, and sub_rope of 20 bytes + drop (per sub_rope)";
-    parts("r3", title, inputs, FEW_PIECES, &inputs.few_places, ports)
+    let name = "slice a rope of 8,192 texts";
+    parts("r3", name, inputs, FEW_PIECES, &inputs.few_places, ports)
 }
 
 /// Takes parts of a rope of many pieces.
 pub fn parts_of_many<'a>(inputs: &'a Inputs, ports: &'a [Port]) -> Workload<'a> {
-    let title = "a rope of 1,000,000 texts made, and sub_rope of 20 bytes + drop (per sub_rope)";
-    parts("r4", title, inputs, MANY_PIECES, &inputs.many_places, ports)
+    let name = "slice a rope of 1,000,000 texts";
+    parts("r4", name, inputs, MANY_PIECES, &inputs.many_places, ports)
 }
 
 fn parts<'a>(
     id: &'static str,
-    title: &'static str,
+    name: &'static str,
     inputs: &'a Inputs,
     pieces: usize,
     places: &'a [u32],
     ports: &'a [Port],
 ) -> Workload<'a> {
-    Workload::new(id, title, Unit::Calls(places.len()))
+    let details = "which are created first; `sub_rope` of 20 bytes at 1,000,000 random places";
+    Workload::new(id, name, details, Unit::Calls(places.len()))
         .with(BY_HAND, move || {
             sum_of_parts(&Rope::of(inputs, pieces), places)
         })

@@ -2,8 +2,9 @@
 
 use super::{RcView, last_and_length, total};
 use crate::inputs::Inputs;
-use crate::measure::{Unit, Workload};
+use crate::measure::Workload;
 use crate::port::Port;
+use crate::results::{Role, Unit};
 use bytes::{Bytes, BytesMut};
 use std::rc::Rc;
 use tendril::fmt::UTF8;
@@ -11,19 +12,14 @@ use tendril::{Atomic, Atomicity, NonAtomic, Tendril};
 
 /// Takes runs of white space and of other characters off HTML in ASCII.
 pub fn ascii<'a>(inputs: &'a Inputs, ports: &'a [Port]) -> Workload<'a> {
-    runs(
-        "b1",
-        "pop_front_char_run by is_whitespace, runs kept, HTML in ASCII",
-        &inputs.html,
-        ports,
-    )
+    runs("b1", "runs of white space, ASCII", &inputs.html, ports)
 }
 
 /// Takes them off multilingual text.
 pub fn multilingual<'a>(inputs: &'a Inputs, ports: &'a [Port]) -> Workload<'a> {
     runs(
         "b2",
-        "pop_front_char_run by is_whitespace, runs kept, multilingual",
+        "runs of white space, multilingual",
         &inputs.mixed,
         ports,
     )
@@ -31,11 +27,12 @@ pub fn multilingual<'a>(inputs: &'a Inputs, ports: &'a [Port]) -> Workload<'a> {
 
 fn runs<'a>(
     id: &'static str,
-    title: &'static str,
+    name: &'static str,
     text: &'a str,
     ports: &'a [Port],
 ) -> Workload<'a> {
-    Workload::new(id, title, Unit::Bytes(text.len()))
+    let details = "`pop_front_char_run` to the end, the runs kept";
+    Workload::new(id, name, details, Unit::Bytes(text.len()))
         .with("tendril 0.5.1", move || runs_by_tendril::<NonAtomic>(text))
         .with("tendril 0.5.1, Atomic", move || {
             runs_by_tendril::<Atomic>(text)
@@ -50,6 +47,7 @@ fn runs<'a>(
                 .collect();
             sum_of_runs(&runs, String::len)
         })
+        .listed_as(Role::Owned)
         .with("Rc<str> and a range", move || {
             let whole: Rc<str> = Rc::from(text);
             let mut start = 0;
@@ -59,11 +57,13 @@ fn runs<'a>(
             });
             sum_of_runs(&runs.collect::<Vec<_>>(), RcView::len)
         })
+        .listed_as(Role::Counted)
         .with("bytes::Bytes slices", move || {
             let mut rest = Bytes::copy_from_slice(text.as_bytes());
             let runs = cut(text, char::is_whitespace).map(|it| rest.split_to(it.0.len()));
             sum_of_runs(&runs.collect::<Vec<_>>(), Bytes::len)
         })
+        .listed_as(Role::Bytes)
         .with_ports(ports, |port| move || port.runs(text))
 }
 
@@ -102,9 +102,9 @@ fn sum_of_runs<T>(runs: &[T], length: impl Fn(&T) -> usize) -> u64 {
 /// Takes runs of one class as html5ever's tokenizer does: each is kept and pushed onto a text.
 pub fn tokens<'a>(inputs: &'a Inputs, ports: &'a [Port]) -> Workload<'a> {
     let text = inputs.megabyte.as_str();
-    let title =
-        "pop_front_char_run by 4 classes, each run kept and pushed onto a text, 1 MB of HTML";
-    Workload::new("j", title, Unit::Bytes(text.len()))
+    let name = "runs of 4 classes, kept and pushed";
+    let details = "`pop_front_char_run` to the end of 1 MB, each run pushed onto a text";
+    Workload::new("j", name, details, Unit::Bytes(text.len()))
         .with("tendril 0.5.1", move || {
             tokens_by_tendril::<NonAtomic>(text)
         })
@@ -117,6 +117,7 @@ pub fn tokens<'a>(inputs: &'a Inputs, ports: &'a [Port]) -> Workload<'a> {
         .with("String for each run, and a String", move || {
             tokens_by_std(text, String::from, String::len)
         })
+        .listed_as(Role::Owned)
         .with("Rc<str> and a range, and a String", move || {
             let whole: Rc<str> = Rc::from(text);
             let mut start = 0;
@@ -126,9 +127,11 @@ pub fn tokens<'a>(inputs: &'a Inputs, ports: &'a [Port]) -> Workload<'a> {
             };
             tokens_by_std(text, keep, RcView::len)
         })
+        .listed_as(Role::Counted)
         .with("bytes::Bytes slices and a BytesMut", move || {
             tokens_by_bytes(text)
         })
+        .listed_as(Role::Bytes)
         .with_ports(ports, |port| move || port.tokens(text))
 }
 

@@ -3,8 +3,9 @@
 
 use super::total;
 use crate::inputs::Inputs;
-use crate::measure::{Unit, Workload};
+use crate::measure::Workload;
 use crate::port::Port;
+use crate::results::{Role, Unit};
 use std::hint::black_box;
 use std::time::Instant;
 use tendril::fmt::UTF8;
@@ -16,23 +17,24 @@ const TIMES: usize = 20;
 
 /// Sends texts of 8 bytes and takes them back, in one thread.
 pub fn short_conversions(ports: &[Port]) -> Workload<'_> {
-    let title = "1000 texts of 8 bytes sent and taken back, conversions alone";
-    conversions("s1", title, EIGHT_BYTES, ports)
+    let name = "send and take back 8 bytes";
+    conversions("s1", name, EIGHT_BYTES, ports)
 }
 
 /// Sends texts of 100 bytes and takes them back, in one thread.
 pub fn long_conversions<'a>(inputs: &'a Inputs, ports: &'a [Port]) -> Workload<'a> {
-    let title = "1000 texts of 100 bytes sent and taken back, conversions alone";
-    conversions("s2", title, &inputs.ten_kilobytes[..100], ports)
+    let name = "send and take back 100 bytes";
+    conversions("s2", name, &inputs.ten_kilobytes[..100], ports)
 }
 
 fn conversions<'a>(
     id: &'static str,
-    title: &'static str,
+    name: &'static str,
     text: &'a str,
     ports: &'a [Port],
 ) -> Workload<'a> {
-    Workload::new(id, title, Unit::Calls(TEXTS * TIMES))
+    let details = "1000 texts, in one thread";
+    Workload::new(id, name, details, Unit::Calls(TEXTS * TIMES * 2))
         .with("tendril 0.5.1", move || {
             let mut texts: Vec<_> = (0..TEXTS).map(|_| StrTendril::from_slice(text)).collect();
             for _ in 0..TIMES * 2 {
@@ -47,32 +49,29 @@ fn conversions<'a>(
             }
             total(&texts, |it| it.len())
         })
+        .listed_as(Role::Owned)
         .with_ports(ports, |port| move || port.send(text, TEXTS, TIMES))
 }
 
 /// Sends texts of 8 bytes to a thread that sends them back.
 pub fn short_texts(ports: &[Port]) -> Workload<'_> {
-    sendings(
-        "s3",
-        "1000 texts of 8 bytes to a thread and back (per text), wall",
-        EIGHT_BYTES,
-        ports,
-    )
+    sendings("s3", "8 bytes to a thread and back", EIGHT_BYTES, ports)
 }
 
 /// Sends texts of 10 KB to a thread that sends them back.
 pub fn long_texts<'a>(inputs: &'a Inputs, ports: &'a [Port]) -> Workload<'a> {
-    let title = "1000 texts of 10 KB to a thread and back (per text), wall";
-    sendings("s4", title, &inputs.ten_kilobytes, ports)
+    let name = "10 KB to a thread and back";
+    sendings("s4", name, &inputs.ten_kilobytes, ports)
 }
 
 fn sendings<'a>(
     id: &'static str,
-    title: &'static str,
+    name: &'static str,
     text: &'a str,
     ports: &'a [Port],
 ) -> Workload<'a> {
-    Workload::on_the_wall(id, title, Unit::Calls(TEXTS))
+    let details = "1000 texts, for each text; elapsed time";
+    Workload::on_the_wall(id, name, details, Unit::Calls(TEXTS))
         .with("tendril 0.5.1", move || there_and_back(text))
         .with_ports(ports, |port| {
             move || port.in_threads("send", TEXTS, text.len())

@@ -2,8 +2,9 @@
 
 use super::{RcView, ring};
 use crate::inputs::Inputs;
-use crate::measure::{Unit, Workload};
+use crate::measure::Workload;
 use crate::port::Port;
+use crate::results::{Role, Unit};
 use bytes::Bytes;
 use std::rc::Rc;
 use std::sync::Arc;
@@ -21,7 +22,8 @@ pub fn clones<'a>(inputs: &'a Inputs, ports: &'a [Port]) -> Workload<'a> {
     let arc: Arc<str> = Arc::from(text);
     let bytes = Bytes::copy_from_slice(text.as_bytes());
     let string = String::from(text);
-    Workload::new("d1", "clone + drop of a 10 KB text", Unit::Calls(CALLS))
+    let details = "a text of 10 KB";
+    Workload::new("d1", "clone and drop", details, Unit::Calls(CALLS))
         .with("tendril 0.5.1", move || {
             ring(CALLS, |_| shared.clone(), |it| it.len())
         })
@@ -31,15 +33,18 @@ pub fn clones<'a>(inputs: &'a Inputs, ports: &'a [Port]) -> Workload<'a> {
         .with("Rc<str>", move || {
             ring(CALLS, |_| rc.clone(), |it| it.len())
         })
+        .listed_as(Role::Counted)
         .with("Arc<str>", move || {
             ring(CALLS, |_| arc.clone(), |it| it.len())
         })
         .with("bytes::Bytes", move || {
             ring(CALLS, |_| bytes.clone(), Bytes::len)
         })
+        .listed_as(Role::Bytes)
         .part("String", 20.0, move || {
             ring(CALLS / 20, |_| string.clone(), String::len)
         })
+        .listed_as(Role::Owned)
         .with_ports(ports, |port| move || port.clone_and_drop(text, CALLS))
 }
 
@@ -51,7 +56,8 @@ pub fn atomic_clones<'a>(inputs: &'a Inputs, ports: &'a [Port]) -> Workload<'a> 
     let bytes = Bytes::copy_from_slice(text.as_bytes());
     Workload::new(
         "d1a",
-        "clone + drop of a 10 KB text over Atomic",
+        "clone and drop, Atomic",
+        "a text of 10 KB",
         Unit::Calls(CALLS),
     )
     .with("tendril 0.5.1, Atomic", move || {
@@ -60,9 +66,11 @@ pub fn atomic_clones<'a>(inputs: &'a Inputs, ports: &'a [Port]) -> Workload<'a> 
     .with("Arc<str>", move || {
         ring(CALLS, |_| arc.clone(), |it| it.len())
     })
+    .listed_as(Role::Counted)
     .with("bytes::Bytes", move || {
         ring(CALLS, |_| bytes.clone(), Bytes::len)
     })
+    .listed_as(Role::Bytes)
     .with_ports(ports, |port| {
         move || port.clone_and_drop_atomic(text, CALLS)
     })
@@ -76,8 +84,8 @@ pub fn slices<'a>(inputs: &'a Inputs, ports: &'a [Port]) -> Workload<'a> {
     let atomic: Tendril<UTF8, Atomic> = Tendril::from_slice(text);
     let rc: Rc<str> = Rc::from(text);
     let bytes = Bytes::copy_from_slice(text.as_bytes());
-    let title = "subtendril of 16 to 79 bytes + drop, of a 10 KB text";
-    Workload::new("d2", title, Unit::Calls(CALLS))
+    let details = "16 to 79 bytes of a text of 10 KB";
+    Workload::new("d2", "slice and drop", details, Unit::Calls(CALLS))
         .with("tendril 0.5.1, UTF8", move || {
             slice_and_drop(
                 text,
@@ -102,12 +110,15 @@ pub fn slices<'a>(inputs: &'a Inputs, ports: &'a [Port]) -> Workload<'a> {
         .with("Rc<str> and a range", move || {
             slice_and_drop(text, |at, n| RcView::cut(&rc, at, at + n), RcView::len)
         })
+        .listed_as(Role::Counted)
         .with("bytes::Bytes", move || {
             slice_and_drop(text, |at, n| bytes.slice(at..at + n), Bytes::len)
         })
+        .listed_as(Role::Bytes)
         .with("String", move || {
             slice_and_drop(text, |at, n| String::from(&text[at..at + n]), String::len)
         })
+        .listed_as(Role::Owned)
         .with_ports(ports, |port| move || port.slice_and_drop(text, CALLS))
 }
 

@@ -4,8 +4,9 @@
 use super::PIECE;
 use super::parse::{add, valid_part};
 use crate::inputs::Inputs;
-use crate::measure::{Unit, Workload};
+use crate::measure::Workload;
 use crate::port::Port;
+use crate::results::{Role, Unit};
 use std::borrow::Cow;
 use tendril::fmt::UTF8;
 use tendril::stream::Utf8LossyDecoder;
@@ -16,11 +17,13 @@ pub fn of_page<'a>(inputs: &'a Inputs, ports: &'a [Port]) -> Workload<'a> {
     let input = inputs.large.as_bytes();
     Workload::new(
         "n5",
-        "decode, part into tokens of HTML, keep them; HTML in ASCII",
+        "HTML into tokens that are kept",
+        "decoded in pieces; the port's tokenizer is that of the crate use_tokens",
         Unit::Bytes(input.len()),
     )
     .with("tendril 0.5.1", move || tokenize_by_tendril(input))
     .with("&str, simdutf8, Strings", move || tokenize_borrowed(input))
+    .listed_as(Role::Owned)
     .with_ports(ports, |port| move || port.tokenize(input))
 }
 

@@ -1,8 +1,9 @@
 //! UTF-16 units of a text, and texts of units (u).
 
 use crate::inputs::Inputs;
-use crate::measure::{Unit, Workload};
+use crate::measure::Workload;
 use crate::port::Port;
+use crate::results::Unit;
 use crate::workloads::last_and_length;
 use std::hint::black_box;
 
@@ -11,19 +12,19 @@ const TIMES: usize = 8;
 
 /// Takes the units of HTML in ASCII.
 pub fn taken_of_ascii<'a>(inputs: &'a Inputs, ports: &'a [Port]) -> Workload<'a> {
-    taken("u1", "units of a text, HTML in ASCII", &inputs.html, ports)
+    taken("u1", "units of ASCII", &inputs.html, ports)
 }
 
 /// Takes the units of multilingual text.
 pub fn taken_of_multilingual<'a>(inputs: &'a Inputs, ports: &'a [Port]) -> Workload<'a> {
-    taken("u2", "units of a text, multilingual", &inputs.mixed, ports)
+    taken("u2", "units of multilingual text", &inputs.mixed, ports)
 }
 
 /// Takes the units of Chinese and Japanese.
 pub fn taken_of_ideographs<'a>(inputs: &'a Inputs, ports: &'a [Port]) -> Workload<'a> {
     taken(
         "u3",
-        "units of a text, Chinese and Japanese",
+        "units of Chinese and Japanese",
         &inputs.ideographs,
         ports,
     )
@@ -31,29 +32,24 @@ pub fn taken_of_ideographs<'a>(inputs: &'a Inputs, ports: &'a [Port]) -> Workloa
 
 /// Takes the units of characters that have two each.
 pub fn taken_of_pairs<'a>(inputs: &'a Inputs, ports: &'a [Port]) -> Workload<'a> {
-    taken(
-        "u4",
-        "units of a text, surrogates alone",
-        &inputs.pairs,
-        ports,
-    )
+    taken("u4", "units of surrogate pairs", &inputs.pairs, ports)
 }
 
 /// Makes a text of the units of HTML in ASCII.
 pub fn made_of_ascii<'a>(inputs: &'a Inputs, ports: &'a [Port]) -> Workload<'a> {
-    made("u5", "a text of units, HTML in ASCII", &inputs.html, ports)
+    made("u5", "text of units, ASCII", &inputs.html, ports)
 }
 
 /// Makes a text of the units of multilingual text.
 pub fn made_of_multilingual<'a>(inputs: &'a Inputs, ports: &'a [Port]) -> Workload<'a> {
-    made("u6", "a text of units, multilingual", &inputs.mixed, ports)
+    made("u6", "text of units, multilingual", &inputs.mixed, ports)
 }
 
 /// Makes a text of the units of Chinese and Japanese.
 pub fn made_of_ideographs<'a>(inputs: &'a Inputs, ports: &'a [Port]) -> Workload<'a> {
     made(
         "u7",
-        "a text of units, Chinese and Japanese",
+        "text of units, Chinese and Japanese",
         &inputs.ideographs,
         ports,
     )
@@ -61,22 +57,18 @@ pub fn made_of_ideographs<'a>(inputs: &'a Inputs, ports: &'a [Port]) -> Workload
 
 /// Makes a text of the units of characters that have two each.
 pub fn made_of_pairs<'a>(inputs: &'a Inputs, ports: &'a [Port]) -> Workload<'a> {
-    made(
-        "u8",
-        "a text of units, surrogates alone",
-        &inputs.pairs,
-        ports,
-    )
+    made("u8", "text of units, surrogate pairs", &inputs.pairs, ports)
 }
 
 fn taken<'a>(
     id: &'static str,
-    title: &'static str,
+    name: &'static str,
     text: &'a str,
     ports: &'a [Port],
 ) -> Workload<'a> {
-    Workload::new(id, title, Unit::Bytes(TIMES * text.len()))
-        .with("str::encode_utf16, collected", move || {
+    let details = "the UTF-16 units of a text, collected";
+    Workload::new(id, name, details, Unit::Bytes(TIMES * text.len()))
+        .with("std's encode_utf16", move || {
             repeated(|| {
                 let units: Vec<u16> = black_box(text).encode_utf16().collect();
                 black_box(&units);
@@ -90,14 +82,15 @@ fn taken<'a>(
 
 fn made<'a>(
     id: &'static str,
-    title: &'static str,
+    name: &'static str,
     text: &'a str,
     ports: &'a [Port],
 ) -> Workload<'a> {
     let units: std::rc::Rc<[u16]> = text.encode_utf16().collect();
     let given = units.clone();
-    Workload::new(id, title, Unit::Bytes(TIMES * text.len()))
-        .with("String::from_utf16_lossy", move || {
+    let details = "a text in WTF-8 of UTF-16 units";
+    Workload::new(id, name, details, Unit::Bytes(TIMES * text.len()))
+        .with("std's from_utf16_lossy", move || {
             repeated(|| {
                 let made = String::from_utf16_lossy(black_box(&given));
                 last_and_length(black_box(&made).as_bytes())
