@@ -11,8 +11,10 @@ pub struct Bar {
 const WIDTH: usize = 960;
 /// Where the labels begin, where the ratios end, and where the scale begins and ends.
 const LABELS: usize = 48;
-const RATIOS: usize = 480;
-const SCALE: [usize; 2] = [500, 940];
+const RATIOS: usize = 490;
+const SCALE: [usize; 2] = [510, 940];
+const HEADING: &str =
+    "Time of the port, divided by that of tendril 0.5.1: below 1.00 the port is faster";
 /// How high a line is, and what is above the first and below the last.
 const LINE: usize = 17;
 const MARGIN: usize = 30;
@@ -41,9 +43,10 @@ pub fn draw(bars: &[Bar]) -> String {
     format!(
         "<svg xmlns=\"http://www.w3.org/2000/svg\" viewBox=\"0 0 {WIDTH} {height}\" width=\"{WIDTH}\" \
          height=\"{height}\" role=\"img\">\n\
-         <title>The port's time, divided by the other's: below 1.00 the port is faster</title>\n\
+         <title>{HEADING}</title>\n\
          <style>\n{STYLE}</style>\n\
          <rect class=\"ground\" width=\"{WIDTH}\" height=\"{height}\" rx=\"6\"/>\n\
+         <text x=\"12\" y=\"20\">{HEADING}</text>\n\
          {}{bars}</svg>\n",
         draw_grid(&scale, height)
     )
@@ -139,16 +142,16 @@ mod tests {
     fn a_place_is_by_the_logarithm() {
         let scale = Scale::of([0.5, 2.0].into_iter());
         let places = [0.5, 1.0, 2.0].map(|it| scale.place(it));
-        assert_eq!(places, [500.0, 720.0, 940.0]);
+        assert_eq!(places, [510.0, 725.0, 940.0]);
     }
 
     #[test]
     fn bars_go_from_one_to_their_ratio() {
         let scale = Scale::of([0.5, 2.0].into_iter());
         let faster = draw_bar(&bar("a1", 0.5), 0, &scale);
-        assert!(faster.contains("class=\"faster\" x=\"500.0\" y=\"3\" width=\"220.0\""));
+        assert!(faster.contains("class=\"faster\" x=\"510.0\" y=\"3\" width=\"215.0\""));
         let slower = draw_bar(&bar("f", 2.0), 0, &scale);
-        assert!(slower.contains("class=\"slower\" x=\"720.0\" y=\"3\" width=\"220.0\""));
+        assert!(slower.contains("class=\"slower\" x=\"725.0\" y=\"3\" width=\"215.0\""));
     }
 
     #[test]

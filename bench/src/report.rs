@@ -320,7 +320,7 @@ mod tests {
         let wanted = "\
 | Row | Workload | Divided by | Ratio | Port | Divisor | `Rc<str>` |
 |---|---|---|---:|---:|---:|---:|
-| d1 | clone and drop: a text of 10 KB | tendril 0.5.1 | 0.50 (0.50 to 0.50) | 2000.00 ns | 4000.00 | 3000.00 |
+| d1 | clone and drop: a text of 10 KB | tendril 0.5.1 | 0.50 (0.50 to 0.50) | 2000 ns | 4000 | 3000 |
 | n4 | clone and drop | runs of tendril 0.5.1 | 0.50 (0.50 to 0.50) | 500 MB/s | 250 |  |
 | n4 | clone and drop | a search by hand | 2.00 (2.00 to 2.00) | 500 MB/s | 1000 |  |
 ";

@@ -23,9 +23,14 @@ impl Unit {
     pub fn show(self, seconds: f64) -> String {
         match self {
             Unit::Bytes(count) => format!("{:.0}", count as f64 / seconds / 1e6),
-            Unit::Calls(count) => format!("{:.2}", seconds * 1e9 / count as f64),
+            Unit::Calls(count) => show_nanoseconds(seconds * 1e9 / count as f64),
         }
     }
+}
+
+fn show_nanoseconds(time: f64) -> String {
+    let places = if time < 100.0 { 2 } else { 0 };
+    format!("{time:.places$}")
 }
 
 /// What a contender is in the table of the results.
@@ -162,6 +167,7 @@ mod tests {
     fn figures_are_for_each_second_or_each_call() {
         assert_eq!(Unit::Bytes(4_000_000).show(0.002), "2000");
         assert_eq!(Unit::Calls(1000).show(0.000_002_5), "2.50");
+        assert_eq!(Unit::Calls(1000).show(0.001_25), "1250");
     }
 
     #[test]
@@ -196,8 +202,8 @@ mod tests {
 
 | contender | best ns | median ns | time / the first's (median, range) |
 |---|---:|---:|---:|
-| String | 1000.00 | 1000.00 | 1.00 (1.00 to 1.00) |
-| String | 2000.00 | 2000.00 | 2.00 (2.00 to 2.00) |
+| String | 1000 | 1000 | 1.00 (1.00 to 1.00) |
+| String | 2000 | 2000 | 2.00 (2.00 to 2.00) |
 ";
         assert_eq!(results.to_string(), wanted);
     }

@@ -19,9 +19,7 @@ pub fn of_page<'a>(inputs: &'a Inputs, ports: &'a [Port]) -> Workload<'a> {
         "pieces of 4096 bytes pushed, read by `peek`, `eat`, `next` and `pop_except_from`",
         Unit::Bytes(input.len()),
     )
-    .with("a deque of tendril 0.5.1's texts", move || {
-        read_in_pieces(input)
-    })
+    .with("a deque of tendril 0.5.1", move || read_in_pieces(input))
     .with_ports(ports, |port| move || port.input(input))
 }
 

@@ -8,12 +8,12 @@ use crate::results::Unit;
 use std::collections::VecDeque;
 use tendril::StrTendril;
 
-const BY_HAND: &str = "a deque of tendril 0.5.1's texts";
+const BY_HAND: &str = "a deque of tendril 0.5.1";
 
 /// Makes texts of 12 to 40 bytes and pushes them onto a rope.
 pub fn pushes<'a>(inputs: &'a Inputs, ports: &'a [Port]) -> Workload<'a> {
     let name = "push 1,000,000 texts onto a rope";
-    let details = "of 12 to 40 bytes, which are created for it";
+    let details = "of 12 to 40 bytes, created for it";
     Workload::new("r1", name, details, Unit::Calls(MANY_PIECES))
         .with(BY_HAND, move || Rope::of(inputs, MANY_PIECES).sum())
         .with_ports(ports, |port| {
@@ -25,7 +25,7 @@ pub fn pushes<'a>(inputs: &'a Inputs, ports: &'a [Port]) -> Workload<'a> {
 /// Makes such a rope and takes its characters off the front.
 pub fn characters<'a>(inputs: &'a Inputs, ports: &'a [Port]) -> Workload<'a> {
     let name = "pop all characters of a rope";
-    let details = "of 1,000,000 texts, which are created first; for each character";
+    let details = "of 1,000,000 texts, created first; for each character";
     let characters = rope_length(&inputs.words, MANY_PIECES);
     Workload::new("r2", name, details, Unit::Calls(characters))
         .with(BY_HAND, move || pop_all(Rope::of(inputs, MANY_PIECES)))
@@ -63,7 +63,7 @@ fn parts<'a>(
     places: &'a [u32],
     ports: &'a [Port],
 ) -> Workload<'a> {
-    let details = "which are created first; `sub_rope` of 20 bytes at 1,000,000 random places";
+    let details = "created first, then `sub_rope` of 20 bytes at 1,000,000 random places";
     Workload::new(id, name, details, Unit::Calls(places.len()))
         .with(BY_HAND, move || {
             sum_of_parts(&Rope::of(inputs, pieces), places)
