@@ -40,13 +40,13 @@ pub enum Role {
     Port,
     /// What the port's time is divided by.
     Divisor,
-    /// What a user would take instead: an owned text of std,
+    /// What a user would take instead: an owned text of std.
     Owned,
-    /// a counted one,
+    /// A counted text of std.
     Counted,
-    /// the crate `bytes`,
+    /// The crate `bytes`.
     Bytes,
-    /// or simdutf8 or encoding_rs by itself.
+    /// simdutf8 or encoding_rs by itself.
     Alone,
     /// Only the driver's output has it.
     Unlisted,
