@@ -124,7 +124,44 @@ fn decode_koi8_u_encoding_rs(rt: HostRuntime) -> Result<(), Fail> {
 }
 
 #[test]
-fn byte_order_marks(rt: HostRuntime) -> Result<(), Fail> {
+fn decode_windows_949_encoding_rs(rt: HostRuntime) -> Result<(), Fail> {
+    let rows = [
+        kept(Encoding::EucKr, &[], "", false),
+        kept(Encoding::EucKr, &[b""], "", false),
+        kept(Encoding::EucKr, &[b"\xBE\xC8\xB3\xE7"], "안녕", false),
+        kept(Encoding::EucKr, &[b"\xBE", b"\xC8\xB3\xE7"], "안녕", false),
+        kept(
+            Encoding::EucKr,
+            &[b"\xBE", b"", b"\xC8\xB3\xE7"],
+            "안녕",
+            false,
+        ),
+        kept(
+            Encoding::EucKr,
+            &[b"\xBE\xC8\xB3\xE7\xC7\xCF\xBC\xBC\xBF\xE4"],
+            "안녕하세요",
+            false,
+        ),
+        kept(
+            Encoding::EucKr,
+            &[b"\xBE\xC8\xB3\xE7\xC7"],
+            "안녕\u{FFFD}",
+            true,
+        ),
+        kept(
+            Encoding::EucKr,
+            &[b"\xBE", b"", b"\xC8\xB3"],
+            "안\u{FFFD}",
+            true,
+        ),
+        kept(Encoding::EucKr, &[b"\xBE\x28\xB3\xE7"], "\u{FFFD}(녕", true),
+    ];
+    assert_eq!(rt; first_wrong(rt.alloc(), &rows)?, None);
+    Ok(())
+}
+
+#[test]
+fn marks_of_any_encoding(rt: HostRuntime) -> Result<(), Fail> {
     let rows = [
         marked(
             Encoding::Utf16Be,
@@ -154,6 +191,14 @@ fn byte_order_marks(rt: HostRuntime) -> Result<(), Fail> {
             "\u{EF}\u{BB}",
             false,
         ),
+    ];
+    assert_eq!(rt; first_wrong(rt.alloc(), &rows)?, None);
+    Ok(())
+}
+
+#[test]
+fn marks_of_the_encoding_itself(rt: HostRuntime) -> Result<(), Fail> {
+    let rows = [
         marked(
             Encoding::Utf16Le,
             BomHandling::Remove,
