@@ -13,7 +13,7 @@ pub use tendril_lossy as lossy;
 pub use tendril_stream as stream;
 pub use tendril_stream::{ReadExt, TendrilSink};
 pub use tendril_text::{
-    ByteSet, ByteTendril, ClosureText, IncompleteUtf8, IntoCharRuns, IntoChars, IntoLines,
+    ByteSet, ByteTendril, ClosureText, Field, IncompleteUtf8, IntoCharRuns, IntoChars, IntoLines,
     IntoSplit, LastText, SendTendril, SetResult, SplitAtAny, StrTendril, SubtendrilError, Tendril,
     View, slice_to_tendril, str_to_tendril,
 };

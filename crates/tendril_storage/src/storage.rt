@@ -24,7 +24,7 @@ pub(crate) enum Held<B> {
         buffer: [u8; 8],
     },
     View {
-        // Set by clones, slices and pops, cleared by writes. Contracts don't mention it.
+        // Set by clones, slices and pops, cleared by writes and `compact`. Contracts don't mention it.
         shared: Cell<bool>,
         block: B,
         offset: u32,
@@ -148,7 +148,7 @@ impl<A: Atomicity> Storage<A> {
     }
 
     /// Whether the block may be shared: clones, slices and pops that leave more than 8 bytes in the block set this,
-    /// writes clear it.
+    /// writes and `compact` clear it.
     pub fn is_shared(&self) -> bool {
         match &self.held {
             Held::Inline { .. } => false,

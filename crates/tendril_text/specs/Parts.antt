@@ -1,9 +1,20 @@
 -- Clones, slices, pops and splits of a text.
-use Rattle.std.specs.Prelude.{ℕ, ◌≡◌, ◌≤◌, List, length, take, drop, Option, Result, Ok, Err}
+use Rattle.std.specs.Prelude.{ℕ, ◌≡◌, ◌<◌, ◌≤◌, List, length, take, drop, Option, Result, Ok, Err}
 use Rattle.tendril_block.specs.declared.refusal.Refusal.{Refusal}
+use Rattle.tendril_block.specs.declared.refusal.Refusal.TheVariants.{ValidationFailed}
 use Rattle.tendril_block.specs.declared.subtendril_error.SubtendrilError.{SubtendrilError}
 use Rattle.tendril_block.specs.Errors.{refusal_of}
-use Rattle.tendril_block.specs.Outcomes.{NoneMust, CutMust, SliceMust, PopMust, NoneMay, CountMay, Gives, Outcome}
+use Rattle.tendril_block.specs.Outcomes.{
+  NoneMust,
+  First,
+  CutMust,
+  SliceMust,
+  PopMust,
+  NoneMay,
+  CountMay,
+  Gives,
+  Outcome,
+}
 use Rattle.tendril_storage.specs.Partings.{BothLong, IsParted, TakesFront}
 use Rattle.tendril_storage.specs.Texts.{Text, Shares, Keeps}
 
@@ -39,6 +50,21 @@ pub record IsRestOf (old : Text) (b : List ℕ) (new : Text) : Type 0 where
 abbrev pub PopsValid : (List ℕ → Type 0) → ℕ → List ℕ → Text → Result (Unit {0}) SubtendrilError → Text → Type 0
 PopsValid valid count rest old result new =
     Outcome (PopMust valid old.bytes count rest) NoneMay (λ _ t. IsRestOf old rest t) old (by_name result) new
+
+-- a text after all bytes from `len` on were dropped; with no more than `len` bytes it is unchanged
+pub record IsTruncated (len : ℕ) (old new : Text) : Type 0 where
+  pub bytes : new.bytes ≡ take len old.bytes
+  pub copied : len < length old.bytes → Keeps old new
+  pub short : length old.bytes ≤ len → new ≡ old
+
+-- the required error for a text of which the bytes `front` are left
+abbrev pub FrontMust : (List ℕ → Type 0) → List ℕ → Option Refusal → Type 0
+FrontMust valid front must = First (valid front) ValidationFailed NoneMust must
+
+-- all bytes from `len` on are dropped, if those before them are valid
+abbrev pub Truncates : (List ℕ → Type 0) → ℕ → Text → Result (Unit {0}) SubtendrilError → Text → Type 0
+Truncates valid len old result new =
+    Outcome (FrontMust valid (take len old.bytes)) NoneMay (λ _ t. IsTruncated len old t) old (by_name result) new
 
 -- the first `count` bytes are split off a text; they are there, and both sides are valid
 abbrev pub Splits : ℕ → Text → Result Text SubtendrilError → Text → Type 0

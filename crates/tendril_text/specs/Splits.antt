@@ -25,6 +25,7 @@ use Rattle.std.specs.Prelude.{
 use Rattle.std.specs.Str.Iter.{LacksByte}
 use Rattle.memchr.specs.Find.{Nowhere, Passes}
 use Rattle.tendril_block.specs.declared.refusal.Refusal.{Refusal}
+use Rattle.tendril_block.specs.Outcomes.{CountMay}
 use Rattle.tendril_fmt.specs.Parts.{IsEndOf}
 use Rattle.tendril_storage.specs.Partings.{BothLong}
 use Rattle.tendril_storage.specs.Texts.{Text, Parts}
@@ -93,6 +94,14 @@ pub record HasLongLine (text : List ℕ) (r : Refusal) : Type 0 where
   pub rest : List ℕ
   pub takes : TakesLine text line rest
   pub long : BothLong (length line) (length text) r
+
+-- the sides of the first byte c of a text, one of them with more than 8 bytes, for which Count is permitted
+pub record HasLongSide (c : ℕ) (text : List ℕ) (r : Refusal) : Type 0 where
+  pub front : List ℕ
+  pub back : List ℕ
+  pub first : LacksByte c front
+  pub joined : text ≡ front ++ c ∷ back
+  pub long : CountMay (length front) r ⊎ CountMay (length back) r
 
 -- what `next` returns for the parts between bytes of a set
 abbrev pub NextSplit : (ℕ → Bool) → Text → Bool → Option (Result Text Refusal) → Text → Bool → Type 0

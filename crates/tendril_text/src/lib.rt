@@ -15,7 +15,7 @@ pub use crate::byte_set::ByteSet;
 pub use crate::iter::{IntoCharRuns, IntoChars, IntoLines, IntoSplit, SplitAtAny};
 pub use crate::search::SetResult;
 pub use crate::tendril::{
-    ByteTendril, SendTendril, StrTendril, Tendril, slice_to_tendril, str_to_tendril,
+    ByteTendril, Field, SendTendril, StrTendril, Tendril, slice_to_tendril, str_to_tendril,
 };
 pub use crate::utf8_decode::{ClosureText, IncompleteUtf8, LastText};
 pub use crate::view::View;

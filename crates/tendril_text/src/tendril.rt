@@ -3,8 +3,10 @@
 //! Contracts see a `Tendril<F, A>` as its bytes and the number of bytes that were copied for it. They don't see
 //! sharing: a call on one text never changes the bytes of another.
 
+mod compact;
 mod compare;
 mod convert;
+mod field;
 mod make;
 mod part;
 mod pop;
@@ -15,6 +17,7 @@ mod send;
 mod units;
 mod write;
 
+pub use field::Field;
 pub(crate) use make::share;
 pub use make::{slice_to_tendril, str_to_tendril};
 pub(crate) use part::try_part;

@@ -9,16 +9,19 @@
 //! | `extend_strs S "A" "B"`, .. | extends by the call of this name; `extend_tendrils S S S` by texts | `slot S` |
 //! | `until S "SET"`, `after S "SET"` | what `pop_front_until` returns, and what it leaves | `slot S` |
 //! | `split S N`, `left S N` | what `try_split_to` returns, and what it leaves | `slot S` |
+//! | `truncate S N`, `compact S`, `to_compact S` | a text after the call of this name, or what it returns | `slot S` |
 //! | `strip S "A"`, `take S`, `lower S`, `push_str S "A"`, `push_char S "A"`, `write_str S "A"` | changes a text of UTF-8 | `slot S` |
 //! | `write S "A"`, `write_all S "A"`, `push_without_validating S "A"`, `reverse S` | changes a text of bytes | `slot S` |
 //! | `into_send S`, `send_clone S` | sends a text there and back, itself or by a clone | `slot S` |
 //! | `view S O N`, `view_whole S`, `view_ascii S` | a text of a view | `slot S` |
 //! | `string S`, `view_str S`, `debug S`, `display S` | | what is printed |
 //! | `chars S`, `runs S`, `parts S "SET"` | | the items of `into_chars`, `into_char_runs`, `split_at_any` |
+//! | `fields S "A"`, `once S "A"` | | all fields by `pop_field`; both sides by `split_once`, or `none` |
 //! | `find S "SET"`, `peek S`, `eq_str S "A"`, `starts_with S "A"`, `len S` | | what the call returns |
 //! | `block "A"`, `block_own "A"`, `block_mut "A"`, `block_grow "A"`, `block_sole "A"`, `block_full "A"` | holds a block outside of texts | its bytes |
 
 mod blocks;
+mod fields;
 mod items;
 mod making;
 mod parts;

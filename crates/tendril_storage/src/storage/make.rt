@@ -4,7 +4,7 @@ ghost use Rattle.tendril_block.specs.Outcomes.{MemoryMay};
 ghost use Rattle.tendril_block.specs.Tail.{tail_bytes};
 
 use crate::storage::replace::try_replace_in_block;
-use crate::storage::{Held, Storage, put, put_tail};
+use crate::storage::{Held, Storage, put, put_tail, word_of};
 use std::alloc::Global;
 use std::cell::Cell;
 use tendril_block::{Atomicity, INLINE_LEN, MAX_LEN, NODE_CAPACITY, Refusal, Tail};
@@ -35,6 +35,23 @@ impl<A: Atomicity> Storage<A> {
             return Ok(Self::few(alloc, bytes.as_slice()));
         }
         Self::in_block(alloc, bytes)
+    }
+
+    /// Stores a copy of at most 8 bytes inline. Allocates nothing. It is inlined into the caller: constant bytes are one
+    /// word there, with no call.
+    #[inline(always)]
+    pub fn few(alloc: Global, bytes: &[u8]) -> Self
+        requires { length bytes.now ≤ INLINE_LEN }
+        ensures bytes { result.bytes ≡ bytes.now }
+        ensures copied { result.copied ≡ length bytes.now }
+    {
+        Storage {
+            held: Held::Inline {
+                len: bytes.len() as u64,
+                buffer: word_of(bytes).to_le_bytes(),
+            },
+            alloc,
+        }
     }
 
     /// Stores a copy of the bytes. Allocates only for more than 8, and returns `Memory` if that fails.

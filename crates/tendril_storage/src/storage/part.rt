@@ -4,13 +4,12 @@ ghost use Rattle.tendril_block.specs.Outcomes.{CountMay};
 ghost use Rattle.tendril_storage.specs.Partings.{IsParted, TakesFew, TakesFront};
 
 use crate::storage::{Held, Storage, word_of};
-use std::alloc::Global;
 use std::cell::Cell;
 use std::mem;
 use tendril_block::{Atomicity, INLINE_LEN, MAX_LEN, Refusal};
 
 impl<A: Atomicity> Storage<A> {
-    ghost use Rattle.tendril_storage.specs.Texts.{Parts, Shares};
+    ghost use Rattle.tendril_storage.specs.Texts.{Shares};
 
     /// Returns a clone: up to 8 bytes are copied inline, more are another view of the same block. Returns `Count` if
     /// that has as many references as it can have.
@@ -57,23 +56,6 @@ impl<A: Atomicity> Storage<A> {
         let start = offset as usize;
         let end = start + count as usize;
         Self::few(self.alloc, &self.as_slice()[start..end])
-    }
-
-    /// Stores a copy of at most 8 bytes inline. Allocates nothing. It is inlined into the caller: constant bytes are one
-    /// word there, with no call.
-    #[inline(always)]
-    pub fn few(alloc: Global, bytes: &[u8]) -> Self
-        requires { length bytes.now ≤ INLINE_LEN }
-        ensures bytes { result.bytes ≡ bytes.now }
-        ensures copied { result.copied ≡ length bytes.now }
-    {
-        Storage {
-            held: Held::Inline {
-                len: bytes.len() as u64,
-                buffer: word_of(bytes).to_le_bytes(),
-            },
-            alloc,
-        }
     }
 
     #[tactic(auto, using(crate::proofs::Views::slices))]
@@ -157,11 +139,11 @@ impl<A: Atomicity> Storage<A> {
         requires { count ≤ length self.old.bytes }
         ensures { TakesFront count self.old result self.new }
     {
-        // The front of a long view is returned in registers: the words of one that a call wrote one by one would be
-        // loaded as a pair, which stalls the processor.
         if let Some(front) = self.take_few(count, 0) {
             return Ok(front);
         }
+        // The front of a long view is returned in registers: the words of one that a call wrote one by one would be
+        // loaded as a pair, which stalls the processor.
         if count as usize > INLINE_LEN && (self.len32() - count) as usize > INLINE_LEN {
             let front = self.view_part(0, count)?;
             self.skip_in_view(count);

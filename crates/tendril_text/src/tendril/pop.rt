@@ -1,6 +1,6 @@
 //! Pops, which drop bytes at an end of a text.
 ghost use Rattle.std.specs.Prelude.{◌≡◌, ◌≤◌, ◌-◌, length, take, drop};
-ghost use Rattle.tendril_text.specs.Parts.{PopsValid};
+ghost use Rattle.tendril_text.specs.Parts.{IsTruncated, PopsValid, Truncates};
 
 use crate::tendril::Tendril;
 use crate::tendril::part::{is_end_valid, is_front_valid};
@@ -94,6 +94,52 @@ impl<F: Format, A: Atomicity> Tendril<F, A> {
         ensures copied { Keeps self.old self.new }
     {
         self.unsafe_pop_back(count);
+    }
+
+    /// Drops all bytes from `len` on, if those before them are valid in the format. Does nothing if the text has no more
+    /// than `len` bytes.
+    ///
+    /// Returns `ValidationFailed` if they aren't valid; then nothing has changed. Takes constant time and allocates nothing.
+    ///
+    /// ```
+    /// let mut text = StrTendril::from_slice(alloc, "café")?;
+    /// assert_eq!(rt; text.try_truncate(4).err(), Some(SubtendrilError::ValidationFailed));
+    /// text.try_truncate(3)?;
+    /// assert_eq!(rt; text.as_str(), "caf");
+    /// text.try_truncate(100)?;
+    /// assert_eq!(rt; text.as_str(), "caf");
+    /// ```
+    pub fn try_truncate(&mut self, len: u32) -> Result<(), SubtendrilError>
+        ensures { Truncates F.valid len self.old result self.new }
+    {
+        let text = self.as_byte_slice();
+        if text.len() <= len as usize {
+            return Ok(());
+        }
+        if !is_front_valid::<F>(text, len as usize) {
+            return Err(SubtendrilError::ValidationFailed);
+        }
+        self.truncate(len);
+        Ok(())
+    }
+
+    /// Drops all bytes from `len` on. The caller proves that those before them are valid in the format. Does nothing if
+    /// the text has no more than `len` bytes.
+    ///
+    /// Takes constant time and allocates nothing.
+    ///
+    /// ```
+    /// let mut text = StrTendril::from_slice(alloc, "a long line")?;
+    /// text.truncate(6);
+    /// assert_eq!(rt; text.as_str(), "a long");
+    /// ```
+    pub fn truncate(&mut self, len: u32)
+        requires { F.valid (take len self.old.bytes) }
+        ensures { IsTruncated len self.old self.new }
+    {
+        if len < self.len32() {
+            self.storage.keep_part(0, len);
+        }
     }
 
     /// Drops the first `count` bytes, as `pop_front` does. The caller proves its conditions, so no call is unsafe.

@@ -44,7 +44,7 @@ impl<F: Format, A: Atomicity> Tendril<F, A> {
     /// Whether the text may share its block.
     ///
     /// It may after a clone, a slice, a split or a pop that left more than 8 bytes in the block, until its bytes are
-    /// next written.
+    /// next written or `compact` is called.
     ///
     /// A text stored inline is never shared. Contracts don't say when this is true.
     ///

@@ -25,7 +25,10 @@ pub fn part<A: Atomicity>(
         | "push_str"
         | "write_str"
         | "split"
-        | "left" => string_part(table, verb, words),
+        | "left"
+        | "truncate"
+        | "compact"
+        | "to_compact" => string_part(table, verb, words),
         "write"
         | "write_all"
         | "push_without_validating"
@@ -63,6 +66,9 @@ fn string_part<A: Atomicity>(
             text.skip_prefix(string);
         }
         "take" => return Ok(Some(Slot::Utf8(text.take()))),
+        "to_compact" => return Ok(Some(Slot::Utf8(text.to_compact()?))),
+        "compact" => text.compact()?,
+        "truncate" => text.try_truncate(number_of(words)?)?,
         _ => change_string(&mut text, verb, string)?,
     }
     Ok(Some(Slot::Utf8(text)))

@@ -1,6 +1,6 @@
 //! Calls that read a text.
 
-use crate::calls::{print, set_of, slot_and_words, str_text, string_of};
+use crate::calls::{fields, print, set_of, slot_and_words, str_text, string_of};
 use std::alloc::Global;
 use std::fmt::Write;
 use tendril_block::{Atomicity, Refusal};
@@ -23,6 +23,8 @@ pub fn reply<A: Atomicity>(
         | "chars"
         | "runs"
         | "parts"
+        | "fields"
+        | "once"
         | "find"
         | "eq_str"
         | "starts_with"
@@ -91,6 +93,7 @@ fn read_string<A: Atomicity>(
             format_args!("{} {} {}", text.len(), text.len32(), text.is_empty()),
         ),
         "find" => find(alloc, text, string.as_bytes()),
+        "fields" | "once" => fields::reply(alloc, text, verb, string),
         _ => list(alloc, text.clone()?, verb, string),
     }
 }
