@@ -12,6 +12,7 @@ mod print;
 mod push;
 mod read;
 mod send;
+mod trim;
 mod units;
 mod write;
 

@@ -25,7 +25,9 @@ pub fn part<A: Atomicity>(
         | "push_str"
         | "write_str"
         | "split"
-        | "left" => string_part(table, verb, words),
+        | "left"
+        | "trimmed"
+        | "into_trimmed" => string_part(table, verb, words),
         "write"
         | "write_all"
         | "push_without_validating"
@@ -63,6 +65,8 @@ fn string_part<A: Atomicity>(
             text.skip_prefix(string);
         }
         "take" => return Ok(Some(Slot::Utf8(text.take()))),
+        "trimmed" => return Ok(Some(Slot::Utf8(text.trimmed()?))),
+        "into_trimmed" => return Ok(Some(Slot::Utf8(text.into_trimmed()))),
         _ => change_string(&mut text, verb, string)?,
     }
     Ok(Some(Slot::Utf8(text)))
