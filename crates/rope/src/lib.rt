@@ -9,6 +9,6 @@ pub use rope_run::{
 };
 pub use rope_text::{MAX_TOTAL, Rope, RopeLines, decode_rope, read_rope, rope_from_file};
 pub use tendril::{
-    Atomic, Atomicity, ByteSet, ByteTendril, NonAtomic, StrTendril, Tendril, block, fmt, lossy,
-    stream,
+    Atomic, Atomicity, ByteSet, ByteTendril, Members, NonAtomic, StrTendril, Tendril, block, fmt,
+    lossy, stream,
 };

@@ -8,5 +8,5 @@ pub use crate::decode::{decode_rope, read_rope, rope_from_file};
 pub use crate::rope::{MAX_TOTAL, Rope, RopeLines};
 pub use tendril_stream as stream;
 pub use tendril_text::{
-    Atomic, Atomicity, ByteSet, ByteTendril, NonAtomic, StrTendril, Tendril, block, fmt,
+    Atomic, Atomicity, ByteSet, ByteTendril, Members, NonAtomic, StrTendril, Tendril, block, fmt,
 };

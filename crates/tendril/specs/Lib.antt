@@ -12,6 +12,7 @@ pub use Rattle.tendril_text.specs.Items
 pub use Rattle.tendril_text.specs.Writes
 pub use Rattle.tendril_text.specs.Search
 pub use Rattle.tendril_text.specs.Splits
+pub use Rattle.tendril_text.specs.Trims
 pub use Rattle.tendril_text.specs.Iterators
 pub use Rattle.tendril_stream.specs.Sinks
 pub use Rattle.tendril_stream.specs.SentBytes
@@ -26,6 +27,7 @@ pub use Rattle.tendril_stream.specs.Stored
 pub use Rattle.tendril_lossy.specs.Lossy
 pub use Rattle.tendril_lossy.specs.Completions
 pub use Rattle.tendril_lossy.specs.declared.search.Ending
+pub use Rattle.tendril_text.specs.declared.byte_set.Members as SetMembers
 pub use Rattle.tendril_block.specs.Outcomes
 pub use Rattle.tendril_block.specs.Refusals
 pub use Rattle.tendril_block.specs.declared.refusal.Refusal

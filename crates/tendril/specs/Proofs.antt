@@ -1,7 +1,8 @@
--- Lemmas that a caller's proofs cite: about prefixes and characters of a format, lines and splits, 16-bit units, what
--- is sent to a sink, a sink after a decoder, and reading.
+-- Lemmas that a caller's proofs cite: about prefixes and characters of a format, sets of bytes, lines and splits,
+-- 16-bit units, what is sent to a sink, a sink after a decoder, and reading.
 pub use Rattle.tendril_fmt.proofs.Parts
 pub use Rattle.tendril_fmt.proofs.Splits
+pub use Rattle.tendril_text.proofs.SetBytes
 pub use Rattle.tendril_text.proofs.Splits as TextSplits
 pub use Rattle.tendril_fmt.proofs.UnitCounts
 pub use Rattle.tendril_fmt.proofs.UnitSplits

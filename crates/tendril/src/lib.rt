@@ -14,8 +14,8 @@ pub use tendril_stream as stream;
 pub use tendril_stream::{ReadExt, TendrilSink};
 pub use tendril_text::{
     ByteSet, ByteTendril, ClosureText, Field, IncompleteUtf8, IntoCharRuns, IntoChars, IntoLines,
-    IntoSplit, LastText, SendTendril, SetResult, SplitAtAny, StrTendril, SubtendrilError, Tendril,
-    View, slice_to_tendril, str_to_tendril,
+    IntoSplit, LastText, Members, SendTendril, SetResult, SplitAtAny, StrTendril, SubtendrilError,
+    Tendril, View, slice_to_tendril, str_to_tendril,
 };
 
 /// Returns the text that `format!` would print.

@@ -13,6 +13,7 @@ pub mod pairs;
 pub mod parts;
 pub mod push;
 pub mod resume;
+pub mod sets;
 pub mod two;
 pub mod units;
 pub mod whole;

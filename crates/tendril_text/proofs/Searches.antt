@@ -1,13 +1,14 @@
 -- Tables of bytes, and the indexes that a search for them skips.
-use Rattle.std.proofs.Common.{◌≡◌, ◌≢◌, ◌⊎◌, ◌↔◌, ℕ, zero, suc, ◌<◌, ◌≤◌, ◌+◌, ◌-◌, ◌==◌, ◌||◌, Bool, true, false, List}
-use Rattle.std.proofs.Common.{◌++◌, length, take, drop, set, get_or, replicate, IsUtf8, IsFalse, Contains, refl, sym}
-use Rattle.std.proofs.Common.{subst, ap, ◌∙◌, arith, true≢false, inl, inr, ⊎_elim, eq-or-lt_of_le, length-append}
-use Rattle.std.proofs.Common.{length-take, length-drop, get_or-take, get_or-drop, take_at}
-use Rattle.std.proofs.lemmas.Bool.{cases_eq, cases_lt, eq-eqb, or_left, or_right}
+use Rattle.std.proofs.Common.{◌≡◌, ◌≢◌, ◌⊎◌, ◌↔◌, ℕ, zero, suc, ◌<◌, ◌≤◌, ◌+◌, ◌-◌, Bool, true, false, List, ◌++◌}
+use Rattle.std.proofs.Common.{length, take, drop, set, get_or, replicate, IsUtf8, Contains, refl, sym, subst, ap}
+use Rattle.std.proofs.Common.{◌∙◌, arith, true≢false, inl, inr, ⊎_elim, eq-or-lt_of_le, length-append, length-take}
+use Rattle.std.proofs.Common.{length-drop, get_or-take, get_or-drop, take_at}
+use Rattle.std.proofs.lemmas.Bool.{cases_eq, cases_lt}
 use Rattle.std.proofs.lemmas.Grind.{get_or_default_zero, get_or-set_at}
-use Rattle.std.proofs.lemmas.List.{get_or-set_other, get_or-replicate, get_or_past, length-replicate}
+use Rattle.std.proofs.lemmas.List.{get_or-set_other}
 use Rattle.std.proofs.lemmas.Str.{IsUtf8-drop, IsCharBoundary-from_take}
 use Rattle.memchr.specs.Find.{Nowhere, Passes}
+use Rattle.tendril_text.proofs.SetBytes.{IsOne, one_of, is_one, no_byte}
 use Rattle.tendril_text.specs.Search.{has_byte, is_byte4}
 
 -- a table of the first n of some bytes
@@ -17,14 +18,9 @@ pub record IsTableOf (bytes : List ℕ) (n : ℕ) (table : List Bool) : Type 0 w
 
 pub none_yet : (bytes : List ℕ) (count : ℕ) → IsTableOf bytes 0 (replicate count false)
 none_yet bytes count = record {
-  from = λ b is. absurd (true≢false (sym is ∙ none b (cases_lt b count)));
+  from = λ b is. absurd (true≢false (sym is ∙ no_byte count b));
   to = λ k l. absurd (omega (arith, l));
 }
-  where
-    none : (b : ℕ) → (b < count) ⊎ (count ≤ b) → has_byte (replicate count false) b ≡ false
-    none b (inl l) = get_or-replicate count b false false l
-    none b (inr l) = get_or_past (replicate count false) b false
-        (subst (λ n. n ≤ b) (sym (length-replicate count false)) l)
 
 pub one_more : (bytes : List ℕ) (n : ℕ) (table : List Bool) → n < length bytes → get_or bytes n 0 < length table
     → IsTableOf bytes n table → IsTableOf bytes (n + 1) (set table (get_or bytes n 0) true)
@@ -55,37 +51,34 @@ members_of bytes table n all h b = (
 
 -- sets of one to four bytes
 
-pub not_yes : (b : Bool) → IsFalse b → b ≡ true → ⊥
-not_yes b is_not is = true≢false (sym is ∙ is_not)
-
-is_one : (a b c d x : ℕ) → (x ≡ a) ⊎ ((x ≡ b) ⊎ ((x ≡ c) ⊎ (x ≡ d))) → is_byte4 a b c d x ≡ true
-is_one a b c d x (inl e) = or_left (x == a || x == b || x == c) (x == d)
-    (or_left (x == a || x == b) (x == c) (or_left (x == a) (x == b) (eq-eqb x a e)))
-is_one a b c d x (inr (inl e)) =
-    or_left (x == a || x == b || x == c) (x == d)
-    (or_left (x == a || x == b) (x == c) (or_right (x == a) (x == b) (eq-eqb x b e)))
-is_one a b c d x (inr (inr (inl e))) =
-    or_left (x == a || x == b || x == c) (x == d) (or_right (x == a || x == b) (x == c) (eq-eqb x c e))
-is_one a b c d x (inr (inr (inr e))) = or_right (x == a || x == b || x == c) (x == d) (eq-eqb x d e)
-
 -- each index into these bytes is one of the four
 abbrev pub Covers : List ℕ → ℕ → ℕ → ℕ → ℕ → Type 0
-Covers bytes i j k l = (m : ℕ) → m < length bytes → (m ≡ i) ⊎ ((m ≡ j) ⊎ ((m ≡ k) ⊎ (m ≡ l)))
+Covers bytes i j k l = (m : ℕ) → m < length bytes → IsOne i j k l m
 
-pub few : (bytes : List ℕ) (table : List Bool) (i j k l : ℕ) → Covers bytes i j k l
-    → ((b : ℕ) → (has_byte table b ≡ true) ↔ Contains bytes b) → (b : ℕ) → has_byte table b ≡ true
-    → is_byte4 (get_or bytes i 0) (get_or bytes j 0) (get_or bytes k 0) (get_or bytes l 0) b ≡ true
-few bytes table i j k l covers members b is =
-    let c = (members b).0 is in
-    let e : b ≡ get_or bytes c.0 0 = sym c.2 ∙ get_or_default_zero bytes c.0 b c.1 in
-    is_one _ _ _ _ b (there c.0 e (covers c.0 c.1))
+-- bytes as members, if the four are all their indexes
+pub few : (bytes : List ℕ) (i j k l : ℕ) → Covers bytes i j k l → i < length bytes → j < length bytes
+    → k < length bytes → l < length bytes → (x : ℕ)
+    → (is_byte4 (get_or bytes i 0) (get_or bytes j 0) (get_or bytes k 0) (get_or bytes l 0) x ≡ true) ↔ Contains bytes x
+few bytes i j k l covers wi wj wk wl x = (
+  λ is. from (one_of _ _ _ _ x is),
+  λ c. is_one _ _ _ _ x (to c.0 (sym c.2 ∙ get_or_default_zero bytes c.0 x c.1) (covers c.0 c.1)),
+)
   where
-    there : (m : ℕ) → b ≡ get_or bytes m 0 → (m ≡ i) ⊎ ((m ≡ j) ⊎ ((m ≡ k) ⊎ (m ≡ l))) → (b ≡ get_or bytes i 0)
-        ⊎ ((b ≡ get_or bytes j 0) ⊎ ((b ≡ get_or bytes k 0) ⊎ (b ≡ get_or bytes l 0)))
-    there m e (inl p) = inl (e ∙ ap (λ n. get_or bytes n 0) p)
-    there m e (inr (inl p)) = inr (inl (e ∙ ap (λ n. get_or bytes n 0) p))
-    there m e (inr (inr (inl p))) = inr (inr (inl (e ∙ ap (λ n. get_or bytes n 0) p)))
-    there m e (inr (inr (inr p))) = inr (inr (inr (e ∙ ap (λ n. get_or bytes n 0) p)))
+    at : (m : ℕ) → m < length bytes → x ≡ get_or bytes m 0 → Contains bytes x
+    at m within e = (m, within, get_or_default_zero bytes m x within ∙ sym e)
+
+    from : IsOne (get_or bytes i 0) (get_or bytes j 0) (get_or bytes k 0) (get_or bytes l 0) x → Contains bytes x
+    from (inl e) = at i wi e
+    from (inr (inl e)) = at j wj e
+    from (inr (inr (inl e))) = at k wk e
+    from (inr (inr (inr e))) = at l wl e
+
+    to : (m : ℕ) → x ≡ get_or bytes m 0 → IsOne i j k l m
+        → IsOne (get_or bytes i 0) (get_or bytes j 0) (get_or bytes k 0) (get_or bytes l 0) x
+    to m e (inl p) = inl (e ∙ ap (λ n. get_or bytes n 0) p)
+    to m e (inr (inl p)) = inr (inl (e ∙ ap (λ n. get_or bytes n 0) p))
+    to m e (inr (inr (inl p))) = inr (inr (inl (e ∙ ap (λ n. get_or bytes n 0) p)))
+    to m e (inr (inr (inr p))) = inr (inr (inr (e ∙ ap (λ n. get_or bytes n 0) p)))
 
 pub covers : (bytes : List ℕ) (j k l : ℕ) → (1 < length bytes → j ≡ 1) → (2 < length bytes → k ≡ 2)
     → (3 < length bytes → l ≡ 3) → length bytes ≤ 4 → Covers bytes 0 j k l
@@ -95,18 +88,16 @@ covers bytes j k l p q r all (suc (suc zero)) w = inr (inr (inl (sym (q w))))
 covers bytes j k l p q r all (suc (suc (suc zero))) w = inr (inr (inr (sym (r w))))
 covers bytes j k l p q r all (suc (suc (suc (suc m)))) w = absurd (omega (arith, w, all))
 
--- bytes that are none of the four have no byte of the table
-pub passes_more : (table : List Bool) (bytes : List ℕ) (a b c d at n : ℕ)
-    → ((x : ℕ) → has_byte table x ≡ true → is_byte4 a b c d x ≡ true) → Nowhere (Passes (has_byte table) bytes) 0 at
+-- if none of the next n bytes is one of the four, they are passed
+pub passes_more : (bytes : List ℕ) (a b c d at n : ℕ) → Nowhere (Passes (is_byte4 a b c d) bytes) 0 at
     → ((k : ℕ) → k < n → is_byte4 a b c d (get_or bytes (at + k) 0) ≡ false)
-    → Nowhere (Passes (has_byte table) bytes) 0 (at + n)
-passes_more table bytes a b c d at n few before none k low high is = ⊎_elim
+    → Nowhere (Passes (is_byte4 a b c d) bytes) 0 (at + n)
+passes_more bytes a b c d at n before none k low high is = ⊎_elim
     (λ l. before k low l is)
     (λ l.
     let e : at + (k - at) ≡ k = omega (arith, l) in
     let w : k - at < n = omega (arith, l, high) in
-    not_yes (is_byte4 a b c d (get_or bytes k 0))
-    (subst (λ m. is_byte4 a b c d (get_or bytes m 0) ≡ false) e (none (k - at) w)) (few (get_or bytes k 0) is))
+    true≢false (sym is ∙ subst (λ m. is_byte4 a b c d (get_or bytes m 0) ≡ false) e (none (k - at) w)))
     (cases_lt k at)
 
 read_block : (bytes : List ℕ) (at n k : ℕ) → k < n → get_or (take (at + n - at) (drop at bytes)) k 0
@@ -115,13 +106,12 @@ read_block bytes at n k l =
     let count : at + n - at ≡ n = omega arith in
     ap (λ m. get_or (take m (drop at bytes)) k 0) count ∙ get_or-take n (drop at bytes) k 0 l ∙ get_or-drop at bytes k 0
 
-pub passes_block : (table : List Bool) (bytes : List ℕ) (a b c d at n : ℕ)
-    → ((x : ℕ) → has_byte table x ≡ true → is_byte4 a b c d x ≡ true) → Nowhere (Passes (has_byte table) bytes) 0 at
+pub passes_block : (bytes : List ℕ) (a b c d at n : ℕ) → Nowhere (Passes (is_byte4 a b c d) bytes) 0 at
     → at + n ≤ length bytes → ((k : ℕ) → k < length (take (at + n - at) (drop at bytes))
     → is_byte4 a b c d (get_or (take (at + n - at) (drop at bytes)) k 0) ≡ false)
-    → Nowhere (Passes (has_byte table) bytes) 0 (at + n)
-passes_block table bytes a b c d at n few before within none =
-    passes_more table bytes a b c d at n few before
+    → Nowhere (Passes (is_byte4 a b c d) bytes) 0 (at + n)
+passes_block bytes a b c d at n before within none =
+    passes_more bytes a b c d at n before
     (λ k l. subst (λ x. is_byte4 a b c d x ≡ false) (read_block bytes at n k l)
     (none k (omega (arith, l, within, length-take (at + n - at) (drop at bytes), length-drop at bytes))))
 
@@ -129,12 +119,11 @@ pub block_size : (bytes : List ℕ) (at n : ℕ) → at + n ≤ length bytes →
 block_size bytes at n within = omega (arith, within, length-take (at + n - at) (drop at bytes), length-drop at bytes)
 
 -- `passes_block` of the first m bytes of a block
-pub passes_part : (table : List Bool) (bytes : List ℕ) (a b c d at n m : ℕ)
-    → ((x : ℕ) → has_byte table x ≡ true → is_byte4 a b c d x ≡ true) → Nowhere (Passes (has_byte table) bytes) 0 at
-    → m ≤ n → ((k : ℕ) → k < m → is_byte4 a b c d (get_or (take (at + n - at) (drop at bytes)) k 0) ≡ false)
-    → Nowhere (Passes (has_byte table) bytes) 0 (at + m)
-passes_part table bytes a b c d at n m few before less none =
-    passes_more table bytes a b c d at m few before
+pub passes_part : (bytes : List ℕ) (a b c d at n m : ℕ) → Nowhere (Passes (is_byte4 a b c d) bytes) 0 at → m ≤ n
+    → ((k : ℕ) → k < m → is_byte4 a b c d (get_or (take (at + n - at) (drop at bytes)) k 0) ≡ false)
+    → Nowhere (Passes (is_byte4 a b c d) bytes) 0 (at + m)
+passes_part bytes a b c d at n m before less none =
+    passes_more bytes a b c d at m before
     (λ k l. subst (λ x. is_byte4 a b c d x ≡ false) (read_block bytes at n k (omega (arith, l, less))) (none k l))
 
 -- what follows a valid prefix is valid

@@ -13,3 +13,4 @@ pub mod Search
 pub mod Iterators
 pub mod Pieces
 pub mod Splits
+pub mod Trims

@@ -1,40 +1,62 @@
 //! Small sets of bytes, and searches for the first byte of a set.
 ghost use Rattle.std.specs.Prelude.{◌≡◌, ◌≢◌, ◌<◌, ◌≤◌, ◌↔◌, ◌==◌, if◌then◌else◌, ℕ, true, false, length, map};
-ghost use Rattle.std.specs.Prelude.{IsAscii, Contains, slice_index, IfSome, IsFalse};
+ghost use Rattle.std.specs.Prelude.{IsAscii, Contains, slice_index, IsFalse};
 ghost use Rattle.std.specs.Int.{bit_at};
 ghost use Rattle.memchr.specs.Find.{IsFirstByte, Nowhere, Passes};
-ghost use Rattle.tendril_text.specs.Search.{has_byte, is_byte4, IsTable};
+ghost use Rattle.tendril_text.specs.Search.{has_byte, is_byte4, is_member, AreAsciiMembers, IsTable};
 
 use std::marker::Model;
 use std::simd::prelude::*;
 
 /// A set of ASCII bytes, to search for.
 ///
+/// Write a set of one to four bytes as a constant, and call `new` outside the loop for any other. A byte of a constant
+/// that isn't ASCII is a compile error in the first function that uses the constant.
+///
 /// Contracts see it as a list of 256 Booleans: whether each byte is in the set.
+///
+/// ```
+/// const SPACE: ByteSet = ByteSet { members: Members::Four(b' ', b'\t', b'\r', b'\n') };
+/// let text = StrTendril::from_slice(alloc, "two words")?;
+/// assert_eq!(rt; text.find_any(&SPACE), Some(3));
+/// ```
 #[derive(Drop)]
 pub struct ByteSet {
-    members: [bool; 256],
-    // The bytes that `new` got, if they are one to four.
-    few: Option<(u8, u8, u8, u8)>,
+    /// The bytes, each of which is ASCII.
+    pub members: Members,
+}
+
+/// The bytes of a `ByteSet`. One to four are searched for 16 bytes at a time, those of a table byte by byte.
+#[derive(Drop)]
+pub enum Members {
+    /// One byte.
+    One(u8),
+    /// Two bytes.
+    Two(u8, u8),
+    /// Three bytes.
+    Three(u8, u8, u8),
+    /// Four bytes.
+    Four(u8, u8, u8, u8),
+    /// Any number of bytes: whether each byte is in the set. `ByteSet::new` fills it.
+    Table([bool; 256]),
 }
 
 impl Model for ByteSet {
-    ghost use Rattle.std.specs.Prelude.{◌≡◌, ℕ, Bool, true, List, IfSome};
-    ghost use Rattle.tendril_text.specs.Search.{has_byte, is_byte4, IsTable};
+    ghost use Rattle.std.specs.Prelude.{Bool, List};
+    ghost use Rattle.tendril_text.specs.Search.{member_table, AreAsciiMembers};
 
     ghost Value = { List Bool };
 
-    ghost view = { λ s. s.members };
+    ghost view = { λ s. member_table s.members };
 
-    ghost invariant = { λ s. IsTable s.members
-        × IfSome s.few (λ t. (b : ℕ) → has_byte s.members b ≡ true → is_byte4 t.0 t.1 t.2 t.3 b ≡ true) };
+    ghost invariant = { λ s. AreAsciiMembers s.members };
 }
 
 impl ByteSet {
     // Not a `const fn`: a constant can't call a function.
     /// Returns the set of these bytes, which the caller proves to be ASCII.
     ///
-    /// Fills a table of 256 bytes: create a set once, outside the loop.
+    /// Fills a table of 256 bytes, unless they are one to four.
     ///
     /// ```
     /// let ends = ByteSet::new(b"<&");
@@ -44,12 +66,12 @@ impl ByteSet {
         requires ascii { IsAscii bytes.now }
         ensures { (b : ℕ) → (has_byte result b ≡ true) ↔ Contains bytes.now b }
     {
-        let members = table_of(bytes);
-        let few = few_of(bytes, &members);
-        ByteSet { members, few }
+        ByteSet {
+            members: members_of(bytes),
+        }
     }
 
-    /// Whether the byte is in the set. Takes one table lookup.
+    /// Whether the byte is in the set. Takes constant time.
     ///
     /// ```
     /// assert_eq!(rt; ByteSet::new(b"<&").contains(b'>'), false);
@@ -57,7 +79,7 @@ impl ByteSet {
     pub fn contains(&self, byte: u8) -> bool
         ensures { result ≡ has_byte self.now byte }
     {
-        self.members[byte as usize]
+        is_among(&self.members, byte)
     }
 
     // The index of the first byte that is in the set.
@@ -65,11 +87,22 @@ impl ByteSet {
         ensures first { IsFirstByte (has_byte self.now) bytes.now result }
         ensures table { IsTable self.now }
     {
-        let start = match self.few {
-            Some((a, b, c, d)) => skip_others(a, b, c, d, &self.members, bytes),
-            None => 0,
-        };
-        find_member(&self.members, bytes, start)
+        find_member(&self.members, bytes)
+    }
+}
+
+// These bytes as members.
+fn members_of(bytes: &[u8]) -> Members
+    requires { IsAscii bytes.now }
+    ensures ascii { AreAsciiMembers result }
+    ensures members { (b : ℕ) → (is_member result b ≡ true) ↔ Contains bytes.now b }
+{
+    match *bytes {
+        [a] => Members::One(a),
+        [a, b] => Members::Two(a, b),
+        [a, b, c] => Members::Three(a, b, c),
+        [a, b, c, d] => Members::Four(a, b, c, d),
+        _ => Members::Table(table_of(bytes)),
     }
 }
 
@@ -86,25 +119,48 @@ fn table_of(bytes: &[u8]) -> [bool; 256]
     members
 }
 
-// The bytes, if they are one to four. The last one is repeated if they are fewer than four.
-fn few_of(bytes: &[u8], members: &[bool; 256]) -> Option<(u8, u8, u8, u8)>
-    requires { (b : ℕ) → (has_byte members.now b ≡ true) ↔ Contains bytes.now b }
-    ensures { IfSome result (λ t. (b : ℕ) → has_byte members.now b ≡ true → is_byte4 t.0 t.1 t.2 t.3 b ≡ true) }
+// Whether the byte is one of the members.
+fn is_among(members: &Members, byte: u8) -> bool
+    ensures { result ≡ is_member members.now byte }
 {
-    match *bytes {
-        [a] => Some((a, a, a, a)),
-        [a, b] => Some((a, b, b, b)),
-        [a, b, c] => Some((a, b, c, c)),
-        [a, b, c, d] => Some((a, b, c, d)),
-        _ => None,
+    match members {
+        Members::One(a) => is_one_of(*a, *a, *a, *a, byte),
+        Members::Two(a, b) => is_one_of(*a, *b, *b, *b, byte),
+        Members::Three(a, b, c) => is_one_of(*a, *b, *c, *c, byte),
+        Members::Four(a, b, c, d) => is_one_of(*a, *b, *c, *d, byte),
+        Members::Table(table) => table[byte as usize],
     }
 }
 
-// Returns an index before which no byte is in the table: of the first of the four, if vectors of sixteen bytes find it.
-fn skip_others(a: u8, b: u8, c: u8, d: u8, members: &[bool; 256], bytes: &[u8]) -> usize
-    requires { (x : ℕ) → has_byte members.now x ≡ true → is_byte4 a b c d x ≡ true }
+// The index of the first byte that is one of the members.
+fn find_member(members: &Members, bytes: &[u8]) -> Option<usize>
+    ensures { IsFirstByte (is_member members.now) bytes.now result }
+{
+    match members {
+        Members::One(a) => find_one_of(*a, *a, *a, *a, bytes),
+        Members::Two(a, b) => find_one_of(*a, *b, *b, *b, bytes),
+        Members::Three(a, b, c) => find_one_of(*a, *b, *c, *c, bytes),
+        Members::Four(a, b, c, d) => find_one_of(*a, *b, *c, *d, bytes),
+        Members::Table(table) => find_in_table(table, bytes),
+    }
+}
+
+// The index of the first byte that is one of the four.
+fn find_one_of(a: u8, b: u8, c: u8, d: u8, bytes: &[u8]) -> Option<usize>
+    ensures { IsFirstByte (is_byte4 a b c d) bytes.now result }
+{
+    for at in skip_others(a, b, c, d, bytes)..bytes.len() {
+        if is_one_of(a, b, c, d, bytes[at]) {
+            return Some(at);
+        }
+    }
+    None
+}
+
+// Returns an index before which none of the four is: of the first one, if vectors of sixteen bytes find it.
+fn skip_others(a: u8, b: u8, c: u8, d: u8, bytes: &[u8]) -> usize
     ensures within { result ≤ length bytes.now }
-    ensures passed { Nowhere (Passes (has_byte members.now) bytes.now) 0 result }
+    ensures passed { Nowhere (Passes (is_byte4 a b c d) bytes.now) 0 result }
 {
     let mut at = 0;
     'sixteens: while 16 <= bytes.len() - at {
@@ -159,18 +215,24 @@ fn has_any(a: u8, b: u8, c: u8, d: u8, bytes: &[u8]) -> bool
 {
     let mut any = false;
     for byte in bytes {
-        any |= (*byte == a) | (*byte == b) | (*byte == c) | (*byte == d);
+        any |= is_one_of(a, b, c, d, *byte);
     }
     any
 }
 
-// The index of the first byte that is in the table, where none is before `start`.
-fn find_member(members: &[bool; 256], bytes: &[u8], start: usize) -> Option<usize>
-    requires within { start ≤ length bytes.now }
-    requires passed { Nowhere (Passes (has_byte members.now) bytes.now) 0 start }
+// Whether the byte is one of the four.
+#[inline(always)]
+fn is_one_of(a: u8, b: u8, c: u8, d: u8, byte: u8) -> bool
+    ensures { result ≡ is_byte4 a b c d byte }
+{
+    (byte == a) | (byte == b) | (byte == c) | (byte == d)
+}
+
+// The index of the first byte that is in the table.
+fn find_in_table(members: &[bool; 256], bytes: &[u8]) -> Option<usize>
     ensures { IsFirstByte (has_byte members.now) bytes.now result }
 {
-    for at in start..bytes.len() {
+    for at in 0..bytes.len() {
         if members[bytes[at] as usize] {
             return Some(at);
         }

@@ -11,7 +11,7 @@ mod tendril;
 mod utf8_decode;
 mod view;
 
-pub use crate::byte_set::ByteSet;
+pub use crate::byte_set::{ByteSet, Members};
 pub use crate::iter::{IntoCharRuns, IntoChars, IntoLines, IntoSplit, SplitAtAny};
 pub use crate::search::SetResult;
 pub use crate::tendril::{

@@ -1,4 +1,6 @@
 //! Searching for bytes in a text, and removing what is before them; testing for a prefix, and removing it.
+//!
+//! Make a `ByteSet` once: as a constant if it has one to four bytes, else outside the loop.
 ghost use Rattle.std.specs.Prelude.{◌≡◌, ◌<◌, ◌≤◌, ◌↔◌, ◌++◌, [], List, length, take, drop, IsUtf8, IfSome, IfNone, IfOk, OnErr, OnSome, IsTrue, IsFalse, IfErr};
 ghost use Rattle.memchr.specs.Find.{IsFirstByte, is_byte};
 ghost use Rattle.tendril_fmt.specs.Parts.{IsFrontOf};
@@ -18,8 +20,9 @@ impl<F: Format, A: Atomicity> Tendril<F, A> {
     /// Takes one pass up to that byte, 16 bytes at a time for a set of up to four. Allocates nothing.
     ///
     /// ```
+    /// const MARKUP: ByteSet = ByteSet { members: Members::Two(b'<', b'&') };
     /// let text = StrTendril::from_slice(alloc, "a < b & c")?;
-    /// assert_eq!(rt; text.find_any(&ByteSet::new(b"&<")), Some(2));
+    /// assert_eq!(rt; text.find_any(&MARKUP), Some(2));
     /// ```
     pub fn find_any(&self, set: &ByteSet) -> Option<u32>
         ensures first { IsFirstByte (has_byte set.now) self.now.bytes result }
@@ -74,8 +77,9 @@ impl<F: CutsAtAscii, A: Atomicity> Tendril<F, A> {
     /// sharing the block.
     ///
     /// ```
+    /// const COMMA: ByteSet = ByteSet { members: Members::One(b',') };
     /// let mut text = StrTendril::from_slice(alloc, "one, two")?;
-    /// let word = text.pop_front_until(&ByteSet::new(b","))?;
+    /// let word = text.pop_front_until(&COMMA)?;
     /// assert_eq!(rt; word.is_some_and(|word| word.eq_str("one")), true);
     /// assert_eq!(rt; text.as_str(), ", two");
     /// ```
@@ -106,10 +110,10 @@ impl<F: CharFormat + CutsAtAscii, A: Atomicity> Tendril<F, A> {
     /// `pop_front_char` cost.
     ///
     /// ```
+    /// const BRACKETS: ByteSet = ByteSet { members: Members::Two(b'<', b'>') };
     /// let mut text = StrTendril::from_slice(alloc, "<p>")?;
-    /// let set = ByteSet::new(b"<>");
-    /// assert_eq!(rt; matches!(text.pop_except_from(&set)?, Some(SetResult::FromSet('<'))), true);
-    /// assert_eq!(rt; matches!(text.pop_except_from(&set)?, Some(SetResult::NotFromSet(_))), true);
+    /// assert_eq!(rt; matches!(text.pop_except_from(&BRACKETS)?, Some(SetResult::FromSet('<'))), true);
+    /// assert_eq!(rt; matches!(text.pop_except_from(&BRACKETS)?, Some(SetResult::NotFromSet(_))), true);
     /// ```
     pub fn pop_except_from(&mut self, set: &ByteSet) -> Result<Option<SetResult<F, A>>, Refusal>
         ensures part { IfOk result (λ found. IfSome found (λ part.

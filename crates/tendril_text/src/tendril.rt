@@ -14,6 +14,7 @@ mod print;
 mod push;
 mod read;
 mod send;
+mod trim;
 mod units;
 mod write;
 

@@ -10,6 +10,7 @@
 //! | `until S "SET"`, `after S "SET"` | what `pop_front_until` returns, and what it leaves | `slot S` |
 //! | `split S N`, `left S N` | what `try_split_to` returns, and what it leaves | `slot S` |
 //! | `truncate S N`, `compact S`, `to_compact S` | a text after the call of this name, or what it returns | `slot S` |
+//! | `trimmed S`, `into_trimmed S` | a text without the white space at its ends | `slot S` |
 //! | `strip S "A"`, `take S`, `lower S`, `push_str S "A"`, `push_char S "A"`, `write_str S "A"` | changes a text of UTF-8 | `slot S` |
 //! | `write S "A"`, `write_all S "A"`, `push_without_validating S "A"`, `reverse S` | changes a text of bytes | `slot S` |
 //! | `into_send S`, `send_clone S` | sends a text there and back, itself or by a clone | `slot S` |

@@ -3,7 +3,11 @@ ghost use Rattle.std.specs.Prelude.{◌≡◌, ◌++◌, codes, IfOk, IfSome};
 
 use std::alloc::AllocError;
 use tendril::block::Refusal;
-use tendril::{ByteSet, StrTendril};
+use tendril::{ByteSet, Members, StrTendril};
+
+const COLON: ByteSet = ByteSet {
+    members: Members::One(b':'),
+};
 
 /// A name and its value. Long ones share the block of their line.
 #[derive(Clone, Debug, PartialEq, Eq, Drop)]
@@ -75,7 +79,7 @@ pub fn split_field(line: StrTendril) -> Result<Option<Field>, Refusal>
         line.bytes ≡ field.name.bytes ++ codes ":" ++ field.value.bytes)) }
 {
     let mut value = line;
-    let Some(name) = value.pop_front_until(&ByteSet::new(b":"))? else {
+    let Some(name) = value.pop_front_until(&COLON)? else {
         return Ok(None);
     };
     if value.skip_prefix(":") {

@@ -28,7 +28,9 @@ pub fn part<A: Atomicity>(
         | "left"
         | "truncate"
         | "compact"
-        | "to_compact" => string_part(table, verb, words),
+        | "to_compact"
+        | "trimmed"
+        | "into_trimmed" => string_part(table, verb, words),
         "write"
         | "write_all"
         | "push_without_validating"
@@ -69,6 +71,8 @@ fn string_part<A: Atomicity>(
         "to_compact" => return Ok(Some(Slot::Utf8(text.to_compact()?))),
         "compact" => text.compact()?,
         "truncate" => text.try_truncate(number_of(words)?)?,
+        "trimmed" => return Ok(Some(Slot::Utf8(text.trimmed()?))),
+        "into_trimmed" => return Ok(Some(Slot::Utf8(text.into_trimmed()))),
         _ => change_string(&mut text, verb, string)?,
     }
     Ok(Some(Slot::Utf8(text)))

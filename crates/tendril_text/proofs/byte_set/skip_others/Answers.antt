@@ -14,8 +14,8 @@ returns-then-found-ne0-clause-within c =
 pub returns-then-found-ne0-clause-passed : goal.returns-then-found-ne0-clause-passed
 returns-then-found-ne0-clause-passed c =
     let less = c.places_of-found.ensures.within c.lowest.result c.lowest.ensures.set in
-    passes_part c.args.members.now c.args.bytes.now c.args.a c.args.b c.args.c c.args.d c.sixteens.at 16 c.lowest.result
-    c.requires c.sixteens.invariant.1 (omega (arith, less))
+    passes_part c.args.bytes.now c.args.a c.args.b c.args.c c.args.d c.sixteens.at 16 c.lowest.result
+    c.sixteens.invariant.1 (omega (arith, less))
     (λ k l. c.places_of-found.ensures.others k (omega (arith, l, less)) (c.lowest.ensures.below k l))
 
 pub sixteens-preserved : goal.sixteens-preserved
@@ -23,7 +23,7 @@ sixteens-preserved c =
     let within : c.sixteens.at + 16 ≤ length c.args.bytes.now =
     omega (arith, c.sixteens-test.true, c.sixteens.invariant.0) in (
       within,
-      passes_block c.args.members.now c.args.bytes.now c.args.a c.args.b c.args.c c.args.d c.sixteens.at 16 c.requires
+      passes_block c.args.bytes.now c.args.a c.args.b c.args.c c.args.d c.sixteens.at 16
           c.sixteens.invariant.1 within
           (λ k l. c.places_of-found.ensures.others k
           (let size = block_size c.args.bytes.now c.sixteens.at 16 within in omega (arith, l, size))
@@ -34,5 +34,5 @@ pub returns-then-not-has_any-clause-passed : goal.returns-then-not-has_any-claus
 returns-then-not-has_any-clause-passed c =
     let within : c.sixteens.at + 8 ≤ length c.args.bytes.now =
     omega (arith, c.if-bytes-at-ge8.true, c.sixteens.invariant.0) in
-    passes_block c.args.members.now c.args.bytes.now c.args.a c.args.b c.args.c c.args.d c.sixteens.at 8 c.requires
+    passes_block c.args.bytes.now c.args.a c.args.b c.args.c c.args.d c.sixteens.at 8
     c.sixteens.invariant.1 within (c.has_any.ensures c.if-not-has_any.true)
