@@ -149,6 +149,7 @@ impl<A: Atomicity> Tendril<Bytes, A> {
         ensures err { OnErr result (
             HandsOnUpTo (λ p t u q. P.step p (⟦<Tendril<UTF8, A> as ClosureText<T>>⟧.handed t) u q)
             push_utf8.old self.old self.new push_utf8.new) }
+        ensures callable { P.IsAlwaysCallable push_utf8.new }
     {
         let mut last = LastText::none();
         loop {
