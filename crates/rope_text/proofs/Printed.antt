@@ -3,7 +3,7 @@ use Rattle.std.proofs.Common.{◌≡◌, ℕ, List, [], ◌∷◌, ◌++◌, ref
 use Rattle.std.specs.Fmt.{HasWritten, HasWrittenStyled, IsFlush, IsPlainFormatter, WritesInCalls, formatter_writer}
 use Rattle.std.specs.List.{concat}
 use Rattle.std.specs.declared.fmt.Formatter.{Formatter}
-use Rattle.tendril_stream.proofs.Feeds.{FoldsTo-append}
+use Rattle.tendril_text.proofs.Feeds.{FoldsTo-append}
 
 concat_append : (xs ys : List (List ℕ)) → concat (xs ++ ys) ≡ concat xs ++ concat ys
 concat_append [] ys = refl

@@ -8,6 +8,7 @@ pub use Rattle.tendril_text.specs.Pushes
 pub use Rattle.tendril_text.specs.Characters
 pub use Rattle.tendril_text.specs.Comparisons
 pub use Rattle.tendril_text.specs.Decoding
+pub use Rattle.tendril_text.specs.Receivers
 pub use Rattle.tendril_text.specs.Items
 pub use Rattle.tendril_text.specs.Writes
 pub use Rattle.tendril_text.specs.Search

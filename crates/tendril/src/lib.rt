@@ -13,9 +13,9 @@ pub use tendril_lossy as lossy;
 pub use tendril_stream as stream;
 pub use tendril_stream::{ReadExt, TendrilSink};
 pub use tendril_text::{
-    ByteSet, ByteTendril, ClosureText, Field, IncompleteUtf8, IntoCharRuns, IntoChars, IntoLines,
-    IntoSplit, LastText, Members, SendTendril, SetResult, SplitAtAny, StrTendril, SubtendrilError,
-    Tendril, View, slice_to_tendril, str_to_tendril,
+    ByteSet, ByteTendril, CallsClosure, ClosureText, Field, IncompleteUtf8, IntoCharRuns,
+    IntoChars, IntoLines, IntoSplit, LastText, Members, Receiving, SendTendril, SetResult,
+    SplitAtAny, StrTendril, SubtendrilError, Tendril, View, slice_to_tendril, str_to_tendril,
 };
 
 /// Returns the text that `format!` would print.

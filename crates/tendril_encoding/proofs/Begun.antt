@@ -15,8 +15,8 @@ use Rattle.tendril_encoding.specs.declared.known.Chosen.{Chosen}
 use Rattle.tendril_encoding.specs.declared.known.Known.{Known}
 use Rattle.tendril_encoding.specs.declared.mark.Mark.{Mark}
 use Rattle.tendril_encoding.specs.declared.search.Found.TheVariants.{Marked, Plain}
-use Rattle.tendril_stream.proofs.Feeds.{Feeds-none, Feeds-weaker, Stops-more, Stops-weaker}
-use Rattle.tendril_stream.proofs.Turns.{rest_kept}
+use Rattle.tendril_text.proofs.Feeds.{Feeds-none, Feeds-weaker, Stops-more, Stops-weaker}
+use Rattle.tendril_stream.proofs.Remainders.{rest_kept}
 use Rattle.tendril_stream.specs.Sinks.{Sent}
 use Rattle.tendril_text.specs.Texts.{Text, Keeps}
 

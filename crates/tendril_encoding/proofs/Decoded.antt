@@ -21,8 +21,8 @@ use Rattle.tendril_encoding.specs.declared.known.Known.{Known}
 use Rattle.tendril_encoding.specs.declared.mark.Seen.{Seen}
 use Rattle.tendril_encoding.specs.declared.mark.Seen.TheVariants.{Nothing, Ef, EfBb, Ff, Fe}
 use Rattle.tendril_lossy.specs.Lossy.{Told, Char}
-use Rattle.tendril_stream.proofs.Feeds.{Feeds-append, Feeds-none, Feeds-same, Feeds-weaker, Grows, Stops-after}
-use Rattle.tendril_stream.proofs.Feeds.{Stops-more, Stops-weaker}
+use Rattle.tendril_text.proofs.Feeds.{Feeds-append, Feeds-none, Feeds-same, Feeds-weaker, Grows, Stops-after}
+use Rattle.tendril_text.proofs.Feeds.{Stops-more, Stops-weaker}
 use Rattle.tendril_stream.specs.Decoders.{FeedsEnd, FeedsPiece, StopsInEnd, StopsInPiece, no_piece}
 use Rattle.tendril_stream.specs.Sinks.{Sent, Piece, Fault, Feeds, IsSent, told, told_of}
 use Rattle.tendril_text.proofs.Decoding.{handed-through, long-behind}

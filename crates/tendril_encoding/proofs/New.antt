@@ -6,7 +6,7 @@ use Rattle.tendril_block.specs.Outcomes.{LengthMust, MemoryMay, Refused}
 use Rattle.tendril_block.specs.declared.refusal.Refusal.{Refusal}
 use Rattle.tendril_encoding.specs.Sends.{IsNew, IsSentIn, MayFail, IsShortOrNew, NewStops, NoMemory, text_told}
 use Rattle.tendril_lossy.specs.Lossy.{Told}
-use Rattle.tendril_stream.proofs.Feeds.{Grows, Stops-here}
+use Rattle.tendril_text.proofs.Feeds.{Grows, Stops-here}
 use Rattle.tendril_stream.specs.Decoders.{no_piece}
 use Rattle.tendril_stream.specs.Decodings.{PieceMay}
 use Rattle.tendril_stream.specs.Sinks.{Sent, Piece, Fault, IsSent, IsSentOf}

@@ -14,7 +14,7 @@ use Rattle.tendril_encoding.specs.Sends.{FeedsNew, IsSentIn, IsShortOrNew, MayFa
 use Rattle.tendril_encoding.specs.declared.known.Chosen.{Chosen}
 use Rattle.tendril_encoding.specs.declared.known.Chosen.TheVariants.{Pieces, Slices}
 use Rattle.tendril_lossy.specs.Lossy.{Char, kept}
-use Rattle.tendril_stream.proofs.Feeds.{Feeds-none, Feeds-one, Feeds-same, Feeds-weaker, Stops-call, Stops-weaker}
+use Rattle.tendril_text.proofs.Feeds.{Feeds-none, Feeds-one, Feeds-same, Feeds-weaker, Stops-call, Stops-weaker}
 use Rattle.tendril_stream.specs.Decoders.{FeedsPiece, StopsInPiece, no_piece}
 use Rattle.tendril_stream.specs.Decodings.{PieceMay, utf8}
 use Rattle.tendril_stream.specs.Sinks.{Sent, Piece, Feeds, IsSentOf, RefusesCall, Stops, told_of}

@@ -1,5 +1,4 @@
-pub mod Feeds
-pub mod Turns
+pub mod Remainders
 pub mod Ends
 pub mod Stands
 pub mod Fed

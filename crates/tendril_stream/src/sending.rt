@@ -9,7 +9,27 @@ use std::alloc::Global;
 use std::borrow::CowStr;
 use tendril_block::Refusal;
 use tendril_text::fmt::UTF8;
-use tendril_text::{Atomicity, Tendril};
+use tendril_text::{Atomicity, Receiving, Tendril, replace_by};
+
+/// By calls of a sink.
+pub struct SendsToSink;
+
+impl<A: Atomicity, S: TendrilSink<Tendril<UTF8, A>>> Receiving<S, Tendril<UTF8, A>>
+    for SendsToSink {
+    ghost takes = { S.takes };
+
+    ghost refuses = { S.refuses };
+
+    fn text(receiver: &mut S, text: Tendril<UTF8, A>) -> Result<(), Refusal> {
+        receiver.process(text).map_err(|_| Refusal::SinkRefused)
+    }
+
+    fn error(receiver: &mut S, words: &'static str) -> Result<(), Refusal> {
+        receiver
+            .error(CowStr::Borrowed(words))
+            .map_err(|_| Refusal::SinkRefused)
+    }
+}
 
 /// Sends a text to the sink. Any error of the sink becomes `SinkRefused`.
 pub fn send<S: TendrilSink<Tendril<UTF8, A>>, A: Atomicity>(
@@ -19,7 +39,7 @@ pub fn send<S: TendrilSink<Tendril<UTF8, A>>, A: Atomicity>(
     ensures ok { OnOk result (S.takes sink.old (Piece text) sink.new) }
     ensures err { IfErr result (λ r. RefusesCall S.refuses sink.old (Piece text) r sink.new) }
 {
-    sink.process(text).map_err(|_| Refusal::SinkRefused)
+    SendsToSink::text(sink, text)
 }
 
 /// Sends an error to the sink, and then U+FFFD. Any error of the sink becomes `SinkRefused`.
@@ -32,8 +52,5 @@ pub fn replace<S: TendrilSink<Tendril<UTF8, A>>, A: Atomicity>(
     ensures err { (piece : _) → IfErr result (λ r.
         Stops S.takes S.refuses (IsSentOf piece) (PieceMay piece) sink.old (replaced words.now) r sink.new) }
 {
-    if let Err(_) = sink.error(CowStr::Borrowed(words)) {
-        return Err(Refusal::SinkRefused);
-    }
-    send(sink, Tendril::from_short_str(alloc, "\u{FFFD}"))
+    replace_by::<SendsToSink, S, A>(sink, alloc, words)
 }

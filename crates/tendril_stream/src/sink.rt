@@ -2,19 +2,7 @@
 
 use std::borrow::CowStr;
 use tendril_block::Refusal;
-use tendril_text::{Atomicity, Format, Tendril};
-
-/// A text that a sink may take: a `Tendril` in any format, over any kind of block.
-pub trait StreamText: Drop {
-    ghost use Rattle.tendril_text.specs.Texts.{Text};
-
-    /// The text, as contracts see it.
-    ghost text: { Self → Text };
-}
-
-impl<F: Format, A: Atomicity> StreamText for Tendril<F, A> {
-    ghost text = { λ t. t };
-}
+pub use tendril_text::StreamText;
 
 // Generic over the type of its texts, not over a format and an atomicity as in the Rust crate: for those two the
 // toolchain generates no proof. The four ghost members are relations, not functions, so that a sink may specify less

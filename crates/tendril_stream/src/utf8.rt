@@ -1,19 +1,16 @@
 //! UTF-8 as a decoding of pieces.
-ghost use Rattle.std.specs.Prelude.{◌≡◌, ◌==◌, ◌<◌, ◌≤◌, [], ◌++◌, length, IsSomeAnd, OnOk, IfOk, IfErr};
+ghost use Rattle.std.specs.Prelude.{◌≡◌, ◌==◌, ◌<◌, ◌≤◌, [], ◌++◌, length, OnOk, IfOk, IfErr};
 ghost use Rattle.tendril_lossy.specs.Lossy.{due_open, kept};
-ghost use Rattle.std.specs.List.{FoldsTo};
-ghost use Rattle.tendril_text.specs.Decoding.{listed};
 ghost use Rattle.tendril_stream.specs.Decoders.{FeedsEnd, FeedsPiece, ResumesPiece, StopsInEnd, StopsInPiece};
 ghost use Rattle.tendril_stream.specs.Decodings.{PieceMay, utf8};
-ghost use Rattle.tendril_stream.specs.Sinks.{Piece, Feeds, IsSentOf, RefusesCall, Stops};
+ghost use Rattle.tendril_stream.specs.Sinks.{Feeds, IsSentOf, Stops};
 
 use crate::piece_decoding::PieceDecoding;
-use crate::sending::{replace, send};
+use crate::sending::{SendsToSink, replace, send};
 use crate::sink::TendrilSink;
 use std::alloc::Global;
 use std::marker::Model;
 use tendril_block::Refusal;
-use tendril_lossy::Ending;
 use tendril_text::fmt::{Bytes, UTF8};
 use tendril_text::{Atomicity, IncompleteUtf8, LastText, Tendril};
 
@@ -118,43 +115,6 @@ impl<A: Atomicity> PieceDecoding<Tendril<Bytes, A>, Tendril<UTF8, A>> for KeptUt
     }
 }
 
-// Sends a text to the sink, if there is one.
-fn send_some<S: TendrilSink<Tendril<UTF8, A>>, A: Atomicity>(
-    sink: &mut S,
-    text: Option<Tendril<UTF8, A>>,
-) -> Result<(), Refusal>
-    ensures ok { OnOk result (FoldsTo (λ s t u. S.takes s (Piece t) u) sink.old (listed text) sink.new) }
-    ensures err { IfErr result (λ r. IsSomeAnd text (λ t. RefusesCall S.refuses sink.old (Piece t) r sink.new)) }
-{
-    match text {
-        Some(text) => send(sink, text),
-        None => Ok(()),
-    }
-}
-
-// Decodes a piece when no bytes are kept, and returns the bytes to keep: those of an unfinished last character.
-fn feed_rest<S: TendrilSink<Tendril<UTF8, A>>, A: Atomicity>(
-    sink: &mut S,
-    alloc: Global,
-    last: &mut LastText,
-    mut piece: Tendril<Bytes, A>,
-) -> Result<IncompleteUtf8, Refusal>
-    ensures ok { IfOk result (λ k.
-        Feeds S.takes (IsSentOf piece) sink.old (due_open piece.bytes) sink.new × (k ≡ kept piece.bytes)) }
-    ensures err { IfErr result (λ r. Stops S.takes S.refuses (IsSentOf piece) (PieceMay piece) sink.old (due_open piece.bytes) r sink.new) }
-{
-    loop {
-        let (text, ending) = piece.pop_text_after(last)?;
-        send_some(sink, text)?;
-        match ending {
-            Ending::Whole | Ending::Open => {
-                return Ok(IncompleteUtf8::new_without_validating(piece.as_byte_slice()));
-            }
-            Ending::Broken(_) => replace(sink, alloc, INVALID)?,
-        }
-    }
-}
-
 // Completes the kept bytes from the start of a piece. Returns false if the piece ends within their character too, and
 // true if that was sent, as a text or as broken, or if no bytes were kept.
 fn resume<S: TendrilSink<Tendril<UTF8, A>>, A: Atomicity>(
@@ -192,9 +152,10 @@ fn feed<S: TendrilSink<Tendril<UTF8, A>>, A: Atomicity>(
         × (held.new ≡ kept (held.old ++ piece.bytes))) }
     ensures err { IfErr result (λ r. StopsInPiece utf8 S.takes S.refuses sink.old held.old piece r sink.new) }
 {
-    if resume(sink, alloc, held, &mut piece)? {
-        *held = feed_rest(sink, alloc, last, piece)?;
+    if !resume(sink, alloc, held, &mut piece)? {
+        return Ok(());
     }
+    *held = piece.decode_into::<SendsToSink, S>(last, sink)?;
     Ok(())
 }
 

@@ -7,6 +7,7 @@ pub mod Pushes
 pub mod Characters
 pub mod Comparisons
 pub mod Decoding
+pub mod Receivers
 pub mod Items
 pub mod Writes
 pub mod Search

@@ -17,7 +17,9 @@ pub use crate::search::SetResult;
 pub use crate::tendril::{
     ByteTendril, Field, SendTendril, StrTendril, Tendril, slice_to_tendril, str_to_tendril,
 };
-pub use crate::utf8_decode::{ClosureText, IncompleteUtf8, LastText};
+pub use crate::utf8_decode::{
+    CallsClosure, ClosureText, IncompleteUtf8, LastText, Receiving, StreamText, replace_by,
+};
 pub use crate::view::View;
 pub use tendril_block as block;
 pub use tendril_block::{Atomic, Atomicity, NonAtomic, SubtendrilError};

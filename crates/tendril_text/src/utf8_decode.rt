@@ -2,15 +2,20 @@
 //!
 //! Broken bytes are replaced by U+FFFD, one for each maximal subpart (Unicode, chapter 3, 'U+FFFD Substitution of Maximal
 //! Subparts'), as std's `from_utf8_lossy` and the WHATWG Encoding Standard do it.
-ghost use Rattle.std.specs.Prelude.{◌≡◌, ◌<◌, ◌≤◌, [], length, drop, IfOk, IfErr, OnOk, OnErr, MatchOption};
-ghost use Rattle.tendril_text.specs.Decoding.{DecodesPiece, Hands, HandsOnUpTo, IsRest, LongTextMay, PopsText, bytes_of, listed};
+ghost use Rattle.std.specs.Prelude.{◌≡◌, ◌<◌, ◌≤◌, [], length, drop, IfOk, IfErr, IsSomeAnd, OnOk, OnErr, MatchOption};
+ghost use Rattle.std.specs.List.{FoldsTo};
+ghost use Rattle.tendril_lossy.specs.Lossy.{IsOpen};
+ghost use Rattle.tendril_text.specs.Decoding.{DecodesPiece, HandsOnUpTo, IsRest, LongTextMay, PopsText, bytes_of, listed};
+ghost use Rattle.tendril_text.specs.Receivers.{Interrupts, PassesUpTo, Piece, RefusesCall};
 ghost use Rattle.tendril_block.specs.Outcomes.{NoneMust, Outcome};
 ghost use Rattle.tendril_storage.specs.Texts.{Keeps};
 
 mod incomplete;
+mod receiving;
 
 use crate::tendril::Tendril;
 pub use crate::utf8_decode::incomplete::IncompleteUtf8;
+pub use crate::utf8_decode::receiving::{CallsClosure, Receiving, StreamText, replace_by};
 use tendril_block::{Atomicity, Refusal};
 use tendril_fmt::fmt::{Bytes, Format, UTF8};
 use tendril_lossy::{Ending, first_part_by};
@@ -25,6 +30,8 @@ const MANY_BEFORE: u32 = 1024;
 const MOST_BEFORE: u32 = 2048;
 
 const REPLACEMENT: &str = "\u{FFFD}";
+
+const INVALID: &str = "invalid byte sequence";
 
 /// Converts a text to the type that a closure takes, which is the text's own type: no other type implements this.
 ///
@@ -149,18 +156,49 @@ impl<A: Atomicity> Tendril<Bytes, A> {
         ensures err { OnErr result (
             HandsOnUpTo (λ p t u q. P.step p (⟦<Tendril<UTF8, A> as ClosureText<T>>⟧.handed t) u q)
             push_utf8.old self.old self.new push_utf8.new) }
+        ensures callable { P.IsAlwaysCallable push_utf8.new }
     {
-        let mut last = LastText::none();
+        let kept = self.decode_into::<CallsClosure<T>, P>(&mut LastText::none(), push_utf8)?;
+        match kept.kept() {
+            [] => Ok(None),
+            _ => Ok(Some(kept)),
+        }
+    }
+
+    /// Decodes the bytes as a piece of a stream of UTF-8, passes texts and errors to a receiver, and returns the incomplete
+    /// bytes at the end, which are left. `last` is that of `pop_text_after`.
+    ///
+    /// W says how the receiver is called. Returns `Count` if the block has as many references as it can have; then the bytes
+    /// not decoded yet are left. Returns `SinkRefused` if the receiver returns an error. Allocates nothing.
+    ///
+    /// ```
+    /// let mut piece = ByteTendril::from_slice(alloc, b"a\xFFb\xC3")?;
+    /// let mut count = 0;
+    /// let mut push = |_part: StrTendril| count += 1;
+    /// let kept = piece.decode_into::<CallsClosure<StrTendril>, _>(&mut LastText::none(), &mut push)?;
+    /// assert_eq!(rt; kept.kept(), b"\xC3".as_slice());
+    /// assert_eq!(rt; count, 3);
+    /// ```
+    #[inline(always)]
+    pub fn decode_into<W: Receiving<S, Tendril<UTF8, A>>, S>(
+        &mut self,
+        last: &mut LastText,
+        receiver: &mut S,
+    ) -> Result<IncompleteUtf8, Refusal>
+        requires { W.is_ready receiver.old }
+        ensures ok { IfOk result (λ kept. PassesUpTo W.takes self.old self.new receiver.old receiver.new
+            × IsOpen self.new.bytes × (kept ≡ self.new.bytes)) }
+        ensures err { IfErr result (λ r. Interrupts W.takes W.refuses self.old self.new receiver.old r receiver.new) }
+        ensures ready { W.is_ready receiver.new }
+    {
         loop {
-            let (text, ending) = self.pop_text_after(&mut last)?;
-            push_some(push_utf8, text);
+            let (text, ending) = self.pop_text_after(last)?;
+            pass_some::<W, S, A>(receiver, text)?;
             match ending {
-                Ending::Whole => return Ok(None),
-                Ending::Open => {
-                    let kept = IncompleteUtf8::new_without_validating(self.as_byte_slice());
-                    return Ok(Some(kept));
+                Ending::Whole | Ending::Open => {
+                    return Ok(IncompleteUtf8::new_without_validating(self.as_byte_slice()));
                 }
-                Ending::Broken(_) => push_utf8(self.short(REPLACEMENT).hand()),
+                Ending::Broken(_) => replace_by::<W, S, A>(receiver, self.allocator(), INVALID)?,
             }
         }
     }
@@ -241,16 +279,19 @@ impl<A: Atomicity> Tendril<Bytes, A> {
     }
 }
 
-// Passes a text to the closure, if there is one.
-fn push_some<A: Atomicity, T: Drop, P: FnMut(T)>(push_utf8: &mut P, text: Option<Tendril<UTF8, A>>)
-where
-    Tendril<UTF8, A>: ClosureText<T>,
-    requires { P.IsAlwaysCallable push_utf8.old }
-    ensures hands { Hands (λ p t u q. P.step p (⟦<Tendril<UTF8, A> as ClosureText<T>>⟧.handed t) u q)
-        push_utf8.old (listed text) push_utf8.new }
-    ensures callable { P.IsAlwaysCallable push_utf8.new }
+// Passes a text on, if there is one.
+#[inline(always)]
+fn pass_some<W: Receiving<S, Tendril<UTF8, A>>, S, A: Atomicity>(
+    receiver: &mut S,
+    text: Option<Tendril<UTF8, A>>,
+) -> Result<(), Refusal>
+    requires { W.is_ready receiver.old }
+    ensures ok { OnOk result (FoldsTo (λ s t u. W.takes s (Piece t) u) receiver.old (listed text) receiver.new) }
+    ensures err { IfErr result (λ r. IsSomeAnd text (λ t. RefusesCall W.refuses receiver.old (Piece t) r receiver.new)) }
+    ensures ready { W.is_ready receiver.new }
 {
-    if let Some(text) = text {
-        push_utf8(text.hand());
+    match text {
+        Some(text) => W::text(receiver, text),
+        None => Ok(()),
     }
 }

@@ -100,6 +100,11 @@ impl<F: Format, A: Atomicity> Tendril<F, A> {
         share(&self.storage)
     }
 
+    #[inline(always)]
+    pub(crate) fn allocator(&self) -> Global {
+        self.storage.allocator()
+    }
+
     // Returns a text of at most 8 bytes, with this text's allocator.
     #[inline(always)]
     pub(crate) fn short(&self, text: &str) -> Tendril<UTF8, A>

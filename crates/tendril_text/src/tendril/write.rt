@@ -58,6 +58,7 @@ impl<A: Atomicity> Tendril<Bytes, A> {
         ensures copied { self.new.copied ≤ max self.old.copied (length self.old.bytes) }
         ensures refusal { IfErr result (MemoryMay (length self.old.bytes)) }
         ensures err { OnErr result ((self.new ≡ self.old) × (edit.new ≡ edit.old)) }
+        ensures callable { E.IsAlwaysCallable edit.old → E.IsAlwaysCallable edit.new }
     {
         self.storage.write_over(edit)
     }

@@ -228,6 +228,7 @@ impl IncompleteUtf8 {
         ensures emptied { OnOk result (self.new ≡ []) }
         ensures err { OnErr result (StillOpen self.old input.old.bytes self.new) }
         ensures back { OnErr result ((input.new ≡ input.old) × (push_utf8.new ≡ push_utf8.old)) }
+        ensures callable { P.IsAlwaysCallable push_utf8.new }
     {
         let Some(completed) = self.complete_from(input) else {
             return Err(());

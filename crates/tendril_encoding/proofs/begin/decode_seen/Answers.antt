@@ -6,7 +6,7 @@ use Rattle.tendril_encoding.specs.Known.{after_known, out_known}
 use Rattle.tendril_encoding.specs.Marks.{seen_bytes}
 use Rattle.tendril_encoding.specs.Sends.{IsShortOrNew}
 use Rattle.tendril_encoding.specs.StateLaws.{after_known-none, out_known-none}
-use Rattle.tendril_stream.proofs.Feeds.{Feeds-none, Feeds-same}
+use Rattle.tendril_text.proofs.Feeds.{Feeds-none, Feeds-same}
 use Rattle.tendril_encoding.proofs.begin.decode_seen.Goals as goal
 
 pub returns-in-Nothing-clause-ok : goal.returns-in-Nothing-clause-ok

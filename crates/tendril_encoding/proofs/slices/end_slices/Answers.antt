@@ -4,7 +4,7 @@ use Rattle.tendril_decode.specs.Machines.{broken_marks}
 use Rattle.tendril_encoding.specs.Sends.{IsShortOrNew, NoMemory, text_told}
 use Rattle.tendril_encoding.proofs.New.{no_memory_grows}
 use Rattle.tendril_encoding.proofs.Parts.{end_told, end_last, end_shorter}
-use Rattle.tendril_stream.proofs.Feeds.{Feeds-append, Feeds-same, Stops-after, Stops-more}
+use Rattle.tendril_text.proofs.Feeds.{Feeds-append, Feeds-same, Stops-after, Stops-more}
 use Rattle.tendril_encoding.proofs.slices.end_slices.Given.{Over}
 use Rattle.tendril_encoding.proofs.slices.end_slices.Goals as goal
 use Rattle.tendril_encoding.proofs.slices.end_slices.Goals.{After-send_part}

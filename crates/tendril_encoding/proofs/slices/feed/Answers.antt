@@ -5,7 +5,7 @@ use Rattle.tendril_decode.specs.Machines.{broken_marks, told_from}
 use Rattle.tendril_encoding.specs.Sends.{IsShortOrNew, NoMemory, text_told}
 use Rattle.tendril_encoding.proofs.New.{no_memory_grows}
 use Rattle.tendril_encoding.proofs.Parts.{slice_within, step_told, step_state}
-use Rattle.tendril_stream.proofs.Feeds.{Feeds-append, Stops-after, Stops-more}
+use Rattle.tendril_text.proofs.Feeds.{Feeds-append, Stops-after, Stops-more}
 use Rattle.tendril_encoding.proofs.slices.feed.Goals as goal
 
 pub loop-at-preserved : goal.loop-at-preserved

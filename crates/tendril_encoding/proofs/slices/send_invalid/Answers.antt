@@ -2,7 +2,7 @@ use Rattle.std.proofs.lemmas.Result.{IfErr-weaker, on_ok_weaker}
 use Rattle.tendril_decode.specs.Machines.{invalid}
 use Rattle.tendril_encoding.specs.Sends.{IsShortOrNew, NoMemory}
 use Rattle.tendril_encoding.proofs.New.{no_count, short_in}
-use Rattle.tendril_stream.proofs.Feeds.{Feeds-weaker, Stops-weaker}
+use Rattle.tendril_text.proofs.Feeds.{Feeds-weaker, Stops-weaker}
 use Rattle.tendril_stream.specs.Decoders.{no_piece}
 use Rattle.tendril_stream.specs.Decodings.{PieceMay}
 use Rattle.tendril_stream.specs.Sinks.{IsSentOf}

@@ -3,7 +3,7 @@ use Rattle.std.proofs.lemmas.Result.{IfErr-weaker, err_from_is_err_and, on_ok_we
 use Rattle.tendril_decode.specs.Machines.{broken_marks, invalid}
 use Rattle.tendril_encoding.specs.Sends.{FeedsNew, IsShortOrNew, NewStops, NoMemory, text_told}
 use Rattle.tendril_encoding.proofs.New.{no_memory_grows}
-use Rattle.tendril_stream.proofs.Feeds.{Feeds-append, Stops-after, Stops-more}
+use Rattle.tendril_text.proofs.Feeds.{Feeds-append, Stops-after, Stops-more}
 use Rattle.tendril_encoding.proofs.slices.send_part.Goals as goal
 
 pub returns-then-broken-clause-ok : goal.returns-then-broken-clause-ok

@@ -7,7 +7,7 @@ use Rattle.std.proofs.lemmas.Str.{chars-nil}
 use Rattle.tendril_encoding.specs.Sends.{IsNew, IsShortOrNew, NoMemory, text_told}
 use Rattle.tendril_encoding.proofs.New.{new_in, text_refused}
 use Rattle.tendril_lossy.specs.Lossy.{Char}
-use Rattle.tendril_stream.proofs.Feeds.{Feeds-none, Feeds-one, Feeds-same, Stops-call}
+use Rattle.tendril_text.proofs.Feeds.{Feeds-none, Feeds-one, Feeds-same, Stops-call}
 use Rattle.tendril_stream.specs.Sinks.{Piece, told_of}
 use Rattle.tendril_encoding.proofs.slices.send_text.Goals as goal
 

@@ -3,11 +3,11 @@ use Rattle.std.proofs.lemmas.Bool.Decides.{nat_tests}
 use Rattle.std.proofs.lemmas.Result.{IfErr-weaker, on_ok_weaker}
 use Rattle.tendril_lossy.specs.Lossy.{due, replaced}
 use Rattle.tendril_stream.specs.Decodings.{PieceMay}
-use Rattle.tendril_stream.proofs.Feeds.{piece_grows}
+use Rattle.tendril_stream.proofs.Remainders.{piece_grows}
 use Rattle.tendril_stream.specs.Sinks.{IsSentOf}
 use Rattle.tendril_stream.specs.Decoders.{no_piece}
 use Rattle.tendril_stream.proofs.Ends.{due_held, due_none}
-use Rattle.tendril_stream.proofs.Feeds.{Feeds-none, Feeds-same, Stops-more}
+use Rattle.tendril_text.proofs.Feeds.{Feeds-none, Feeds-same, Stops-more}
 use Rattle.tendril_stream.proofs.utf8.flush.Goals as goal
 
 pub returns-then-is_empty-clause-ok : goal.returns-then-is_empty-clause-ok

@@ -8,10 +8,10 @@ use Rattle.tendril_lossy.proofs.Resume.{after_text, after_broken, still_open}
 use Rattle.tendril_lossy.specs.Completions.{BreaksAt, CompletesTo}
 use Rattle.tendril_lossy.specs.Lossy.{Char, due_open, kept, replaced}
 use Rattle.tendril_stream.specs.Decodings.{PieceMay}
-use Rattle.tendril_stream.proofs.Feeds.{piece_grows}
+use Rattle.tendril_stream.proofs.Remainders.{piece_grows}
 use Rattle.tendril_stream.specs.Sinks.{IsSentOf}
-use Rattle.tendril_stream.proofs.Feeds.{Feeds-none, Feeds-one, Stops-call, Stops-more}
-use Rattle.tendril_stream.proofs.Turns.{short_handed, rest_kept}
+use Rattle.tendril_text.proofs.Feeds.{Feeds-none, Feeds-one, Stops-call, Stops-more}
+use Rattle.tendril_stream.proofs.Remainders.{short_handed, rest_kept}
 use Rattle.tendril_stream.specs.Sinks.{Piece}
 use Rattle.tendril_stream.proofs.utf8.resume.Goals as goal
 

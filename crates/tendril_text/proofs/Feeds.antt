@@ -1,12 +1,10 @@
--- Lists of calls that a sink accepted, one after another.
+-- Lists of calls that a receiver accepted, one after another.
 use Rattle.std.proofs.Common.{◌≡◌, List, [], ◌∷◌, ◌++◌, refl, sym, ap, ap₂, subst, inl, inr, ⊎_elim, ◌∙◌, append_assoc}
 use Rattle.std.proofs.Common.{append-nil}
 use Rattle.std.specs.List.{FoldsTo}
 use Rattle.std.proofs.lemmas.List.Elements.{All-append, All-nil, All-cons, All-weaker}
 use Rattle.tendril_lossy.specs.Lossy.{Told}
-use Rattle.tendril_stream.specs.Decodings.{PieceMay}
-use Rattle.tendril_text.specs.Texts.{Text}
-use Rattle.tendril_stream.specs.Sinks.{Sent, told, told_of, Feeds, IsStop, RefusesCall, Stops}
+use Rattle.tendril_text.specs.Receivers.{Sent, told, told_of, Feeds, IsStop, RefusesCall, Stops}
 use Rattle.tendril_block.specs.declared.refusal.Refusal.{Refusal}
 
 pub FoldsTo-append : {S A : Type 0} (R : S → A → S → Type 0) (a : S) (xs : List A) (b : S) (ys : List A) (c : S)
@@ -127,7 +125,3 @@ module _ {S : Type 0} (takes : S → Sent → S → Type 0) (refuses : S → Sen
       refused = h.refused;
     })) k.stop;
   }
-
--- a piece permits the same error, whatever is still to be sent of it
-pub piece_grows : (piece : Text) → Grows (PieceMay piece)
-piece_grows piece x y r h = h
