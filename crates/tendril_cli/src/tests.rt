@@ -5,6 +5,7 @@ mod decoding;
 mod failing;
 mod lines;
 mod notes;
+mod writes;
 
 use crate::program::program;
 use notes::Notes;

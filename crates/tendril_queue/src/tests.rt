@@ -1,4 +1,4 @@
-//! Patterns that are cut between texts.
+//! Patterns that are cut between texts, and texts that have blocks.
 
 use crate::{EatResult, TextQueue};
 use std::test::Fail;
@@ -20,5 +20,27 @@ fn a_pattern_over_three_texts(rt: HostRuntime) -> Result<(), Fail> {
     assert_eq!(rt; queue.eat_ignore_ascii_case("<!docType"), EatResult::Eaten);
     assert_eq!(rt; queue.eat(" é"), EatResult::Eaten);
     assert_eq!(rt; queue.is_empty(), true);
+    Ok(())
+}
+
+// Texts of more than 8 bytes have blocks. `.ci/leaks` checks that each is freed, popped or not.
+#[test]
+fn texts_in_blocks(rt: HostRuntime) -> Result<(), Fail> {
+    let alloc = rt.alloc();
+    let mut queue: TextQueue = TextQueue::new(alloc);
+    for text in [
+        "the first text",
+        "the second text",
+        "the third text",
+        "the last text",
+    ] {
+        queue.push_back(StrTendril::from_slice(alloc, text)?)?;
+    }
+    let is_first = queue
+        .pop_front()
+        .is_some_and(|text| text.eq_str("the first text"));
+    assert_eq!(rt; is_first, true);
+    assert_eq!(rt; queue.eat("the second textthe"), EatResult::Eaten);
+    assert_eq!(rt; queue.next(), Some(' '));
     Ok(())
 }

@@ -36,8 +36,13 @@ pub struct Stopped<S> {
     pub sink: Option<S>,
 }
 
-/// Prints the name of the error.
+/// Prints the number and the name of the error, as `9 Io`.
 impl<S: Drop> fmt::Display for Stopped<S> {
+    ghost use Rattle.std.specs.Prelude.{◌++◌, Some, codes, decimal};
+    ghost use Rattle.tendril_block.specs.Refusals.{number_of, name_of};
+
+    ghost output = { λ s. Some (decimal (number_of s.refusal) ++ codes " " ++ name_of s.refusal) };
+
     fn fmt<W: fmt::Write>(&self, f: &mut fmt::Formatter<W>) -> fmt::Result {
         write!(f, "{}", self.refusal)
     }

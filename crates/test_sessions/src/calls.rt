@@ -5,7 +5,11 @@
 //!
 //! | Line | What it does | Reply |
 //! |---|---|---|
-//! | `from_strs "A" "B"`, .. | creates a text by the call of this name; `sent "A"` sends it there and back | `slot S` |
+//! | `from_strs "A" "B"`, .. | creates a text by the call of this name | `slot S` |
+//! | `from_string "A" N` | as `from_string "A"`, of a string with capacity for N bytes | `slot S` |
+//! | `from_slice_of S` | creates a text of a slot's bytes by `from_slice` | `slot S` |
+//! | `sent "A"`, `sent "A" N` | creates a text, in the second case with capacity for N bytes, and sends it there and back | `slot S` |
+//! | `sent_after_clone "A"` | as `sent "A"`, after a clone was made and dropped | `slot S` |
 //! | `extend_strs S "A" "B"`, .. | extends by the call of this name; `extend_tendrils S S S` by texts | `slot S` |
 //! | `until S "SET"`, `after S "SET"` | what `pop_front_until` returns, and what it leaves | `slot S` |
 //! | `split S N`, `left S N` | what `try_split_to` returns, and what it leaves | `slot S` |
@@ -84,6 +88,7 @@ fn made<A: Atomicity>(
     }
     match verb {
         "from_tendrils" => items::of_texts(alloc, table, words),
+        "from_slice_of" => making::of_slot(alloc, table, words),
         _ if verb.starts_with("extend_") => items::extend(alloc, table, verb, words),
         _ => parts::part(table, verb, words),
     }
@@ -111,6 +116,14 @@ fn set_of(bytes: &[u8]) -> Result<ByteSet, Refusal> {
 // The first string of a line.
 fn string_of(words: &str) -> &str {
     words.split('"').nth(1).unwrap_or("")
+}
+
+// The number after the first string of a line, 0 if there is none.
+fn capacity_of(words: &str) -> Result<u32, Refusal> {
+    match words.split_once("\" ") {
+        Some((_, capacity)) => number(capacity),
+        None => Ok(0),
+    }
 }
 
 fn strings_of(alloc: Global, words: &str) -> Result<Vec<&str>, Refusal> {

@@ -1,8 +1,9 @@
 //! Calls that create a text.
 
-use crate::calls::{string_of, strings_of};
+use crate::calls::{capacity_of, slot_and_words, string_of, strings_of};
 use std::alloc::Global;
 use tendril_block::{Atomicity, Refusal};
+use tendril_run::{Slot, Table};
 use tendril_text::fmt::{Bytes, Format, UTF8};
 use tendril_text::{Tendril, slice_to_tendril, str_to_tendril};
 
@@ -17,7 +18,7 @@ pub fn string<A: Atomicity>(
         "from_slice" => Tendril::<UTF8, A>::from_slice(alloc, string),
         "from_str" => Tendril::<UTF8, A>::from_str(alloc, string),
         "str_to_tendril" => sent(str_to_tendril(alloc, string)?),
-        "from_string" => Tendril::<UTF8, A>::from_string(alloc, String::from_str(alloc, string)?),
+        "from_string" => Tendril::<UTF8, A>::from_string(alloc, roomy_string(alloc, words)?),
         "from_chars" => Tendril::<UTF8, A>::from_chars(alloc, string.chars()),
         "from_char" => Tendril::<UTF8, A>::from_char(alloc, string.chars().next().unwrap_or('?')),
         "format" => Tendril::<UTF8, A>::format(alloc, &string),
@@ -25,6 +26,13 @@ pub fn string<A: Atomicity>(
         _ => return Ok(None),
     };
     Ok(Some(made?))
+}
+
+// The string of a line, with the line's capacity.
+fn roomy_string(alloc: Global, words: &str) -> Result<String, Refusal> {
+    let mut string = String::with_capacity(alloc, capacity_of(words)? as usize)?;
+    string.push_str(string_of(words))?;
+    Ok(string)
 }
 
 fn of_strings<A: Atomicity>(
@@ -44,7 +52,8 @@ pub fn bytes<A: Atomicity>(
     let bytes = string_of(words).as_bytes();
     let made = match verb {
         "slice_to_tendril" => sent(slice_to_tendril(alloc, bytes)?),
-        "sent" => sent(Tendril::<Bytes, A>::from_slice(alloc, bytes)?),
+        "sent" => sent(roomy_text::<A>(alloc, words)?),
+        "sent_after_clone" => sent(cloned(Tendril::<Bytes, A>::from_slice(alloc, bytes)?)?),
         "from_byte_slice" => Tendril::<Bytes, A>::from_slice(alloc, bytes),
         "from_byte_slice_without_validating" => {
             Tendril::from_byte_slice_without_validating(alloc, bytes)
@@ -57,6 +66,19 @@ pub fn bytes<A: Atomicity>(
     Ok(Some(made?))
 }
 
+// A text of a line's bytes, with the line's capacity if it has one.
+fn roomy_text<A: Atomicity>(alloc: Global, words: &str) -> Result<Tendril<Bytes, A>, Refusal> {
+    let mut text = Tendril::with_capacity(alloc, capacity_of(words)?)?;
+    text.push_slice(string_of(words).as_bytes())?;
+    Ok(text)
+}
+
+// A text after a clone of it was dropped.
+fn cloned<A: Atomicity>(text: Tendril<Bytes, A>) -> Result<Tendril<Bytes, A>, Refusal> {
+    drop(text.clone()?);
+    Ok(text)
+}
+
 // Makes a text sendable and converts it back. It is the only reference to its block, so this allocates nothing.
 fn sent<F: Format, A: Atomicity, B: Atomicity>(
     text: Tendril<F, A>,
@@ -64,6 +86,26 @@ fn sent<F: Format, A: Atomicity, B: Atomicity>(
     match text.into_send() {
         Ok(sent) => Tendril::from_send(sent).map_err(|_| Refusal::Invalid),
         Err(_) => Err(Refusal::Invalid),
+    }
+}
+
+/// A text of the bytes of a slot, by `from_slice`.
+pub fn of_slot<A: Atomicity>(
+    alloc: Global,
+    table: &Table<A>,
+    words: &str,
+) -> Result<Option<Slot<A>>, Refusal> {
+    let (number, _) = slot_and_words(words)?;
+    match table.slot(number) {
+        Some(Slot::Utf8(text)) => {
+            let copy = Tendril::<UTF8, A>::from_slice(alloc, text.as_str())?;
+            Ok(Some(Slot::Utf8(copy)))
+        }
+        Some(Slot::Bytes(text)) => {
+            let copy = Tendril::<Bytes, A>::from_slice(alloc, text.as_byte_slice())?;
+            Ok(Some(Slot::Bytes(copy)))
+        }
+        _ => Err(Refusal::WrongFormat),
     }
 }
 
