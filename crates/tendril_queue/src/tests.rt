@@ -1,4 +1,4 @@
-//! Patterns that are cut between texts.
+//! Patterns and lines that are cut between texts.
 
 use crate::{EatResult, TextQueue};
 use std::test::Fail;
@@ -20,5 +20,32 @@ fn a_pattern_over_three_texts(rt: HostRuntime) -> Result<(), Fail> {
     assert_eq!(rt; queue.eat_ignore_ascii_case("<!docType"), EatResult::Eaten);
     assert_eq!(rt; queue.eat(" é"), EatResult::Eaten);
     assert_eq!(rt; queue.is_empty(), true);
+    Ok(())
+}
+
+#[test]
+fn a_line_over_three_texts(rt: HostRuntime) -> Result<(), Fail> {
+    let alloc = rt.alloc();
+    let mut queue: TextQueue = TextQueue::new(alloc);
+    queue.push_back(StrTendril::from_slice(alloc, "one\ntw")?)?;
+    assert_eq!(rt;
+        queue.pop_line()?.is_some_and(|line| line.eq_str("one\n")),
+        true
+    );
+    queue.push_back(StrTendril::from_slice(alloc, "o and more")?)?;
+    assert_eq!(rt; queue.pop_line()?.is_none(), true);
+    queue.push_back(StrTendril::from_slice(alloc, "\r\n\nthree")?)?;
+    assert_eq!(rt;
+        queue
+            .pop_line()?
+            .is_some_and(|line| line.eq_str("two and more\r\n")),
+        true
+    );
+    assert_eq!(rt;
+        queue.pop_line()?.is_some_and(|line| line.eq_str("\n")),
+        true
+    );
+    assert_eq!(rt; queue.pop_line()?.is_none(), true);
+    assert_eq!(rt; queue.eat("three"), EatResult::Eaten);
     Ok(())
 }
