@@ -25,6 +25,7 @@ pub use Rattle.tendril_stream.specs.Compositions
 pub use Rattle.tendril_stream.specs.Reads
 pub use Rattle.tendril_stream.specs.Readings
 pub use Rattle.tendril_stream.specs.Stored
+pub use Rattle.tendril_stream.specs.Lines
 pub use Rattle.tendril_lossy.specs.Lossy
 pub use Rattle.tendril_lossy.specs.Completions
 pub use Rattle.tendril_lossy.specs.declared.search.Ending

@@ -10,6 +10,7 @@ pub use Rattle.tendril_fmt.proofs.Wtf8Joins
 pub use Rattle.tendril_lossy.proofs.Told
 pub use Rattle.tendril_lossy.specs.Laws
 pub use Rattle.tendril_stream.proofs.Fed
+pub use Rattle.tendril_stream.proofs.Handed
 pub use Rattle.tendril_stream.proofs.Halted
 pub use Rattle.tendril_stream.proofs.Refused
 pub use Rattle.tendril_stream.proofs.Stands

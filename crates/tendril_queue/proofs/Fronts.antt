@@ -177,7 +177,7 @@ first_of xs t ys e each =
     let one = All-head IsQueued t ys all in
     first_some t ys one.valid one.some (All-tail IsQueued t ys all)
 
-some_bytes : (b : List ℕ) → (b ≡ [] → ⊥) → 0 < length b
+pub some_bytes : (b : List ℕ) → (b ≡ [] → ⊥) → 0 < length b
 some_bytes [] other = absurd (other refl)
 some_bytes (x ∷ xs) other = omega arith
 

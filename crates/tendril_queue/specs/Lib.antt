@@ -1,3 +1,4 @@
 -- The definitions that contracts on queues of texts cite.
 pub mod Queues
 pub mod Eating
+pub mod Lines

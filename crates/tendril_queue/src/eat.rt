@@ -151,7 +151,7 @@ fn look_in<A: Atomicity>(
 }
 
 // Removes the first `count` bytes, which are UTF-8, of a first text and those after it, and the texts that this empties.
-fn drop_front<A: Atomicity>(
+pub(crate) fn drop_front<A: Atomicity>(
     first: &mut Tendril<UTF8, A>,
     rest: &mut VecDeque<Tendril<UTF8, A>>,
     count: usize,

@@ -2,6 +2,7 @@
 #![tactic(auto)]
 
 mod eat;
+mod lines;
 mod queue;
 #[cfg(test)]
 mod tests;

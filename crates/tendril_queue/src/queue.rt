@@ -32,7 +32,7 @@ pub struct TextQueue<A: Atomicity = NonAtomic> {
     // Empty only if the queue is empty.
     pub(crate) first: Tendril<UTF8, A>,
     pub(crate) rest: VecDeque<Tendril<UTF8, A>>,
-    alloc: Global,
+    pub(crate) alloc: Global,
 }
 
 impl<A: Atomicity> Model for TextQueue<A> {

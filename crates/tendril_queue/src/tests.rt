@@ -1,4 +1,4 @@
-//! Patterns that are cut between texts, and texts that have blocks.
+//! Patterns and lines that are cut between texts, and texts that have blocks.
 
 use crate::{EatResult, TextQueue};
 use std::test::Fail;
@@ -42,5 +42,32 @@ fn texts_in_blocks(rt: HostRuntime) -> Result<(), Fail> {
     assert_eq!(rt; is_first, true);
     assert_eq!(rt; queue.eat("the second textthe"), EatResult::Eaten);
     assert_eq!(rt; queue.next(), Some(' '));
+    Ok(())
+}
+
+#[test]
+fn a_line_over_three_texts(rt: HostRuntime) -> Result<(), Fail> {
+    let alloc = rt.alloc();
+    let mut queue: TextQueue = TextQueue::new(alloc);
+    queue.push_back(StrTendril::from_slice(alloc, "one\ntw")?)?;
+    assert_eq!(rt;
+        queue.pop_line()?.is_some_and(|line| line.eq_str("one\n")),
+        true
+    );
+    queue.push_back(StrTendril::from_slice(alloc, "o and more")?)?;
+    assert_eq!(rt; queue.pop_line()?.is_none(), true);
+    queue.push_back(StrTendril::from_slice(alloc, "\r\n\nthree")?)?;
+    assert_eq!(rt;
+        queue
+            .pop_line()?
+            .is_some_and(|line| line.eq_str("two and more\r\n")),
+        true
+    );
+    assert_eq!(rt;
+        queue.pop_line()?.is_some_and(|line| line.eq_str("\n")),
+        true
+    );
+    assert_eq!(rt; queue.pop_line()?.is_none(), true);
+    assert_eq!(rt; queue.eat("three"), EatResult::Eaten);
     Ok(())
 }

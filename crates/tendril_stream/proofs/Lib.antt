@@ -7,3 +7,7 @@ pub mod Own
 pub mod Walks
 pub mod Refused
 pub mod Halted
+pub mod LineCuts
+pub mod LineTurns
+pub mod LineLaws
+pub mod Handed

@@ -17,11 +17,12 @@ use Rattle.std.specs.Prelude.{
   Some,
   None,
 }
+use Rattle.std.specs.List.{Contains}
 use Rattle.std.specs.Iterator.{YieldsThen}
 use Rattle.tendril_block.specs.declared.refusal.Refusal.{Refusal}
 use Rattle.tendril_text.specs.Texts.{Text}
 use Rattle.tendril_lossy.specs.Lossy.{Told}
-use Rattle.tendril_stream.specs.Decoders.{Decodes, Ends, EndStops, StopsInPiece}
+use Rattle.tendril_stream.specs.Decoders.{Decodes, Ends, EndStops, StopsInPiece, no_piece}
 use Rattle.tendril_stream.specs.Decodings.{Decoding}
 use Rattle.tendril_stream.specs.Reads.{OneRead, Gave, CameToEnd, MayReadOn, StopsWith, given}
 use Rattle.tendril_stream.specs.Sinks.{Sent, Piece, IsSent, told_of}
@@ -47,6 +48,11 @@ pub record Composes {K S O : Type 0} (decoding : Decoding K) (takes : S → Sent
       → Decodes decoding takes sink k (Piece piece) next l → StandsAt decoding after next l (b ++ piece.bytes)
   pub ends : (sink : S) (k : K) (b : List ℕ) (out : O) → StandsAt decoding after sink k b
       → Ends decoding takes finishes sink k out → (last : S) × after last (decoding.decoded b) × finishes last out
+
+-- what a decoder may send of one of these pieces, or at the end of their stream
+abbrev pub IsSentOfOne : {K : Type 0} → Decoding K → List Text → Sent → Type 0
+IsSentOfOne {K} decoding pieces e =
+    (k : K) × (((piece : Text) × Contains pieces piece × decoding.fit k piece e) ⊎ decoding.fit k no_piece e)
 
 -- Decoding the pieces of an iterator stopped with an error, at one piece or at the end. The sink was sent the decoding
 -- of the pieces before, and a prefix of what that piece or the end adds.

@@ -9,3 +9,5 @@ pub mod Compositions
 pub mod Reads
 pub mod Readings
 pub mod Stored
+pub mod Lines
+pub mod LineStarts

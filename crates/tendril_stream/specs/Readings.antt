@@ -13,6 +13,8 @@ use Rattle.std.specs.Prelude.{
   ◌∷◌,
   ◌++◌,
   length,
+  map,
+  flat_map,
   All,
   Option,
   Some,
@@ -55,6 +57,17 @@ read_for End = CameToEnd
 -- a piece of one read: 1 to 4096 bytes
 abbrev pub IsReadPiece : Text → Type 0
 IsReadPiece piece = (0 < length piece.bytes) × (length piece.bytes ≤ 4096)
+
+abbrev pub bytes_given : OneRead → List (List ℕ)
+bytes_given (Gave bytes) = bytes ∷ []
+bytes_given WasInterrupted = []
+bytes_given HasFailed = []
+bytes_given CameToEnd = []
+
+-- the pieces of these reads, one for each read that returned bytes
+pub record AreReadPieces (these : List OneRead) (pieces : List Text) : Type 0 where
+  pub bytes : map (λ p. p.bytes) pieces ≡ flat_map bytes_given these
+  pub each : All IsReadPiece pieces
 
 -- what a read returned: such a piece, an interruption, or the end, where `remaining` has no bytes if it is known
 abbrev pub IsReadPart : {A B : _} → Part A B → Option (List ℕ) → Type 0

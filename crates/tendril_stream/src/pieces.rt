@@ -1,12 +1,12 @@
 //! Decoding of streams that come as an iterator of pieces.
-ghost use Rattle.std.specs.Prelude.{◌≡◌, List, [], None, flat_map, IfOk, IfErr};
+ghost use Rattle.std.specs.Prelude.{◌≡◌, List, [], None, flat_map, All, IfOk, IfErr};
 ghost use Rattle.std.specs.Iterator.{IsFiniteIterable, YieldsThen};
 ghost use Rattle.tendril_text.specs.Texts.{Text};
 ghost use Rattle.tendril_lossy.specs.Lossy.{due};
-ghost use Rattle.tendril_stream.specs.Compositions.{PiecesStop};
+ghost use Rattle.tendril_stream.specs.Compositions.{IsSentOfOne, PiecesStop};
 ghost use Rattle.tendril_stream.specs.Decodings.{utf8};
 ghost use Rattle.tendril_stream.specs.Events.{sent};
-ghost use Rattle.tendril_stream.specs.Sinks.{told};
+ghost use Rattle.tendril_stream.specs.Sinks.{Feeds, told};
 
 use crate::accumulate::{Accumulate, Event};
 use crate::decoder::Utf8LossyDecoder;
@@ -35,6 +35,9 @@ pub fn decode_pieces<A: Atomicity, I: IntoIterator<Item = Tendril<Bytes, A>>>(
     ensures ok { IfOk result (λ events. (it : I.IntoIter) × (end : I.IntoIter) × (read : List Text)
         × I.into_iter_gives pieces it × YieldsThen I.IntoIter.next_gives it read None end
         × (told (sent events.items) ≡ due (flat_map (λ p. p.bytes) read))) }
+    ensures shares { IfOk result (λ events. (it : I.IntoIter) × (end : I.IntoIter) × (read : List Text)
+        × I.into_iter_gives pieces it × YieldsThen I.IntoIter.next_gives it read None end
+        × All (IsSentOfOne utf8 read) (sent events.items)) }
     ensures refusal { IfErr result (λ r. PiecesStop utf8 I.into_iter_gives I.IntoIter.next_gives
         ⟦<Accumulate<A> as TendrilSink<Tendril<UTF8, A>>>⟧.takes ⟦<Accumulate<A> as TendrilSink<Tendril<UTF8, A>>>⟧.refuses
         ⟦<Accumulate<A> as TendrilSink<Tendril<UTF8, A>>>⟧.ends ⟦<Accumulate<A> as Tracks<Tendril<UTF8, A>>>⟧.after pieces r) }
@@ -61,6 +64,10 @@ pub fn decode_pieces_into<
     ensures ok { IfOk result (λ out. (it : I.IntoIter) × (end : I.IntoIter) × (read : List Text)
         × I.into_iter_gives pieces it × YieldsThen I.IntoIter.next_gives it read None end
         × ((last : S) × S.after last (due (flat_map (λ p. p.bytes) read)) × S.finishes last out)) }
+    ensures shares { IfOk result (λ out. (it : I.IntoIter) × (end : I.IntoIter) × (read : List Text)
+        × I.into_iter_gives pieces it × YieldsThen I.IntoIter.next_gives it read None end
+        × ((last : S) × Feeds S.takes (IsSentOfOne utf8 read) sink (due (flat_map (λ p. p.bytes) read)) last
+        × S.finishes last out)) }
     ensures refusal { IfErr result (λ r.
         PiecesStop utf8 I.into_iter_gives I.IntoIter.next_gives S.takes S.refuses S.ends S.after pieces r) }
 {

@@ -1,13 +1,14 @@
 //! Reading into a sink.
-ghost use Rattle.std.specs.Prelude.{◌≡◌, ◌≤◌, ◌+◌, ◌⊎◌, List, [], ◌∷◌, ◌++◌, length, take, drop, Some, false, IfOk, IfErr, OnErr};
+ghost use Rattle.std.specs.Prelude.{◌≡◌, ◌≤◌, ◌+◌, ◌⊎◌, List, [], ◌∷◌, ◌++◌, length, take, drop, All, Some, false, IfOk, IfErr, OnErr};
 ghost use Rattle.std.specs.Io.KnownBytes.{IsAtEnd, Keeps, ReadConsumes};
 ghost use Rattle.tendril_lossy.specs.Lossy.{due};
-ghost use Rattle.tendril_stream.specs.Compositions.{StandsAt, StreamStops};
+ghost use Rattle.tendril_stream.specs.Compositions.{IsSentOfOne, StandsAt, StreamStops};
 ghost use Rattle.tendril_stream.specs.Decodings.{utf8};
 ghost use Rattle.tendril_stream.specs.Events.{sent};
-ghost use Rattle.tendril_stream.specs.Readings.{Halts, IsOfReading, IsReadPart, MakesReads, ReadStops, ReadsAll, ReadsOnce, StopsBetween, read_for};
+ghost use Rattle.tendril_stream.specs.Readings.{AreReadPieces, Halts, IsOfReading, IsReadPart, MakesReads, ReadStops, ReadsAll, ReadsOnce, StopsBetween, read_for};
 ghost use Rattle.tendril_stream.specs.Reads.{OneRead, CameToEnd, HasFailed, StopsWith, given, read_of};
 ghost use Rattle.tendril_stream.specs.Sinks.{told};
+ghost use Rattle.tendril_text.specs.Texts.{Text};
 
 use crate::accumulate::{Accumulate, Event};
 use crate::counted::Counted;
@@ -194,7 +195,8 @@ pub fn decode_reader<A: Atomicity, R: CountedRead>(
 ) -> Result<Vec<Event<A>>, Stopped<Utf8LossyDecoder<Accumulate<A>, A>>>
     ensures ok { IfOk result (λ events. (these : List OneRead) × MakesReads R.history R.remaining reader.old these reader.new
         × IsAtEnd (R.remaining reader.new) × (told (sent events.items) ≡ due (given these))
-        × StopsWith CameToEnd these × (length these ≤ max_reads)) }
+        × StopsWith CameToEnd these × (length these ≤ max_reads)
+        × ((pieces : List Text) × AreReadPieces these pieces × All (IsSentOfOne utf8 pieces) (sent events.items))) }
     ensures stopped { IfErr result (λ s. (these : List OneRead) × MakesReads R.history R.remaining reader.old these reader.new
         × (IsOfReading s.refusal → StopsBetween max_reads these s.refusal
         × ((d : _) × (s.sink ≡ Some d) × (d.failed ≡ false)

@@ -8,3 +8,4 @@ mod once;
 mod readers;
 mod sinks;
 mod slow;
+mod whole_lines;

@@ -1,5 +1,6 @@
 use Rattle.std.proofs.Common.{⊎_elim, inl, inr}
 use Rattle.std.proofs.lemmas.Result.{IfOk-weaker, IfErr-weaker}
+use Rattle.tendril_stream.proofs.Handed.{handed_all}
 use Rattle.tendril_stream.specs.Decodings.{utf8}
 use Rattle.tendril_stream.specs.Utf8Laws.{is_utf8}
 use Rattle.tendril_stream.proofs.Own.{unfailed}
@@ -23,6 +24,15 @@ returns-clause-ok g c = IfOk-weaker c.from_iter.result _ _ (λ out h.
       ends_at utf8 is_utf8 g.S.TendrilSink.takes g.S.Tracks.after
           g.met.S.Tracks.goes_on g.S.TendrilSink.finishes h.0.inner_sink h.0.kept (bytes_of a.sent) out all h.2.1,
     ))
+    c.from_iter.ensures.ok
+
+pub returns-clause-shares : goal.returns-clause-shares
+returns-clause-shares g c = IfOk-weaker c.from_iter.result _ _ (λ out h.
+    let a = h.1 in
+    let sends = handed_all utf8 is_utf8 g.S.TendrilSink.takes (λ d. d.inner_sink) (λ d. d.kept) (λ d. d.failed)
+    g.S.TendrilSink.finishes a.sent c.new.result h.0 c.args.sink out c.new.ensures.sink c.new.ensures.kept a.calls
+    h.2.1 in
+    (a.iterator, a.last, a.sent, a.made, a.yields, (sends.0, sends.2, sends.1)))
     c.from_iter.ensures.ok
 
 pub returns-clause-refusal : goal.returns-clause-refusal

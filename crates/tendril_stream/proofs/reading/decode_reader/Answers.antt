@@ -3,7 +3,9 @@ use Rattle.std.proofs.lemmas.Result.{IfErr-weaker, IfOk-weaker}
 use Rattle.tendril_stream.specs.Decodings.{utf8}
 use Rattle.tendril_stream.specs.Utf8Laws.{is_utf8}
 use Rattle.tendril_stream.proofs.Own.{process_clash, end_clash}
+use Rattle.tendril_stream.proofs.Handed.{each_stored, handed_read}
 use Rattle.tendril_stream.proofs.Refused.{stands_read, stream_stops}
+use Rattle.tendril_stream.specs.Compositions.{IsSentOfOne}
 use Rattle.tendril_stream.proofs.Stands.{ends_at}
 use Rattle.tendril_stream.specs.Events.{sent}
 use Rattle.tendril_stream.specs.Reads.{given}
@@ -23,7 +25,23 @@ returns-clause-ok g c = IfOk-weaker c.read_decoded.result _ _ (λ out h.
     let e = ends_at utf8 is_utf8 _ (λ a t. told (sent a.events.items) ≡ t)
     (λ t a e b is_sent h c. stored_on (sent a.events.items) (sent b.events.items) e t c h)
     (λ a o. o.items ≡ a.events.items) all.last.inner_sink all.last.kept (given h.0) out stands.0 all.finished.1 in
-    (h.0, h.1, h.2, ap (λ l. told (sent l)) e.2 ∙ e.1, all.ends, all.within)) c.read_decoded.ensures.ok
+    let read = handed_read utf8 is_utf8 (λ a e b. sent b.events.items ≡ sent a.events.items ++ e ∷ [])
+    (λ d. d.inner_sink) (λ d. d.kept) (λ d. d.failed) (λ a o. o.items ≡ a.events.items) h.0 d all.last c.new.result out
+    c.new-decoder.ensures.sink c.new-decoder.ensures.kept all.receives all.finished.1 in
+    let sends = read.2 in (
+      h.0,
+      h.1,
+      h.2,
+      ap (λ l. told (sent l)) e.2 ∙ e.1,
+      all.ends,
+      all.within,
+      (
+        read.0,
+        read.1,
+        each_stored (IsSentOfOne utf8 read.0) (λ a. sent a.events.items) sends.2.sent c.new.result sends.0
+            (ap sent c.new.ensures) sends.2.calls sends.2.each (sent out.items) (ap sent sends.1),
+      ),
+    )) c.read_decoded.ensures.ok
 
 pub returns-clause-stopped : goal.returns-clause-stopped
 returns-clause-stopped g c = IfErr-weaker c.read_decoded.result _ _ (λ s h. (

@@ -1,0 +1,26 @@
+use Rattle.std.proofs.Common.{◌<◌, ◌∙◌, length, subst, sym, arith}
+use Rattle.std.proofs.lemmas.List.{get_or_default}
+use Rattle.tendril_queue.proofs.LineEnds.{lf_more}
+use Rattle.tendril_queue.specs.Lines.{EndsFirstLine}
+use Rattle.tendril_text.specs.Texts.{Text}
+use Rattle.tendril_queue.proofs.lines.find_feed.Goals as goal
+
+pub returns-in-Some-clause-some : goal.returns-in-Some-clause-some
+returns-in-Some-clause-some g c =
+    let xs = c.args.texts.now.items in
+    let t = c.index.result.now in
+    let at = c.loop-index.index in
+    let len = c.args.texts.now.ok.0 in
+    let inside : at < length xs = omega arith in
+    record {
+      inside = inside;
+      lacks = c.loop-index.invariant;
+      line = λ u is. subst (λ (x : Text). EndsFirstLine x.bytes c.in-Some.count)
+          (c.index.ensures ∙ get_or_default xs at t u inside ∙ sym is) c.in-Some.ensures.some;
+    }
+
+pub loop-index-preserved : goal.loop-index-preserved
+loop-index-preserved g c =
+    let len = c.args.texts.now.ok.0 in
+    lf_more c.args.texts.now.items c.loop-index.index c.index.result.now (omega arith) c.index.ensures
+    c.loop-index.invariant c.in_default.ensures.none
