@@ -1,30 +1,5 @@
 -- The lines that a text completes, sent one after another.
-use Rattle.std.proofs.Common.{
-  ◌≡◌,
-  ℕ,
-  ◌+◌,
-  ◌<◌,
-  ◌≤◌,
-  ◌⊎◌,
-  List,
-  [],
-  ◌∷◌,
-  ◌++◌,
-  length,
-  drop,
-  refl,
-  sym,
-  ap,
-  subst,
-  ◌∙◌,
-  arith,
-  inl,
-  inr,
-  ⊎_elim,
-  append_assoc,
-  append-nil,
-  length-append,
-}
+use Rattle.std.proofs.Common.{◌≡◌, ℕ, ◌<◌, ◌≤◌, ◌⊎◌, List, [], ◌∷◌, ◌++◌, length, refl, sym, ap, subst, ◌∙◌, arith, inl, inr, append_assoc, append-nil, length-append}
 use Rattle.std.proofs.lemmas.Fn.{FoldsTo-push}
 use Rattle.std.proofs.lemmas.List.Concat.{flat_map-append}
 use Rattle.std.proofs.lemmas.List.Elements.{All-nil, All-push}
@@ -33,15 +8,7 @@ use Rattle.std.specs.Prelude.{All, IsUtf8}
 use Rattle.tendril_block.specs.declared.refusal.Refusal.{Refusal}
 use Rattle.tendril_fmt.specs.Parts.{IsEndOf}
 use Rattle.tendril_stream.specs.LineStarts.{CompletesLine, CompletionStops, KeepsMore}
-use Rattle.tendril_stream.specs.Lines.{
-  HasLongNextLine,
-  IsWholeLine,
-  JoinStops,
-  SendsLines,
-  StopsInLines,
-  in_one_text,
-  joined_bytes,
-}
+use Rattle.tendril_stream.specs.Lines.{IsWholeLine, JoinStops, SendsLines, StopsInLines, in_one_text, joined_bytes}
 use Rattle.tendril_stream.specs.Sinks.{Sent, Piece, RefusesCall}
 use Rattle.tendril_text.proofs.Decoding.{part-through, rest-through}
 use Rattle.tendril_text.specs.Decoding.{IsRest}
