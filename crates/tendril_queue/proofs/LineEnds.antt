@@ -15,7 +15,6 @@ use Rattle.std.proofs.Common.{
   get_or,
   take,
   slice_index,
-  refl,
   sym,
   ap,
   subst,

@@ -1,8 +1,8 @@
 -- What a decoder sent of the pieces of a stream.
-use Rattle.std.proofs.Common.{◌≡◌, ℕ, ◌+◌, ◌<◌, Bool, false, List, [], ◌∷◌, ◌++◌, length, refl, sym, ap, subst, ◌∙◌}
+use Rattle.std.proofs.Common.{◌≡◌, ℕ, Bool, false, List, [], ◌∷◌, ◌++◌, refl, sym, ap, subst, ◌∙◌}
 use Rattle.std.proofs.Common.{ap₂, arith, append_assoc, append-nil, inl, inr, ⊎_elim}
 use Rattle.std.proofs.lemmas.List.Elements.{All-cons, All-nil, Contains-append_right}
-use Rattle.std.specs.List.{Contains, FoldsTo}
+use Rattle.std.specs.List.{FoldsTo}
 use Rattle.std.specs.Prelude.{All}
 use Rattle.tendril_lossy.specs.Lossy.{Told}
 use Rattle.tendril_stream.proofs.Feeds.{Feeds-append, Feeds-none, Feeds-same, Feeds-weaker}

@@ -42,7 +42,7 @@ use Rattle.tendril_stream.specs.Lines.{
   text_of_call,
   texts_of_calls,
 }
-use Rattle.tendril_stream.specs.Sinks.{Sent, Piece, Fault, IsSent, told}
+use Rattle.tendril_stream.specs.Sinks.{Sent, Piece, Fault, IsSent}
 use Rattle.tendril_text.specs.Texts.{Text}
 
 line_some : (line : List ℕ) → IsWholeLine line → 0 < length line

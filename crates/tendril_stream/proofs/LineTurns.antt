@@ -2,7 +2,6 @@
 use Rattle.std.proofs.Common.{
   ◌≡◌,
   ℕ,
-  ◌+◌,
   ◌<◌,
   ◌≤◌,
   ◌⊎◌,
@@ -11,7 +10,6 @@ use Rattle.std.proofs.Common.{
   ◌∷◌,
   ◌++◌,
   length,
-  drop,
   refl,
   sym,
   ap,
@@ -20,7 +18,6 @@ use Rattle.std.proofs.Common.{
   arith,
   inl,
   inr,
-  ⊎_elim,
   append_assoc,
   append-nil,
   length-append,
@@ -33,15 +30,7 @@ use Rattle.std.specs.Prelude.{All, IsUtf8}
 use Rattle.tendril_block.specs.declared.refusal.Refusal.{Refusal}
 use Rattle.tendril_fmt.specs.Parts.{IsEndOf}
 use Rattle.tendril_stream.specs.LineStarts.{CompletesLine, CompletionStops, KeepsMore}
-use Rattle.tendril_stream.specs.Lines.{
-  HasLongNextLine,
-  IsWholeLine,
-  JoinStops,
-  SendsLines,
-  StopsInLines,
-  in_one_text,
-  joined_bytes,
-}
+use Rattle.tendril_stream.specs.Lines.{IsWholeLine, JoinStops, SendsLines, StopsInLines, in_one_text, joined_bytes}
 use Rattle.tendril_stream.specs.Sinks.{Sent, Piece, RefusesCall}
 use Rattle.tendril_text.proofs.Decoding.{part-through, rest-through}
 use Rattle.tendril_text.specs.Decoding.{IsRest}

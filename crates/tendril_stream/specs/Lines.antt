@@ -8,7 +8,6 @@ use Rattle.tendril_block.specs.declared.refusal.Refusal.TheVariants.{Count, Sink
 use Rattle.tendril_block.specs.Outcomes.{LengthMust, MemoryMay, Refused}
 use Rattle.tendril_fmt.specs.Parts.{IsEndOf, IsFrontOf}
 use Rattle.tendril_lossy.specs.Lossy.{Told}
-use Rattle.tendril_stream.specs.Compositions.{FollowsCalls}
 use Rattle.tendril_stream.specs.Sinks.{Sent, Piece, Fault, IsSent, RefusesCall, told}
 use Rattle.tendril_text.specs.Decoding.{IsRest}
 use Rattle.tendril_text.specs.Splits.{EndsPart, LacksSet}

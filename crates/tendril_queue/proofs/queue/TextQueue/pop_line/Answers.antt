@@ -1,4 +1,4 @@
-use Rattle.std.proofs.Common.{◌≡◌, ◌++◌, ◌∙◌, length, drop, refl, sym, ap, subst, rules, ⊎_elim}
+use Rattle.std.proofs.Common.{◌++◌, ◌∙◌, length, drop, refl, sym, ap, subst, rules, ⊎_elim}
 use Rattle.std.proofs.lemmas.Result.{err_from_is_err_and}
 use Rattle.std.specs.Prelude.{IsUtf8}
 use Rattle.tendril_queue.proofs.Fronts.{all_bytes}
