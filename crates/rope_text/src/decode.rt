@@ -1,14 +1,15 @@
 //! Decoding of streams into ropes.
-ghost use Rattle.std.specs.Prelude.{◌≡◌, ◌≤◌, ◌⊎◌, List, [], None, Some, false, flat_map, length, chars, IfOk, IfErr};
+ghost use Rattle.std.specs.Prelude.{◌≡◌, ◌≤◌, ◌⊎◌, List, [], None, Some, false, flat_map, length, chars, All, IfOk, IfErr};
 ghost use Rattle.std.specs.Io.KnownBytes.{IsAtEnd};
 ghost use Rattle.std.specs.Iterator.{IsFiniteIterable, YieldsThen};
 ghost use Rattle.rope_text.specs.Sink.{HasCharacters};
 ghost use Rattle.tendril_text.specs.Texts.{Text};
 ghost use Rattle.tendril_lossy.specs.Lossy.{characters, due};
-ghost use Rattle.tendril_stream.specs.Compositions.{PiecesStop, StandsAt, StreamStops};
+ghost use Rattle.tendril_stream.specs.Compositions.{IsSentOfOne, PiecesStop, StandsAt, StreamStops};
 ghost use Rattle.tendril_stream.specs.Decodings.{utf8};
-ghost use Rattle.tendril_stream.specs.Readings.{IsOfReading, MakesReads, StopsBetween};
+ghost use Rattle.tendril_stream.specs.Readings.{AreReadPieces, IsOfReading, MakesReads, StopsBetween};
 ghost use Rattle.tendril_stream.specs.Reads.{OneRead, CameToEnd, StopsWith, given};
+ghost use Rattle.tendril_stream.specs.Sinks.{Piece};
 
 use crate::rope::Rope;
 use std::alloc::Global;
@@ -39,6 +40,9 @@ pub fn decode_rope<A: Atomicity, I: IntoIterator<Item = Tendril<Bytes, A>>>(
     ensures ok { IfOk result (λ rope. (it : I.IntoIter) × (end : I.IntoIter) × (read : List Text)
         × I.into_iter_gives pieces it × YieldsThen I.IntoIter.next_gives it read None end
         × (chars rope.bytes ≡ characters (due (flat_map (λ p. p.bytes) read)))) }
+    ensures shares { IfOk result (λ rope. (it : I.IntoIter) × (end : I.IntoIter) × (read : List Text)
+        × I.into_iter_gives pieces it × YieldsThen I.IntoIter.next_gives it read None end
+        × All (λ t. IsSentOfOne utf8 read (Piece t)) rope.pieces) }
     ensures refusal { IfErr result (λ r. PiecesStop utf8 I.into_iter_gives I.IntoIter.next_gives
         ⟦<Rope<A> as TendrilSink<Tendril<UTF8, A>>>⟧.takes ⟦<Rope<A> as TendrilSink<Tendril<UTF8, A>>>⟧.refuses
         ⟦<Rope<A> as TendrilSink<Tendril<UTF8, A>>>⟧.ends ⟦<Rope<A> as Tracks<Tendril<UTF8, A>>>⟧.after pieces r) }
@@ -65,7 +69,9 @@ pub fn read_rope<A: Atomicity, R: CountedRead>(
 ) -> Result<Rope<A>, Stopped<Utf8LossyDecoder<Rope<A>, A>>>
     ensures ok { IfOk result (λ rope. (these : List OneRead) × MakesReads R.history R.remaining reader.old these reader.new
         × IsAtEnd (R.remaining reader.new) × (chars rope.bytes ≡ characters (due (given these)))
-        × StopsWith CameToEnd these × (length these ≤ max_reads)) }
+        × StopsWith CameToEnd these × (length these ≤ max_reads)
+        × ((pieces : List Text) × AreReadPieces these pieces
+        × All (λ t. IsSentOfOne utf8 pieces (Piece t)) rope.pieces)) }
     ensures stopped { IfErr result (λ s. (these : List OneRead) × MakesReads R.history R.remaining reader.old these reader.new
         × (IsOfReading s.refusal → StopsBetween max_reads these s.refusal
         × ((d : _) × (s.sink ≡ Some d) × (d.failed ≡ false)
@@ -94,7 +100,9 @@ pub fn rope_from_file<A: Atomicity, F: Files>(
     max_reads: u64,
 ) -> Result<Rope<A>, Stopped<Utf8LossyDecoder<Rope<A>, A>>>
     ensures ok { IfOk result (λ rope. (these : List OneRead) × (chars rope.bytes ≡ characters (due (given these)))
-        × StopsWith CameToEnd these × (length these ≤ max_reads)) }
+        × StopsWith CameToEnd these × (length these ≤ max_reads)
+        × ((pieces : List Text) × AreReadPieces these pieces
+        × All (λ t. IsSentOfOne utf8 pieces (Piece t)) rope.pieces)) }
     ensures stopped { IfErr result (λ s. ((s.refusal ≡ Refusal.Io)
         × ((d : _) × (s.sink ≡ Some d) × (d.failed ≡ false) × StandsAt utf8 HasCharacters d.inner_sink d.kept []))
         ⊎ ((these : List OneRead) × (IsOfReading s.refusal → StopsBetween max_reads these s.refusal
