@@ -5,7 +5,7 @@ use Rattle.std.proofs.lemmas.List.Elements.{All-cons, All-nil, Contains-append_r
 use Rattle.std.specs.List.{FoldsTo}
 use Rattle.std.specs.Prelude.{All}
 use Rattle.tendril_lossy.specs.Lossy.{Told}
-use Rattle.tendril_stream.proofs.Feeds.{Feeds-append, Feeds-none, Feeds-same, Feeds-weaker}
+use Rattle.tendril_text.proofs.Feeds.{Feeds-append, Feeds-none, Feeds-same, Feeds-weaker}
 use Rattle.tendril_stream.proofs.Refused.{DecoderTakes}
 use Rattle.tendril_stream.proofs.Stands.{bytes_of}
 use Rattle.tendril_stream.specs.Compositions.{IsSentOfOne}

@@ -25,7 +25,7 @@ use Rattle.std.proofs.lemmas.Fn.{FoldsTo-push}
 use Rattle.std.specs.List.{FoldsTo}
 use Rattle.std.specs.Prelude.{All, IsUtf8}
 use Rattle.tendril_lossy.specs.Lossy.{Told}
-use Rattle.tendril_stream.proofs.Feeds.{FoldsTo-append}
+use Rattle.tendril_text.proofs.Feeds.{FoldsTo-append}
 use Rattle.tendril_stream.proofs.LineCuts.{lacks-nil}
 use Rattle.tendril_stream.proofs.Stands.{sent_on}
 use Rattle.tendril_stream.specs.Compositions.{FollowsCalls}
