@@ -55,7 +55,7 @@ fn words_of<S: Env + AllocGlobal>(system: &S) -> io::Result<Vec<String>> {
     Ok(env::args(system)?.collect(system.alloc())?)
 }
 
-/// Runs what the arguments ask for, of which the first is the program's name, and returns the program's status.
+/// Runs what the arguments ask for, and returns the program's status. The first argument is its name.
 ///
 /// 0: done. 1: an error, which is printed to `err`. 2: the words ask for nothing that the program can do; what is wrong
 /// is printed to `err`, and nothing is read or written.

@@ -29,7 +29,7 @@ pub struct Options<'a> {
     pub strict: bool,
 }
 
-/// Parses the program's arguments, the first of which is its name.
+/// Parses the program's arguments. The first one is its name.
 pub fn parse<'a>(alloc: Global, words: &'a [&'a str]) -> Result<Request<'a>, Error> {
     let matches = command(alloc)?.try_get_matches_from(words)?;
     let Some(label) = matches.get_str("from") else {

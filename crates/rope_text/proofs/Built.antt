@@ -4,8 +4,10 @@ use Rattle.std.proofs.Common.{◌∙◌, arith}
 use Rattle.std.proofs.lemmas.List.{length-append}
 use Rattle.std.proofs.lemmas.List.Elements.{All-append, All-push, All-drop, All-take}
 use Rattle.rope_text.proofs.Ends.{AreEnds-nil, AreEnds-append, AreEnds-push, AreEnds-take, AreEnds-drop}
-use Rattle.rope_text.proofs.Joined.{joined-append, joined_push, length_joined_both}
-use Rattle.rope_text.specs.Ropes.{bytes_of_all, IsPiece, IsRope}
+use Rattle.rope_text.proofs.Joined.{length_joined_both}
+use Rattle.rope_text.specs.Ropes.{IsPiece, IsRope}
+use Rattle.tendril_text.proofs.TextLists.{joined-append, joined_push}
+use Rattle.tendril_text.specs.TextLists.{bytes_of_all}
 use Rattle.tendril_text.specs.Texts.{Text}
 
 pub IsRope-nil : (s : ℕ) → IsRope [] s [] 0

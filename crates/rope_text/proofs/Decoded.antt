@@ -4,10 +4,10 @@ use Rattle.std.specs.List.{FoldsTo}
 use Rattle.std.specs.Prelude.{All, chars}
 use Rattle.std.proofs.lemmas.List.Elements.{All-append, All-cons, All-head, All-nil, All-tail}
 use Rattle.std.proofs.lemmas.Str.{IsUtf8-nil, chars-nil}
-use Rattle.rope_text.specs.Growth.{listed_unless_empty, piece_of}
 use Rattle.rope_text.specs.Ropes.{RopeText}
 use Rattle.rope_text.specs.Sink.{HasCharacters, TakesSent}
 use Rattle.tendril_stream.specs.Sinks.{Sent, Piece, Fault}
+use Rattle.tendril_text.specs.TextLists.{listed_unless_empty, unless_empty}
 use Rattle.tendril_text.specs.Texts.{Text}
 
 pub new_has : (rope : RopeText) → rope.bytes ≡ [] → HasCharacters rope []
@@ -27,7 +27,7 @@ module _ (fit : Sent → Type 0) where
   pieces_fit [] a b each h all = subst (λ (r : RopeText). All PieceFits r.pieces) h all
   pieces_fit (Piece t ∷ calls) a b each h all =
       pieces_fit calls h.0 b (All-tail fit (Piece t) calls each) h.2
-      (subst (All PieceFits) (sym h.1.pieces) (All-append PieceFits a.pieces (piece_of t) all
+      (subst (All PieceFits) (sym h.1.pieces) (All-append PieceFits a.pieces (unless_empty t) all
       (piece_fits t.bytes t (All-head fit (Piece t) calls each))))
   pieces_fit (Fault words ∷ calls) a b each h all =
       pieces_fit calls h.0 b (All-tail fit (Fault words) calls each) h.2

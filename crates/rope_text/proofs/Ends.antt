@@ -6,8 +6,10 @@ use Rattle.std.proofs.lemmas.List.{length-append, length-map, length-take, lengt
 use Rattle.std.proofs.lemmas.List.{get_or_append_left, get_or_push, get_or_read, get_or-take, take-append-le, take-take}
 use Rattle.std.proofs.lemmas.List.{take_all}
 use Rattle.std.proofs.Math.Seq.{take-append-add}
-use Rattle.rope_text.proofs.Joined.{joined-append, joined_push, length_joined_both}
-use Rattle.rope_text.specs.Ropes.{AreEnds, bytes_of_all}
+use Rattle.rope_text.proofs.Joined.{length_joined_both}
+use Rattle.rope_text.specs.Ropes.{AreEnds}
+use Rattle.tendril_text.proofs.TextLists.{joined-append, joined_push}
+use Rattle.tendril_text.specs.TextLists.{bytes_of_all}
 use Rattle.tendril_text.specs.Texts.{Text}
 
 -- the offset that an end denotes

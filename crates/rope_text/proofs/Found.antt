@@ -9,7 +9,8 @@ use Rattle.std.proofs.lemmas.Str.{IsCharBoundary-before_ascii}
 use Rattle.memchr.specs.Find.{IsFirstByte, NoneBefore, Nowhere, Passes, is_byte}
 use Rattle.rope_text.proofs.Joined.{joined_byte, length_joined_more}
 use Rattle.rope_text.proofs.Located.{in_joined}
-use Rattle.rope_text.specs.Ropes.{RopeText, bytes_of_all, no_text, piece_at}
+use Rattle.rope_text.specs.Ropes.{RopeText, piece_at}
+use Rattle.tendril_text.specs.TextLists.{bytes_of_all, no_text}
 use Rattle.tendril_text.specs.Texts.{Text}
 
 -- the piece that is read at a number

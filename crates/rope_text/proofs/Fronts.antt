@@ -5,11 +5,9 @@ use Rattle.std.specs.Prelude.{encode_utf8, IfSome, IfNone, OnSome}
 use Rattle.std.proofs.lemmas.Bool.{cases_lt}
 use Rattle.std.proofs.lemmas.List.{length-append, length-drop, get_or-drop}
 use Rattle.std.proofs.lemmas.Str.{char_from_byte, drop_past_char, len_utf8_ascii}
-use Rattle.rope_text.proofs.Grown.{piece_of_none, piece_of_some}
-use Rattle.rope_text.specs.Fronts.{LosesPieces}
-use Rattle.rope_text.specs.Growth.{piece_of}
-use Rattle.rope_text.specs.Parts.{LosesFront}
 use Rattle.rope_text.specs.Ropes.{RopeText}
+use Rattle.tendril_text.proofs.TextLists.{unless_empty_none, unless_empty_some}
+use Rattle.tendril_text.specs.TextLists.{DropsFront, unless_empty, LosesFront}
 use Rattle.tendril_text.specs.Texts.{Text, Keeps}
 
 -- what is kept of what was kept
@@ -23,24 +21,28 @@ same_tail : (x y : Text) (xs ys : List Text) → x ∷ xs ≡ y ∷ ys → xs �
 same_tail x y xs ys e = cc
 
 -- the first piece lost bytes twice, or was lost and the next one lost some
-loses_twice : (gone kept a b c : List Text) → a ≡ gone ++ kept → LosesFront kept b → LosesFront b c → LosesPieces a c
+loses_twice : (gone kept a b c : List Text) → a ≡ gone ++ kept → LosesFront kept b → LosesFront b c → DropsFront a c
 loses_twice gone kept a b c had f g = elim (cases_lt 0 (length f.left.bytes)) [
   | inl some ↦
-      let is : b ≡ f.left ∷ f.rest = f.has ∙ ap (λ l. l ++ f.rest) (piece_of_some f.left some) in
-      let first = same_head f.left g.first f.rest g.rest (sym is ∙ g.had) in
-      let rest = same_tail f.left g.first f.rest g.rest (sym is ∙ g.had) in
+      let m = f.leaves in
+      let n = g.leaves in
+      let is : b ≡ f.left ∷ m.rest = m.has ∙ ap (λ l. l ++ m.rest) (unless_empty_some f.left some) in
+      let first = same_head f.left g.first m.rest n.rest (sym is ∙ n.had) in
+      let rest = same_tail f.left g.first m.rest n.rest (sym is ∙ n.had) in
       let size = ap length g.bytes ∙ length-append g.lost g.left.bytes in
       let size' = ap (λ (t : Text). length t.bytes) first in
       record {
         gone = gone;
-        kept = kept;
+        others = kept;
         had = had;
         has = inr (record {
           first = f.first;
-          rest = f.rest;
           left = g.left;
-          had = f.had;
-          has = g.has ∙ ap (λ l. piece_of g.left ++ l) (sym rest);
+          leaves = record {
+            rest = m.rest;
+            had = m.had;
+            has = n.has ∙ ap (λ l. unless_empty g.left ++ l) (sym rest);
+          };
           lost = f.lost ++ g.lost;
           bytes = f.bytes ∙ ap (λ l. f.lost ++ l) (ap (λ (t : Text). t.bytes) first ∙ g.bytes)
               ∙ sym (append_assoc f.lost g.lost g.left.bytes);
@@ -49,27 +51,28 @@ loses_twice gone kept a b c had f g = elim (cases_lt 0 (length f.left.bytes)) [
         });
       }
   | inr none ↦
-      let is : b ≡ f.rest = f.has ∙ ap (λ l. l ++ f.rest) (piece_of_none f.left (omega arith)) in
+      let m = f.leaves in
+      let is : b ≡ m.rest = m.has ∙ ap (λ l. l ++ m.rest) (unless_empty_none f.left (omega arith)) in
       record {
         gone = gone ++ f.first ∷ [];
-        kept = f.rest;
-        had = had ∙ ap (λ l. gone ++ l) f.had ∙ sym (append_assoc gone (f.first ∷ []) f.rest);
+        others = m.rest;
+        had = had ∙ ap (λ l. gone ++ l) m.had ∙ sym (append_assoc gone (f.first ∷ []) m.rest);
         has = inr (subst (λ l. LosesFront l c) is g);
       }
 ]
 
 -- more is lost
-loses_more : (a b c : List Text) → LosesPieces a b → LosesFront b c → LosesPieces a c
+loses_more : (a b c : List Text) → DropsFront a b → LosesFront b c → DropsFront a c
 loses_more a b c h g = by h.has
   where
-    by : (b ≡ h.kept) ⊎ LosesFront h.kept b → LosesPieces a c
-    by (inl e) = record { gone = h.gone; kept = h.kept; had = h.had; has = inr (subst (λ l. LosesFront l c) e g) }
-    by (inr f) = loses_twice h.gone h.kept a b c h.had f g
+    by : (b ≡ h.others) ⊎ LosesFront h.others b → DropsFront a c
+    by (inl e) = record { gone = h.gone; others = h.others; had = h.had; has = inr (subst (λ l. LosesFront l c) e g) }
+    by (inr f) = loses_twice h.gone h.others a b c h.had f g
 
 -- of the bytes b and the pieces ps that a rope had, the first n bytes are dropped
 pub record AreDropped (b : List ℕ) (ps : List Text) (n : ℕ) (rope : RopeText) : Type 0 where
   pub bytes : rope.bytes ≡ drop n b
-  pub pieces : LosesPieces ps rope.pieces
+  pub pieces : DropsFront ps rope.pieces
 
 -- one ASCII byte more
 pub dropped_more : (b : List ℕ) (ps : List Text) (n : ℕ) (old new : RopeText) (r : Option ℕ) → n < length b

@@ -1,19 +1,14 @@
 -- The bytes of pieces, one after another.
 use Rattle.std.proofs.Common.{◌≡◌, ℕ, ◌+◌, ◌<◌, List, [], ◌∷◌, ◌++◌, length, get_or, take, drop, refl, sym, ap, ◌∙◌}
-use Rattle.std.proofs.Common.{arith, append-nil}
+use Rattle.std.proofs.Common.{arith}
 use Rattle.std.specs.Prelude.{IsUtf8, All}
-use Rattle.std.proofs.lemmas.Str.{IsUtf8-nil, IsUtf8-append}
 use Rattle.std.proofs.lemmas.List.{length-append, take_more, drop_more, take-append-drop}
-use Rattle.std.proofs.lemmas.List.Concat.{flat_map-append, get_or-flat_map}
-use Rattle.std.proofs.lemmas.List.Elements.{All-head, All-tail}
-use Rattle.rope_text.specs.Ropes.{bytes_of_all, IsPiece, no_text, piece_at}
+use Rattle.std.proofs.lemmas.List.Concat.{get_or-flat_map}
+use Rattle.std.proofs.lemmas.List.Elements.{All-head}
+use Rattle.rope_text.specs.Ropes.{IsPiece, piece_at}
+use Rattle.tendril_text.proofs.TextLists.{joined-append, joined_push, joined_valid}
+use Rattle.tendril_text.specs.TextLists.{bytes_of_all, no_text}
 use Rattle.tendril_text.specs.Texts.{Text}
-
-pub joined-append : (xs ys : List Text) → bytes_of_all (xs ++ ys) ≡ bytes_of_all xs ++ bytes_of_all ys
-joined-append xs ys = flat_map-append (λ t. t.bytes) xs ys
-
-pub joined_push : (xs : List Text) (t : Text) → bytes_of_all (xs ++ t ∷ []) ≡ bytes_of_all xs ++ t.bytes
-joined_push xs t = joined-append xs (t ∷ []) ∙ ap (λ l. bytes_of_all xs ++ l) (append-nil t.bytes)
 
 -- one more piece
 pub length_joined_more : (xs : List Text) (i : ℕ) → i < length xs → length (bytes_of_all (take (i + 1) xs))
@@ -44,10 +39,8 @@ pub joined_byte : (xs : List Text) (i j : ℕ) → i < length xs → j < length 
 joined_byte xs i j h k = get_or-flat_map (λ (t : Text). t.bytes) xs i j no_text 0 h k
 
 -- the pieces of a rope are UTF-8 together
-pub joined_valid : (xs : List Text) → All IsPiece xs → IsUtf8 (bytes_of_all xs)
-joined_valid [] h = IsUtf8-nil
-joined_valid (t ∷ xs) h = IsUtf8-append t.bytes (bytes_of_all xs) (All-head IsPiece t xs h).valid
-    (joined_valid xs (All-tail IsPiece t xs h))
+pub pieces_valid : (xs : List Text) → All IsPiece xs → IsUtf8 (bytes_of_all xs)
+pieces_valid xs each = joined_valid IsPiece (λ t p. p.valid) xs each
 
 -- if there are pieces, there are bytes
 pub length_joined_some : (xs : List Text) → All IsPiece xs → 0 < length xs → 0 < length (bytes_of_all xs)
@@ -62,8 +55,3 @@ length_joined_some (x ∷ xs) each h =
 pub no_pieces : (xs : List Text) → All IsPiece xs → length (bytes_of_all xs) ≡ 0 → xs ≡ []
 no_pieces [] each h = refl
 no_pieces (x ∷ xs) each h = let some = length_joined_some (x ∷ xs) each (omega arith) in absurd (omega arith)
-
--- if there are bytes, there are pieces
-pub some_pieces : (xs : List Text) (at : ℕ) → at < length (bytes_of_all xs) → 0 < length xs
-some_pieces [] at h = absurd (omega arith)
-some_pieces (x ∷ xs) at h = omega arith

@@ -7,11 +7,12 @@ use Rattle.rope_text.proofs.Cuts.{same_cut}
 use Rattle.std.proofs.lemmas.Bool.{cases_lt}
 use Rattle.std.proofs.lemmas.List.Elements.{All-take}
 use Rattle.std.proofs.lemmas.Str.{IsCharBoundary-from_take}
-use Rattle.rope_text.proofs.Joined.{joined_both, joined_byte, joined_drop_more, joined_valid, length_joined_both}
+use Rattle.rope_text.proofs.Joined.{joined_both, joined_byte, joined_drop_more, pieces_valid, length_joined_both}
 use Rattle.rope_text.proofs.Joined.{length_joined_more}
 use Rattle.std.proofs.lemmas.List.{length-append, length-drop, drop-append-le, get_or_read, take_all, take_at}
 use Rattle.rope_text.proofs.Shared.{cut_at_end, drop_joined}
-use Rattle.rope_text.specs.Ropes.{IsPiece, bytes_of_all, no_text, piece_at}
+use Rattle.rope_text.specs.Ropes.{IsPiece, piece_at}
+use Rattle.tendril_text.specs.TextLists.{bytes_of_all, no_text}
 use Rattle.tendril_text.specs.Texts.{Text}
 
 -- a byte of a piece is one of all bytes
@@ -40,8 +41,8 @@ cut_between xs i each =
     let both = length_joined_both xs i in
     let front : take (length a) (bytes_of_all xs) ≡ a = ap (λ l. take (length a) l) (joined_both xs i)
     ∙ take_at a (bytes_of_all (drop i xs)) (length a) refl in
-    IsCharBoundary-from_take (bytes_of_all xs) (length a) (joined_valid xs each) (omega arith)
-    (rw front (joined_valid (take i xs) (All-take IsPiece i xs each)))
+    IsCharBoundary-from_take (bytes_of_all xs) (length a) (pieces_valid xs each) (omega arith)
+    (rw front (pieces_valid (take i xs) (All-take IsPiece i xs each)))
 
 -- all bytes have a character boundary after j bytes of a piece exactly if the piece has
 pub cut_behind : (xs : List Text) (i j : ℕ) → All IsPiece xs → i < length xs → j ≤ length (piece_at xs i).bytes

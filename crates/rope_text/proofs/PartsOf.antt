@@ -6,7 +6,8 @@ use Rattle.std.proofs.lemmas.Bool.{cases_lt}
 use Rattle.std.proofs.lemmas.List.{length-append, length-drop, length-take, drop_all, drop_more, take_all}
 use Rattle.std.proofs.lemmas.List.Elements.{All-head, All-tail}
 use Rattle.rope_text.specs.Parts.{shares_of, with_some}
-use Rattle.rope_text.specs.Ropes.{IsPiece, bytes_of_all, no_text, piece_at}
+use Rattle.rope_text.specs.Ropes.{IsPiece, piece_at}
+use Rattle.tendril_text.specs.TextLists.{bytes_of_all, no_text}
 use Rattle.tendril_text.specs.Texts.{Text}
 
 with_some_cons : (b : List ℕ) (others : List (List ℕ)) → 0 < length b → with_some b others ≡ b ∷ others

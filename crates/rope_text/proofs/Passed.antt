@@ -8,7 +8,7 @@ use Rattle.std.proofs.lemmas.List.{take-take, take_all}
 use mir.Val.{bool_byte}
 use lib.Dec.{leb}
 use Rattle.rope_text.proofs.Joined.{length_joined_both}
-use Rattle.rope_text.specs.Ropes.{bytes_of_all}
+use Rattle.tendril_text.specs.TextLists.{bytes_of_all}
 use Rattle.tendril_text.specs.Texts.{Text}
 
 -- more pieces have no fewer bytes

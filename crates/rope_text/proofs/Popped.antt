@@ -7,10 +7,10 @@ use Rattle.std.proofs.lemmas.List.{length-append, nil_from_length}
 use Rattle.std.proofs.lemmas.List.Elements.{All-cons, All-head, All-tail}
 use Rattle.std.proofs.lemmas.Str.{IsUtf8-past_char, chars_past_char, length-encode}
 use Rattle.rope_text.proofs.Ends.{AreEnds-left, AreEnds-rest}
-use Rattle.rope_text.proofs.Grown.{piece_of_none, piece_of_some}
-use Rattle.rope_text.proofs.Joined.{joined_valid}
-use Rattle.rope_text.specs.Parts.{LosesFront}
-use Rattle.rope_text.specs.Ropes.{AreEnds, bytes_of_all, IsPiece, IsRope}
+use Rattle.rope_text.proofs.Joined.{pieces_valid}
+use Rattle.rope_text.specs.Ropes.{AreEnds, IsPiece, IsRope}
+use Rattle.tendril_text.proofs.TextLists.{unless_empty_none, unless_empty_some}
+use Rattle.tendril_text.specs.TextLists.{LosesFront, bytes_of_all}
 use Rattle.tendril_text.specs.Texts.{Text, Keeps}
 
 -- the character c was popped from the pieces xs; ys are left, with this start and these ends
@@ -32,7 +32,7 @@ popped xs ys total c s start had ends r each stand e front =
       enough = omega arith;
       rope = record { each = each; counts = omega arith; fits = let f = r.fits in omega arith; places = stand };
       bytes = e;
-      characters = chars_past_char (bytes_of_all xs) (bytes_of_all ys) c (joined_valid xs r.each) e;
+      characters = chars_past_char (bytes_of_all xs) (bytes_of_all ys) c (pieces_valid xs r.each) e;
       front = front;
     }
 
@@ -58,11 +58,8 @@ IsPopped_some (x ∷ rest) t left total c s start ends h is r e k some moved =
     (ap (λ l. l ++ bytes_of_all rest) f ∙ append_assoc (encode_utf8 c) left.bytes (bytes_of_all rest))
     (record {
       first = x;
-      rest = rest;
       left = left;
-      had = refl;
-      has =
-          ap (λ l. l ++ rest) (sym (piece_of_some left some));
+      leaves = record { rest = rest; had = refl; has = ap (λ l. l ++ rest) (sym (unless_empty_some left some)) };
       lost = encode_utf8 c;
       bytes = f;
       keeps =
@@ -86,11 +83,8 @@ IsPopped_all (x ∷ rest) t left total c s start ends h is r e k none moved =
     ∙ ap (λ l. encode_utf8 c ++ (l ++ bytes_of_all rest)) (nil_from_length left.bytes none))
     (record {
       first = x;
-      rest = rest;
       left = left;
-      had = refl;
-      has =
-          ap (λ l. l ++ rest) (sym (piece_of_none left none));
+      leaves = record { rest = rest; had = refl; has = ap (λ l. l ++ rest) (sym (unless_empty_none left none)) };
       lost = encode_utf8 c;
       bytes = f;
       keeps =

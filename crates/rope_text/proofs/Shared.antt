@@ -12,12 +12,13 @@ use Rattle.tendril_block.specs.Outcomes.{Refused}
 use Rattle.rope_text.proofs.Joined.{joined_both}
 use Rattle.rope_text.proofs.PartsOf.{shares_of_none, shares_of_past}
 use Rattle.rope_text.specs.declared.rope.TheConstants.{MAX_TOTAL}
-use Rattle.rope_text.specs.Growth.{Grows, RoomMay, TotalMust, listed_unless_empty, piece_of}
+use Rattle.rope_text.specs.Growth.{Grows, RoomMay, TotalMust}
 use Rattle.rope_text.specs.Parts.{PartMay, SharesPart, SubRope}
-use Rattle.rope_text.specs.Ropes.{RopeText, bytes_of_all}
+use Rattle.rope_text.specs.Ropes.{RopeText}
 use Rattle.tendril_block.specs.declared.subtendril_error.SubtendrilError.{SubtendrilError}
 use Rattle.tendril_block.specs.Errors.{refusal_of}
 use Rattle.tendril_text.specs.Parts.{Slices}
+use Rattle.tendril_text.specs.TextLists.{listed_unless_empty, unless_empty, bytes_of_all}
 use Rattle.tendril_text.specs.Texts.{Text, Shares}
 
 -- the only error of a slice is Count, for more than 8 bytes
@@ -68,7 +69,7 @@ shares_listed : (b : List ℕ) (t : Text) → Shares t → All Shares (listed_un
 shares_listed [] t h = All-nil Shares
 shares_listed (x ∷ xs) t h = All-cons Shares t [] h (All-nil Shares)
 
-pub shares_piece : (t : Text) → Shares t → All Shares (piece_of t)
+pub shares_piece : (t : Text) → Shares t → All Shares (unless_empty t)
 shares_piece t h = shares_listed t.bytes t h
 
 true_not_false : true ≡ false → ⊥

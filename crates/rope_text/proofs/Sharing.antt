@@ -7,13 +7,13 @@ use Rattle.std.proofs.lemmas.List.{length-append, length-take, length-drop, drop
 use Rattle.std.proofs.lemmas.List.{map-append}
 use Rattle.std.proofs.lemmas.List.Elements.{All-append, All-get_or}
 use Rattle.rope_text.proofs.Cuts.{IsParted, parted_short, parted_long}
-use Rattle.rope_text.proofs.Grown.{piece_of_some}
 use Rattle.rope_text.proofs.Joined.{length_joined_more, joined_drop_more}
 use Rattle.rope_text.proofs.PartsOf.{shares_of_more, shares_of_none}
 use Rattle.rope_text.proofs.Shared.{shares_piece}
-use Rattle.rope_text.specs.Ropes.{bytes_of_all, IsPiece, no_text, piece_at}
-use Rattle.rope_text.specs.Growth.{piece_of}
+use Rattle.rope_text.specs.Ropes.{IsPiece, piece_at}
 use Rattle.rope_text.specs.Parts.{HasLongShare, shares_of}
+use Rattle.tendril_text.proofs.TextLists.{unless_empty_some}
+use Rattle.tendril_text.specs.TextLists.{bytes_of_all, unless_empty, no_text}
 use Rattle.tendril_text.specs.Texts.{Text, Shares}
 
 -- The slice of `count` bytes from the offset `from` in the piece `first` on is built so far: it has the bytes `built`
@@ -93,7 +93,7 @@ pub IsSharing-more : (xs : List Text) (first from count index at left here : ℕ
     → All IsPiece xs → 0 < left → here ≡ min left (length (piece_at xs index).bytes - at) → part.bytes
     ≡ take here (drop at (piece_at xs index).bytes) → Shares part
     → IsSharing xs first from count index at left built pieces
-    → IsSharing xs first from count (index + 1) 0 (left - here) (built ++ part.bytes) (pieces ++ piece_of part)
+    → IsSharing xs first from count (index + 1) 0 (left - here) (built ++ part.bytes) (pieces ++ unless_empty part)
 IsSharing-more xs first from count index at left here built part pieces each some is e m s =
     let p = (piece_at xs index).bytes in
     let q = bytes_of_all (drop (index + 1) xs) in
@@ -114,11 +114,11 @@ IsSharing-more xs first from count index at left here built part pieces each som
       bytes = append_assoc built part.bytes (take (left - here) (drop 0 q))
           ∙ ap (λ l. built ++ l) (ap (λ l. l ++ take (left - here) (drop 0 q)) e ∙ sym both.parts
           ∙ ap (λ l. take left (drop at l)) (sym same)) ∙ s.bytes;
-      shares = All-append Shares pieces (piece_of part) s.shares (shares_piece part m);
+      shares = All-append Shares pieces (unless_empty part) s.shares (shares_piece part m);
       cut_so =
           let len : length part.bytes ≡ here = ap length e ∙ simp (length-take, length-drop) (omega arith) in
-          let one : map (λ t. t.bytes) (pieces ++ piece_of part) ≡ map (λ t. t.bytes) pieces ++ part.bytes ∷ [] =
-          ap (λ l. map (λ t. t.bytes) (pieces ++ l)) (piece_of_some part (omega arith))
+          let one : map (λ t. t.bytes) (pieces ++ unless_empty part) ≡ map (λ t. t.bytes) pieces ++ part.bytes ∷ [] =
+          ap (λ l. map (λ t. t.bytes) (pieces ++ l)) (unless_empty_some part (omega arith))
           ∙ map-append (λ t. t.bytes) pieces (part ∷ []) in
           ap (λ l. l ++ shares_of (drop (index + 1) xs) 0 (left - here)) one
           ∙ append_assoc (map (λ t. t.bytes) pieces) (part.bytes ∷ []) (shares_of (drop (index + 1) xs) 0 (left - here))

@@ -12,10 +12,12 @@ use Rattle.tendril_block.specs.declared.refusal.Refusal.{Refusal}
 use Rattle.tendril_block.specs.Outcomes.{NoneMust, Outcome}
 use Rattle.rope_text.proofs.Built.{IsRope-drop, IsRope-push, IsRope-take}
 use Rattle.rope_text.proofs.Ends.{AreEnds-drop, AreEnds-left, wrapped_twice}
-use Rattle.rope_text.proofs.Joined.{joined_both, joined_drop_more, joined_push, length_joined_both}
+use Rattle.rope_text.proofs.Joined.{joined_both, joined_drop_more, length_joined_both}
 use Rattle.rope_text.proofs.Located.{cut_in_piece}
-use Rattle.rope_text.specs.Ropes.{AreEnds, IsPiece, IsRope, RopeText, bytes_of_all, no_text, piece_at}
+use Rattle.rope_text.specs.Ropes.{AreEnds, IsPiece, IsRope, RopeText, piece_at}
 use Rattle.rope_text.specs.Splits.{HasLongFront, IsCutAt, SplitMay, SplitsOff}
+use Rattle.tendril_text.proofs.TextLists.{joined_push}
+use Rattle.tendril_text.specs.TextLists.{bytes_of_all, no_text}
 use Rattle.tendril_text.specs.Texts.{Text, Keeps, Shares}
 
 -- the rope that has these pieces

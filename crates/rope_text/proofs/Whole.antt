@@ -6,11 +6,13 @@ use Rattle.std.proofs.lemmas.List.{take_all}
 use Rattle.tendril_block.specs.declared.refusal.Refusal.{Refusal}
 use Rattle.tendril_block.specs.declared.refusal.Refusal.TheVariants.{ValidationFailed}
 use Rattle.tendril_block.specs.Outcomes.{Gives, NoneMust, First}
-use Rattle.rope_text.proofs.Joined.{joined_push, joined_valid, length_joined_both}
+use Rattle.rope_text.proofs.Joined.{pieces_valid, length_joined_both}
 use Rattle.rope_text.proofs.PartsOf.{shares_of_all}
 use Rattle.std.proofs.lemmas.List.{take_more, get_or_read}
 use Rattle.rope_text.specs.Parts.{IsCloneOf, PartMay, SubRope}
-use Rattle.rope_text.specs.Ropes.{RopeText, IsPiece, bytes_of_all, no_text, piece_at}
+use Rattle.rope_text.specs.Ropes.{RopeText, IsPiece, piece_at}
+use Rattle.tendril_text.proofs.TextLists.{joined_push}
+use Rattle.tendril_text.specs.TextLists.{bytes_of_all, no_text}
 use Rattle.tendril_text.specs.Texts.{Text}
 
 all_valid : (V : Type 0) (r : Refusal) → V → First V ValidationFailed NoneMust (Some r) → ⊥
@@ -31,7 +33,7 @@ whole rope (Ok made) each is h = (
 whole rope (Err r) each is (inl (inl x)) = absurd (x.0 (omega arith))
 whole rope (Err r) each is (inl (inr x)) =
     absurd (all_valid (IsUtf8 (take (length rope.bytes) (drop 0 rope.bytes))) r
-    (subst IsUtf8 (sym (take_all (length rope.bytes) rope.bytes (omega arith) ∙ is)) (joined_valid rope.pieces each))
+    (subst IsUtf8 (sym (take_all (length rope.bytes) rope.bytes (omega arith) ∙ is)) (pieces_valid rope.pieces each))
     x.1)
 whole rope (Err r) each is (inr y) = inr (tt, y.1)
 

@@ -9,7 +9,6 @@ use Rattle.std.specs.Prelude.{
   false,
   List,
   [],
-  ◌++◌,
   length,
   Option,
   Some,
@@ -19,13 +18,12 @@ use Rattle.std.specs.Prelude.{
   Err,
 }
 use Rattle.tendril_block.specs.declared.refusal.Refusal.{Refusal}
-use Rattle.rope_text.specs.Parts.{LosesFront}
 use Rattle.rope_text.specs.Ropes.{RopeText}
 use Rattle.rope_text.specs.Splits.{IsCutAt, SplitMay}
 use Rattle.tendril_text.specs.Iterators.{PartComes}
 use Rattle.tendril_text.specs.Search.{EndsBefore}
 use Rattle.tendril_text.specs.Splits.{TakesLine}
-use Rattle.tendril_text.specs.Texts.{Text}
+use Rattle.tendril_text.specs.TextLists.{DropsFront}
 
 -- a rope was cut before its first byte of the set, or at its end if it has none; it doesn't begin with that byte
 pub record CutsBefore (set : ℕ → Bool) (old front rest : RopeText) : Type 0 where
@@ -40,19 +38,12 @@ pub record CutBeforeMay (set : ℕ → Bool) (rope : RopeText) (r : Refusal) : T
   pub ends : EndsBefore set rope.bytes count
   pub may : SplitMay rope.pieces count r
 
--- some of the first pieces are gone, and the first that is left may have lost a prefix
-pub record LosesPieces (old new : List Text) : Type 0 where
-  pub gone : List Text
-  pub kept : List Text
-  pub had : old ≡ gone ++ kept
-  pub has : (new ≡ kept) ⊎ LosesFront kept new
-
 -- a rope was cut after its first line, and the line ending was dropped
 pub record CutsLine (old line rest : RopeText) : Type 0 where
   pub takes : TakesLine old.bytes line.bytes rest.bytes
   pub after : RopeText
   pub cut : IsCutAt (length line.bytes) old line after
-  pub loses : LosesPieces after.pieces rest.pieces
+  pub loses : DropsFront after.pieces rest.pieces
 
 -- the errors that are permitted for a cut after the first line
 pub record CutLineMay (rope : RopeText) (r : Refusal) : Type 0 where

@@ -1,5 +1,5 @@
 -- Ropes that grow.
-use Rattle.std.specs.Prelude.{◌≡◌, ℕ, ◌<◌, ◌≤◌, ◌+◌, List, [], ◌∷◌, ◌++◌, length, Option, Result, Ok, Err}
+use Rattle.std.specs.Prelude.{◌≡◌, ℕ, ◌<◌, ◌≤◌, ◌+◌, List, ◌++◌, length, Option, Result, Ok, Err}
 use Rattle.tendril_block.specs.declared.refusal.Refusal.{Refusal}
 use Rattle.tendril_block.specs.declared.refusal.Refusal.TheVariants.{TooLong, Memory}
 use Rattle.tendril_block.specs.Outcomes.{First, NoneMust, Outcome}
@@ -19,14 +19,6 @@ TotalMust count must = First (count ≤ MAX_TOTAL) TooLong NoneMust must
 -- Memory is possible if `count` bytes are added, at least one: the list of pieces may have to grow
 abbrev pub RoomMay : ℕ → Refusal → Type 0
 RoomMay count r = (r ≡ Memory) × (0 < count)
-
--- the list of the text, or the empty list if there are no bytes
-abbrev pub listed_unless_empty : List ℕ → Text → List Text
-listed_unless_empty [] t = []
-listed_unless_empty (x ∷ xs) t = t ∷ []
-
-abbrev pub piece_of : Text → List Text
-piece_of t = listed_unless_empty t.bytes t
 
 -- a rope with more bytes and pieces at its end
 pub record IsLonger (old : RopeText) (more : List ℕ) (parts : List Text) (new : RopeText) : Type 0 where

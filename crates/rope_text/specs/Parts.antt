@@ -1,4 +1,4 @@
--- Slices and clones of ropes, and pops at their front.
+-- Slices and clones of ropes.
 use Rattle.std.specs.Prelude.{
   ◌≡◌,
   ℕ,
@@ -23,20 +23,10 @@ use Rattle.tendril_block.specs.declared.atomicity.TheConstants.{INLINE_LEN}
 use Rattle.tendril_block.specs.declared.refusal.Refusal.{Refusal}
 use Rattle.tendril_block.specs.declared.refusal.Refusal.TheVariants.{Count}
 use Rattle.tendril_block.specs.Outcomes.{NoneMust, SliceMust, Gives}
-use Rattle.rope_text.specs.Growth.{RoomMay, piece_of}
-use Rattle.rope_text.specs.Ropes.{RopeText, bytes_of_all}
-use Rattle.tendril_text.specs.Texts.{Text, Shares, Keeps}
-
--- the first piece of a rope has lost a prefix, or is removed
-pub record LosesFront (old new : List Text) : Type 0 where
-  pub first : Text
-  pub rest : List Text
-  pub left : Text
-  pub had : old ≡ first ∷ rest
-  pub has : new ≡ piece_of left ++ rest
-  pub lost : List ℕ
-  pub bytes : first.bytes ≡ lost ++ left.bytes
-  pub keeps : Keeps first left
+use Rattle.rope_text.specs.Growth.{RoomMay}
+use Rattle.rope_text.specs.Ropes.{RopeText}
+use Rattle.tendril_text.specs.TextLists.{bytes_of_all}
+use Rattle.tendril_text.specs.Texts.{Text, Shares}
 
 -- more than 8 bytes of one piece are in the slice of `count` bytes from the offset on
 pub record HasLongShare (pieces : List Text) (offset count : ℕ) : Type 0 where

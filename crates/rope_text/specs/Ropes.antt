@@ -9,10 +9,8 @@ use Rattle.std.specs.Prelude.{
   ◌≤◌,
   Bool,
   List,
-  [],
   length,
   take,
-  flat_map,
   All,
   IsUtf8,
   nat_eq,
@@ -21,11 +19,8 @@ use Rattle.std.specs.Prelude.{
 }
 use Rattle.std.specs.Cmp.Lexicographic.{pointwise}
 use Rattle.tendril_block.specs.declared.atomicity.TheConstants.{MAX_LEN}
+use Rattle.tendril_text.specs.TextLists.{bytes_of_all, no_text}
 use Rattle.tendril_text.specs.Texts.{Text}
-
--- the bytes of texts, one after another
-abbrev pub bytes_of_all : List Text → List ℕ
-bytes_of_all texts = flat_map (λ t. t.bytes) texts
 
 -- a rope: its bytes, and the texts that have them
 pub record RopeText : Type 0 where
@@ -50,10 +45,6 @@ pub record IsRope (pieces : List Text) (start : ℕ) (ends : List ℕ) (total : 
   pub counts : total ≡ length (bytes_of_all pieces)
   pub fits : total < 2 ^ 64
   pub places : AreEnds pieces start ends
-
--- no text: what follows the last piece
-abbrev pub no_text : Text
-no_text = record { bytes = []; copied = 0 }
 
 abbrev pub piece_at : List Text → ℕ → Text
 piece_at pieces index = slice_index_or pieces index no_text

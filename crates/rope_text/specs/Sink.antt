@@ -1,18 +1,19 @@
 -- A rope as a sink.
-use Rattle.std.specs.Prelude.{◌≡◌, ℕ, ◌+◌, List, [], ◌∷◌, ◌++◌, length, map, chars, IsUtf8}
-use Rattle.std.proofs.Common.{refl, sym, ap, ◌∙◌, append-nil}
+use Rattle.std.specs.Prelude.{◌≡◌, ◌+◌, List, [], ◌∷◌, ◌++◌, length, map, chars, IsUtf8}
+use Rattle.std.proofs.Common.{sym, ap, ◌∙◌, append-nil}
 use Rattle.std.proofs.lemmas.Str.{IsUtf8-append, chars-append}
 use Rattle.tendril_block.specs.declared.refusal.Refusal.{Refusal}
 use Rattle.tendril_block.specs.Outcomes.{Refused}
 use Rattle.tendril_lossy.proofs.Told.{characters-append, characters-map}
 use Rattle.tendril_lossy.specs.Lossy.{Told, Char, Mark, characters}
-use Rattle.rope_text.specs.Growth.{IsLonger, RoomMay, TotalMust, piece_of}
+use Rattle.rope_text.specs.Growth.{IsLonger, RoomMay, TotalMust}
 use Rattle.rope_text.specs.Ropes.{RopeText}
 use Rattle.tendril_stream.specs.Sinks.{Sent, Piece, Fault, IsSent, told_of}
+use Rattle.tendril_text.specs.TextLists.{unless_empty}
 
 -- a text is appended to the rope, and an error in the stream changes nothing
 abbrev pub TakesSent : RopeText → Sent → RopeText → Type 0
-TakesSent old (Piece t) new = IsLonger old t.bytes (piece_of t) new
+TakesSent old (Piece t) new = IsLonger old t.bytes (unless_empty t) new
 TakesSent old (Fault words) new = new ≡ old
 
 -- for a text, the errors of its push are returned, and nothing changes; for an error in the stream, none is

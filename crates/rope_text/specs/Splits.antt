@@ -5,7 +5,8 @@ use Rattle.tendril_block.specs.declared.refusal.Refusal.{Refusal}
 use Rattle.tendril_block.specs.declared.refusal.Refusal.TheVariants.{Count}
 use Rattle.tendril_block.specs.Outcomes.{CutMust, Outcome}
 use Rattle.rope_text.specs.Growth.{RoomMay}
-use Rattle.rope_text.specs.Ropes.{RopeText, bytes_of_all}
+use Rattle.rope_text.specs.Ropes.{RopeText}
+use Rattle.tendril_text.specs.TextLists.{bytes_of_all}
 use Rattle.tendril_text.specs.Texts.{Text, Shares, Keeps}
 
 -- a list of pieces was cut within one of them, whose prefix shares its bytes

@@ -46,7 +46,8 @@ pub struct Rope<A: Atomicity = NonAtomic> {
 }
 
 impl<A: Atomicity> Model for Rope<A> {
-    ghost use Rattle.rope_text.specs.Ropes.{RopeText, bytes_of_all, IsRope};
+    ghost use Rattle.rope_text.specs.Ropes.{RopeText, IsRope};
+    ghost use Rattle.tendril_text.specs.TextLists.{bytes_of_all};
 
     ghost Value = { RopeText };
 

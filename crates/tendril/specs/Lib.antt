@@ -13,6 +13,7 @@ pub use Rattle.tendril_text.specs.Items
 pub use Rattle.tendril_text.specs.Writes
 pub use Rattle.tendril_text.specs.Search
 pub use Rattle.tendril_text.specs.Splits
+pub use Rattle.tendril_text.specs.TextLists
 pub use Rattle.tendril_text.specs.Trims
 pub use Rattle.tendril_text.specs.Iterators
 pub use Rattle.tendril_stream.specs.Sinks

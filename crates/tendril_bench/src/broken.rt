@@ -2,8 +2,7 @@
 ghost use Rattle.std.specs.Prelude.{◌≡◌, List, None, flat_map, IfOk};
 ghost use Rattle.std.specs.Iterator.{IsFiniteIterable, YieldsThen};
 ghost use Rattle.tendril.specs.Texts.{Text};
-ghost use Rattle.tendril.specs.Lossy.{due};
-ghost use Rattle.tendril_bench.specs.Breaks.{is_marked};
+ghost use Rattle.tendril.specs.Lossy.{due, has_marks};
 
 use std::alloc::Global;
 use std::borrow::CowStr;
@@ -47,9 +46,10 @@ impl TendrilSink<StrTendril> for Breaks {
 
 impl Tracks<StrTendril> for Breaks {
     ghost use Rattle.std.specs.Prelude.{◌≡◌};
-    ghost use Rattle.tendril_bench.specs.Breaks.{is_marked, marked_after};
+    ghost use Rattle.tendril.specs.Lossy.{has_marks};
+    ghost use Rattle.tendril_bench.specs.Breaks.{marked_after};
 
-    ghost after = { λ a told. a.broken ≡ is_marked told };
+    ghost after = { λ a told. a.broken ≡ has_marks told };
 
     ghost goes_on = { λ told a e b is_sent was call. marked_after told a.broken b.broken e was call };
 }
@@ -62,7 +62,7 @@ pub fn is_broken<I: IntoIterator<Item = ByteTendril>>(
     requires { IsFiniteIterable I.into_iter_gives I.IntoIter.can_next I.IntoIter.remaining pieces }
     ensures { IfOk result (λ broken. (it : I.IntoIter) × (end : I.IntoIter) × (read : List Text)
         × I.into_iter_gives pieces it × YieldsThen I.IntoIter.next_gives it read None end
-        × (broken ≡ is_marked (due (flat_map (λ p. p.bytes) read)))) }
+        × (broken ≡ has_marks (due (flat_map (λ p. p.bytes) read)))) }
 {
     decode_pieces_into(alloc, Breaks { broken: false }, pieces)
 }

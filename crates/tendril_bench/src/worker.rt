@@ -15,7 +15,7 @@ pub fn louder_in_a_worker<R: Threads>(rt: &R, text: StrTendril) -> Result<StrTen
     let sent = text.into_send()?;
     let promise = Louder(Snapshot::of(&sent));
     let Ok(worker) = thread::spawn_with(rt, promise, move || make_louder(sent)) else {
-        return Err(Refusal::Memory);
+        return Err(Refusal::NotStarted);
     };
     let back = worker.join(rt)?;
     Ok(Tendril::from_send(back)?)

@@ -76,7 +76,7 @@ fn with_stream<D: Decode>(sum: u64, start: D, input: &[u8], cut: usize) -> u64
     sum
 }
 
-// Each two bytes of which the first isn't ASCII.
+// Each two bytes whose first isn't ASCII.
 fn sum_of_pairs<D: Decode + Copy>(start: D, cut: usize) -> u64
     requires fits { D.fits start ≡ true }
     requires cut { cut ≤ 2 }
@@ -177,7 +177,7 @@ fn sum_of_words<D: Decode + Copy>(start: D, words: &[[u8; 3]], cut: usize) -> u6
     sum
 }
 
-// Each two bytes of which the first is from 0x20 to 0x7F, in the set of two bytes of ISO-2022-JP.
+// Each two bytes whose first is from 0x20 to 0x7F, in the set of two bytes of ISO-2022-JP.
 fn sum_of_jis_pairs(cut: usize) -> u64
     requires { cut ≤ 7 }
 {

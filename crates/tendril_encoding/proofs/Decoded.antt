@@ -23,10 +23,11 @@ use Rattle.tendril_encoding.specs.declared.mark.Seen.TheVariants.{Nothing, Ef, E
 use Rattle.tendril_lossy.specs.Lossy.{Told, Char}
 use Rattle.tendril_text.proofs.Feeds.{Feeds-append, Feeds-none, Feeds-same, Feeds-weaker, Grows, Stops-after}
 use Rattle.tendril_text.proofs.Feeds.{Stops-more, Stops-weaker}
-use Rattle.tendril_stream.specs.Decoders.{FeedsEnd, FeedsPiece, StopsInEnd, StopsInPiece, no_piece}
+use Rattle.tendril_stream.specs.Decoders.{FeedsEnd, FeedsPiece, StopsInEnd, StopsInPiece}
 use Rattle.tendril_stream.specs.Sinks.{Sent, Piece, Fault, Feeds, IsSent, told, told_of}
 use Rattle.tendril_text.proofs.Decoding.{handed-through, long-behind}
 use Rattle.tendril_text.specs.Decoding.{IsRest}
+use Rattle.tendril_text.specs.TextLists.{no_text}
 use Rattle.tendril_text.specs.Texts.{Text}
 
 some_nil : (l : List ℕ) → 0 < length l → l ≡ [] → ⊥
@@ -199,17 +200,17 @@ module _ {S : Type 0} (takes : S → Sent → S → Type 0) (refuses : S → Sen
 
 -- The end of a stream.
 module _ {S : Type 0} (takes : S → Sent → S → Type 0) (refuses : S → Sent → Refusal → S → Type 0) (k : Known) where
-  end_fit : (st : State) (e : Sent) → IsSentIn no_piece e → FitState st no_piece e
+  end_fit : (st : State) (e : Sent) → IsSentIn no_text e → FitState st no_text e
   end_fit st e h = (h, λ p some ascii. absurd (omega (arith, some)))
 
-  seen_fit : (st : State) (e : Sent) → IsShortOrNew e → FitState st no_piece e
-  seen_fit st e h = end_fit st e (h no_piece)
+  seen_fit : (st : State) (e : Sent) → IsShortOrNew e → FitState st no_text e
+  seen_fit st e h = end_fit st e (h no_text)
 
   pub feeds_end : (a b : S) (o : Option Sniffing) → o ≡ None → EndsKnown takes a k.chosen b
       → FeedsEnd any takes a (record { known = k; sniffing = o }) b
   feeds_end a b o is h =
       subst (λ x. FeedsEnd any takes a (record { known = k; sniffing = x }) b) (sym is)
-      (Feeds-weaker takes (FitState (decided k) no_piece) (IsSentIn no_piece) (end_fit (decided k)) a b
+      (Feeds-weaker takes (FitState (decided k) no_text) (IsSentIn no_text) (end_fit (decided k)) a b
       (ends_known k.chosen) h)
 
   pub stops_end : (a b : S) (o : Option Sniffing) (r : Refusal) → o ≡ None
@@ -217,8 +218,8 @@ module _ {S : Type 0} (takes : S → Sent → S → Type 0) (refuses : S → Sen
       → StopsInEnd any takes refuses a (record { known = k; sniffing = o }) r b
   stops_end a b o r is h =
       subst (λ x. StopsInEnd any takes refuses a (record { known = k; sniffing = x }) r b) (sym is)
-      (Stops-weaker takes refuses (FitState (decided k) no_piece) (MayFail no_piece) (IsSentIn no_piece)
-      (MayFail no_piece) (end_fit (decided k)) (λ x e may. may) a b (ends_known k.chosen) r h)
+      (Stops-weaker takes refuses (FitState (decided k) no_text) (MayFail no_text) (IsSentIn no_text)
+      (MayFail no_text) (end_fit (decided k)) (λ x e may. may) a b (ends_known k.chosen) r h)
 
   -- after what was seen of a mark
   module _ (s : Sniffing) (o : Option Sniffing) (is : o ≡ Some s) where
@@ -233,10 +234,10 @@ module _ {S : Type 0} (takes : S → Sent → S → Type 0) (refuses : S → Sen
         → FeedsEnd any takes a (record { known = k; sniffing = o }) b
     feeds_seen_end a m b chosen fed h =
         subst (λ x. FeedsEnd any takes a (record { known = k; sniffing = x }) b) (sym is)
-        (Feeds-append takes (FitState looking no_piece) a m b seen
+        (Feeds-append takes (FitState looking no_text) a m b seen
         (ends_known (after_known k.chosen (seen_bytes s.seen)))
-        (Feeds-weaker takes (FitState looking no_piece) IsShortOrNew (seen_fit looking) a m seen fed.0)
-        (Feeds-weaker takes (FitState looking no_piece) (IsSentIn no_piece) (end_fit looking) m b
+        (Feeds-weaker takes (FitState looking no_text) IsShortOrNew (seen_fit looking) a m seen fed.0)
+        (Feeds-weaker takes (FitState looking no_text) (IsSentIn no_text) (end_fit looking) m b
         (ends_known (after_known k.chosen (seen_bytes s.seen)))
         (subst (λ c. EndsKnown takes m c b) fed.1 h)))
 
@@ -244,9 +245,9 @@ module _ {S : Type 0} (takes : S → Sent → S → Type 0) (refuses : S → Sen
         → StopsInEnd any takes refuses a (record { known = k; sniffing = o }) r b
     stops_seen a b r h =
         subst (λ x. StopsInEnd any takes refuses a (record { known = k; sniffing = x }) r b) (sym is)
-        (Stops-more takes refuses (FitState looking no_piece) (MayFail no_piece) (may_grows no_piece) a b seen
+        (Stops-more takes refuses (FitState looking no_text) (MayFail no_text) (may_grows no_text) a b seen
         (ends_known (after_known k.chosen (seen_bytes s.seen))) (ends_state k (Some s)) r
-        (Stops-weaker takes refuses (FitState looking no_piece) (MayFail no_piece) IsShortOrNew NoMemory
+        (Stops-weaker takes refuses (FitState looking no_text) (MayFail no_text) IsShortOrNew NoMemory
         (seen_fit looking)
         (λ x e may. inl may) a b seen r h) refl)
 
@@ -256,10 +257,10 @@ module _ {S : Type 0} (takes : S → Sent → S → Type 0) (refuses : S → Sen
         → StopsInEnd any takes refuses a (record { known = k; sniffing = o }) r b
     stops_seen_end a m b chosen r fed h =
         subst (λ x. StopsInEnd any takes refuses a (record { known = k; sniffing = x }) r b) (sym is)
-        (Stops-after takes refuses (FitState looking no_piece) (MayFail no_piece) a m b seen
+        (Stops-after takes refuses (FitState looking no_text) (MayFail no_text) a m b seen
         (ends_known (after_known k.chosen (seen_bytes s.seen))) (ends_state k (Some s)) r
-        (Feeds-weaker takes (FitState looking no_piece) IsShortOrNew (seen_fit looking) a m seen fed.0)
-        (Stops-weaker takes refuses (FitState looking no_piece) (MayFail no_piece) (IsSentIn no_piece)
-        (MayFail no_piece)
+        (Feeds-weaker takes (FitState looking no_text) IsShortOrNew (seen_fit looking) a m seen fed.0)
+        (Stops-weaker takes refuses (FitState looking no_text) (MayFail no_text) (IsSentIn no_text)
+        (MayFail no_text)
         (end_fit looking) (λ x e may. may) m b (ends_known (after_known k.chosen (seen_bytes s.seen))) r
         (subst (λ c. StopsInEndKnown takes refuses m c r b) fed.1 h)) refl)

@@ -1,9 +1,9 @@
 -- A sink that joins what it is sent.
 use Rattle.std.proofs.Common.{◌≡◌, List, ◌++◌}
 use Rattle.std.specs.Prelude.{◌||◌, encode_utf8_all}
-use Rattle.tendril_encoding.specs.HasMarks.{has_marks, is_error, whole_on}
+use Rattle.tendril_encoding.specs.HasMarks.{is_error, whole_on}
 use Rattle.tendril_encoding.specs.declared.whole.Whole.{Whole}
-use Rattle.tendril_lossy.specs.Lossy.{Told, characters}
+use Rattle.tendril_lossy.specs.Lossy.{Told, characters, has_marks}
 use Rattle.tendril_stream.specs.Compositions.{FollowsCalls}
 use Rattle.tendril_stream.specs.SentBytes.{sent_bytes}
 use Rattle.tendril_stream.specs.Sinks.{Sent}

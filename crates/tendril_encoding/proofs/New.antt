@@ -7,11 +7,11 @@ use Rattle.tendril_block.specs.declared.refusal.Refusal.{Refusal}
 use Rattle.tendril_encoding.specs.Sends.{IsNew, IsSentIn, MayFail, IsShortOrNew, NewStops, NoMemory, text_told}
 use Rattle.tendril_lossy.specs.Lossy.{Told}
 use Rattle.tendril_text.proofs.Feeds.{Grows, Stops-here}
-use Rattle.tendril_stream.specs.Decoders.{no_piece}
 use Rattle.tendril_stream.specs.Decodings.{PieceMay}
 use Rattle.tendril_stream.specs.Sinks.{Sent, Piece, Fault, IsSent, IsSentOf}
 use Rattle.tendril_text.proofs.Decoding.{long-some}
 use Rattle.tendril_text.specs.Decoding.{IsHandedOn}
+use Rattle.tendril_text.specs.TextLists.{no_text}
 use Rattle.tendril_text.specs.Texts.{Text}
 
 pub no_memory_grows : Grows NoMemory
@@ -36,11 +36,11 @@ pub few_in : (short : Text) → length short.bytes ≤ 8 → (e : Sent) → IsSe
 few_in short few (Piece t) h piece = inl (handed short piece t few h)
 few_in short few (Fault words) h piece = inl tt
 
-pub short_in : (e : Sent) → IsSentOf no_piece e → IsShortOrNew e
-short_in e h = few_in no_piece (omega arith) e h
+pub short_in : (e : Sent) → IsSentOf no_text e → IsShortOrNew e
+short_in e h = few_in no_text (omega arith) e h
 
 -- no text of a short piece shares a block
-pub no_count : (told : List Told) (r : Refusal) → PieceMay no_piece told r → NoMemory told r
+pub no_count : (told : List Told) (r : Refusal) → PieceMay no_text told r → NoMemory told r
 no_count told r h = absurd (omega (arith, long-some [] r h))
 
 -- no text could be made

@@ -15,9 +15,10 @@ use Rattle.tendril_encoding.specs.declared.known.Chosen.{Chosen}
 use Rattle.tendril_encoding.specs.declared.known.Chosen.TheVariants.{Pieces, Slices}
 use Rattle.tendril_lossy.specs.Lossy.{Char, kept}
 use Rattle.tendril_text.proofs.Feeds.{Feeds-none, Feeds-one, Feeds-same, Feeds-weaker, Stops-call, Stops-weaker}
-use Rattle.tendril_stream.specs.Decoders.{FeedsPiece, StopsInPiece, no_piece}
+use Rattle.tendril_stream.specs.Decoders.{FeedsPiece, StopsInPiece}
 use Rattle.tendril_stream.specs.Decodings.{PieceMay, utf8}
 use Rattle.tendril_stream.specs.Sinks.{Sent, Piece, Feeds, IsSentOf, RefusesCall, Stops, told_of}
+use Rattle.tendril_text.specs.TextLists.{no_text}
 use Rattle.tendril_text.specs.Texts.{Text}
 
 pub fit_whole : (c : Chosen) (piece : Text) → 0 < length piece.bytes → IsAscii piece.bytes
@@ -95,19 +96,19 @@ module _ {S : Type 0} (takes : S → Sent → S → Type 0) (refuses : S → Sen
       (subst (λ x. NewStops takes refuses a (out_known x piece.bytes) r b) (sym is) h)
 
 -- what is sent at the end
-pub end_new : (e : Sent) → IsShortOrNew e → IsSentIn no_piece e
-end_new e h = h no_piece
+pub end_new : (e : Sent) → IsShortOrNew e → IsSentIn no_text e
+end_new e h = h no_text
 
 module _ {S : Type 0} (takes : S → Sent → S → Type 0) (refuses : S → Sent → Refusal → S → Type 0) (c : Chosen)
     (d : AnyDecoder) (is : c ≡ Slices d) where
   pub ends_slices : (a b : S) → FeedsNew takes a (slices.ends d) b → EndsKnown takes a c b
   ends_slices a b h =
-      Feeds-weaker takes (IsSentIn no_piece) IsShortOrNew end_new a b (ends_known c)
+      Feeds-weaker takes (IsSentIn no_text) IsShortOrNew end_new a b (ends_known c)
       (subst (λ x. FeedsNew takes a (ends_known x) b) (sym is) h)
 
   pub end_stops_slices : (a b : S) (r : Refusal) → NewStops takes refuses a (slices.ends d) r b
       → StopsInEndKnown takes refuses a c r b
   end_stops_slices a b r h =
-      Stops-weaker takes refuses (IsSentIn no_piece) (MayFail no_piece) IsShortOrNew NoMemory end_new
+      Stops-weaker takes refuses (IsSentIn no_text) (MayFail no_text) IsShortOrNew NoMemory end_new
       (λ x e may. inl may) a b (ends_known c) r
       (subst (λ x. NewStops takes refuses a (ends_known x) r b) (sym is) h)

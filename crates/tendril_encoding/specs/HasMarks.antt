@@ -3,19 +3,13 @@ use Rattle.std.proofs.Common.{◌≡◌, ℕ, Bool, true, false, List, [], ◌�
 use Rattle.std.proofs.lemmas.Str.{encodes-append}
 use Rattle.std.specs.Prelude.{◌||◌, chars, encode_utf8_all}
 use Rattle.tendril_lossy.proofs.Told.{characters-append}
-use Rattle.tendril_lossy.specs.Lossy.{Told, Char, Mark, characters}
+use Rattle.tendril_lossy.specs.Lossy.{Told, Char, Mark, characters, has_marks}
 use Rattle.tendril_stream.specs.SentBytes.{sent_bytes, told_bytes}
 use Rattle.tendril_stream.specs.Sinks.{Sent, Piece, Fault, IsSent, told_of}
 
 abbrev pub is_error : Sent → Bool
 is_error (Piece t) = false
 is_error (Fault words) = true
-
--- whether an output has an error
-abbrev pub has_marks : List Told → Bool
-has_marks [] = false
-has_marks (Char c ∷ told) = has_marks told
-has_marks (Mark words ∷ told) = true
 
 marks-append : (t u : List Told) → has_marks (t ++ u) ≡ (has_marks t || has_marks u)
 marks-append [] u = refl

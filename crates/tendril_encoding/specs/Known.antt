@@ -12,8 +12,8 @@ use Rattle.tendril_encoding.specs.declared.known.Chosen.{Chosen}
 use Rattle.tendril_encoding.specs.declared.known.Chosen.TheVariants.{Pieces, Slices}
 use Rattle.tendril_lossy.specs.Lossy.{Told}
 use Rattle.tendril_stream.specs.Decodings.{utf8}
-use Rattle.tendril_stream.specs.Decoders.{no_piece}
 use Rattle.tendril_stream.specs.Sinks.{Sent, Piece, Feeds, Stops}
+use Rattle.tendril_text.specs.TextLists.{no_text}
 use Rattle.tendril_text.specs.Texts.{Text}
 
 -- the machine of the encodings that are decoded by slices; where it starts is the encoding
@@ -80,9 +80,9 @@ StopsInKnown takes refuses old c piece refusal new =
 
 -- the same of the end of the stream
 abbrev pub EndsKnown : {S : Type 0} → (S → Sent → S → Type 0) → S → Chosen → S → Type 0
-EndsKnown takes old c new = Feeds takes (IsSentIn no_piece) old (ends_known c) new
+EndsKnown takes old c new = Feeds takes (IsSentIn no_text) old (ends_known c) new
 
 abbrev pub StopsInEndKnown : {S : Type 0} → (S → Sent → S → Type 0) → (S → Sent → Refusal → S → Type 0) → S → Chosen
     → Refusal → S → Type 0
 StopsInEndKnown takes refuses old c refusal new =
-    Stops takes refuses (IsSentIn no_piece) (MayFail no_piece) old (ends_known c) refusal new
+    Stops takes refuses (IsSentIn no_text) (MayFail no_text) old (ends_known c) refusal new

@@ -2,11 +2,10 @@
 use Rattle.std.specs.Prelude.{◌≡◌, ℕ, ◌⊎◌, Bool, false, List, [], encode_utf8_all, slice_range}
 use Rattle.tendril_block.specs.declared.refusal.Refusal.{Refusal}
 use Rattle.tendril_block.specs.declared.refusal.Refusal.TheVariants.{Memory, SinkRefused}
-use Rattle.tendril_encoding.specs.HasMarks.{has_marks}
 use Rattle.tendril_encoding.specs.States.{decoding_from}
 use Rattle.tendril_encoding.specs.declared.kept.State.{State}
 use Rattle.tendril_encoding.specs.declared.whole.Whole.{Whole}
-use Rattle.tendril_lossy.specs.Lossy.{characters}
+use Rattle.tendril_lossy.specs.Lossy.{characters, has_marks}
 use Rattle.tendril_text.specs.Decoding.{LongPieceMay}
 
 -- the text is the decoding of the input from a state, and `malformed` says whether that has an error

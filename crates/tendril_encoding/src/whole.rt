@@ -54,8 +54,8 @@ impl TendrilSink<StrTendril> for Whole {
 /// The text is the UTF-8 of the characters that were sent.
 impl Tracks<StrTendril> for Whole {
     ghost use Rattle.std.specs.Prelude.{◌≡◌, encode_utf8_all};
-    ghost use Rattle.tendril_lossy.specs.Lossy.{characters};
-    ghost use Rattle.tendril_encoding.specs.HasMarks.{has_marks, whole_on};
+    ghost use Rattle.tendril_lossy.specs.Lossy.{characters, has_marks};
+    ghost use Rattle.tendril_encoding.specs.HasMarks.{whole_on};
 
     ghost after = { λ a t. (a.text.bytes ≡ encode_utf8_all (characters t)) × (a.malformed ≡ has_marks t) };
 

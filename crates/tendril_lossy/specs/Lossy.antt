@@ -10,6 +10,8 @@ use Rattle.std.specs.Prelude.{
   ◌⊎◌,
   ◌&&◌,
   Bool,
+  true,
+  false,
   List,
   [],
   ◌∷◌,
@@ -122,6 +124,12 @@ abbrev pub characters : List Told → List ℕ
 characters [] = []
 characters (Char c ∷ told) = c ∷ characters told
 characters (Mark words ∷ told) = characters told
+
+-- whether an output has an error
+abbrev pub has_marks : List Told → Bool
+has_marks [] = false
+has_marks (Char c ∷ told) = has_marks told
+has_marks (Mark words ∷ told) = true
 
 -- the bytes of the item that is cut off, if there is one
 abbrev pub cut_bytes : List Item → List ℕ

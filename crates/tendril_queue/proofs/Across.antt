@@ -39,7 +39,8 @@ use Rattle.tendril_queue.specs.declared.eat.Case.{Case}
 use Rattle.tendril_queue.specs.declared.eat.EatResult.{EatResult}
 use Rattle.tendril_queue.specs.declared.eat.EatResult.TheVariants.{Eaten, NotThere, NotKnown}
 use Rattle.tendril_queue.specs.Eating.{AreSame, Meets}
-use Rattle.tendril_queue.specs.Queues.{queued_bytes, unless_empty, all_texts, IsQueue, DropsFront}
+use Rattle.tendril_queue.specs.Queues.{all_texts, IsQueue}
+use Rattle.tendril_text.specs.TextLists.{bytes_of_all, unless_empty, DropsFront}
 use Rattle.tendril_text.specs.Texts.{Text, Keeps}
 
 -- the first text is within the pattern
@@ -103,26 +104,28 @@ module _ (case : Case) (text bytes pattern : List ℕ) (within : length text ≤
 -- bytes were dropped of the first text, and some of it are left
 
 module _ (t : Text) (xs : List Text) (count : ℕ) (q : IsQueue t xs) (short : count < length t.bytes)
-    (valid : IsUtf8 (take count (t.bytes ++ queued_bytes xs))) where
+    (valid : IsUtf8 (take count (t.bytes ++ bytes_of_all xs))) where
   pub left_valid : IsUtf8 (drop count t.bytes)
   left_valid =
       let within : count ≤ length t.bytes = omega (arith, short) in
       IsUtf8-drop t.bytes count q.valid (IsCharBoundary-from_take t.bytes count q.valid within
-      (subst IsUtf8 (take-append-le count t.bytes (queued_bytes xs) within) valid))
+      (subst IsUtf8 (take-append-le count t.bytes (bytes_of_all xs) within) valid))
 
   pub left_of_all : (left : Text) → left.bytes ≡ drop count t.bytes
-      → left.bytes ++ queued_bytes xs ≡ drop count (t.bytes ++ queued_bytes xs)
-  left_of_all left e = ap (λ b. b ++ queued_bytes xs) e
-      ∙ sym (drop-append-le count t.bytes (queued_bytes xs) (omega (arith, short)))
+      → left.bytes ++ bytes_of_all xs ≡ drop count (t.bytes ++ bytes_of_all xs)
+  left_of_all left e = ap (λ b. b ++ bytes_of_all xs) e
+      ∙ sym (drop-append-le count t.bytes (bytes_of_all xs) (omega (arith, short)))
 
   pub left_queue : (left : Text) → left.bytes ≡ drop count t.bytes → IsQueue left xs
   left_queue left e =
       let size : length left.bytes ≡ length t.bytes - count = ap length e ∙ length-drop count t.bytes in
       first_some left xs (subst IsUtf8 (sym e) left_valid) (omega (arith, size, short)) q.each
 
-  pub left_loses : (left : Text) → Keeps t left → DropsFront (all_texts t xs) (all_texts left xs)
-  left_loses left keeps = loses (all_texts t xs) (all_texts left xs) t left (leaves_first t left xs (all_texts left xs)
-      (omega (arith, short)) refl) keeps
+  pub left_loses : (left : Text) → left.bytes ≡ drop count t.bytes → Keeps t left
+      → DropsFront (all_texts t xs) (all_texts left xs)
+  left_loses left e keeps = loses (all_texts t xs) (all_texts left xs) t left (leaves_first t left xs (all_texts left xs)
+      (omega (arith, short)) refl) (take count t.bytes) (sym (take-append-drop count t.bytes)
+      ∙ ap (λ l. take count t.bytes ++ l) (sym e)) keeps
 
 -- all bytes of the first text were dropped, and some of the rest
 
@@ -130,28 +133,28 @@ module _ (t : Text) (xs : List Text) (count : ℕ) (q : IsQueue t xs) (long : le
   sum : length t.bytes + (count - length t.bytes) ≡ count
   sum = omega (arith, long)
 
-  pub rest_there : count ≤ length (t.bytes ++ queued_bytes xs) → count - length t.bytes ≤ length (queued_bytes xs)
+  pub rest_there : count ≤ length (t.bytes ++ bytes_of_all xs) → count - length t.bytes ≤ length (bytes_of_all xs)
   rest_there there =
-      let all : length (t.bytes ++ queued_bytes xs) ≡ length t.bytes + length (queued_bytes xs) =
-      length-append t.bytes (queued_bytes xs) in
+      let all : length (t.bytes ++ bytes_of_all xs) ≡ length t.bytes + length (bytes_of_all xs) =
+      length-append t.bytes (bytes_of_all xs) in
       omega (arith, there, all)
 
-  pub rest_valid : IsUtf8 (take count (t.bytes ++ queued_bytes xs))
-      → IsUtf8 (take (count - length t.bytes) (queued_bytes xs))
+  pub rest_valid : IsUtf8 (take count (t.bytes ++ bytes_of_all xs))
+      → IsUtf8 (take (count - length t.bytes) (bytes_of_all xs))
   rest_valid valid =
-      valid_after t.bytes (take (count - length t.bytes) (queued_bytes xs)) (subst IsUtf8
-      (ap (λ m. take m (t.bytes ++ queued_bytes xs)) (sym sum)
-      ∙ take-append-add t.bytes (queued_bytes xs) (count - length t.bytes)) valid) q.valid
+      valid_after t.bytes (take (count - length t.bytes) (bytes_of_all xs)) (subst IsUtf8
+      (ap (λ m. take m (t.bytes ++ bytes_of_all xs)) (sym sum)
+      ∙ take-append-add t.bytes (bytes_of_all xs) (count - length t.bytes)) valid) q.valid
 
   -- the rest, and then the queue whose first text is filled again
   pub rest_of_all : (ys : List Text) (left f : Text) (zs : List Text)
-      → queued_bytes ys ≡ drop (count - length t.bytes) (queued_bytes xs) → left.bytes ≡ []
+      → bytes_of_all ys ≡ drop (count - length t.bytes) (bytes_of_all xs) → left.bytes ≡ []
       → all_texts f zs ≡ all_texts left ys
-      → f.bytes ++ queued_bytes zs ≡ drop count (t.bytes ++ queued_bytes xs)
+      → f.bytes ++ bytes_of_all zs ≡ drop count (t.bytes ++ bytes_of_all xs)
   rest_of_all ys left f zs e none filled =
-      sym (all_bytes f zs) ∙ ap queued_bytes (filled ∙ all_none left ys none) ∙ e
-      ∙ sym (drop-append-add t.bytes (queued_bytes xs) (count - length t.bytes))
-      ∙ ap (λ m. drop m (t.bytes ++ queued_bytes xs)) sum
+      sym (all_bytes f zs) ∙ ap bytes_of_all (filled ∙ all_none left ys none) ∙ e
+      ∙ sym (drop-append-add t.bytes (bytes_of_all xs) (count - length t.bytes))
+      ∙ ap (λ m. drop m (t.bytes ++ bytes_of_all xs)) sum
 
   pub rest_loses : (ys : List Text) (left f : Text) (zs : List Text) → left.bytes ≡ []
       → all_texts f zs ≡ all_texts left ys → DropsFront xs ys

@@ -38,7 +38,8 @@ use Rattle.std.proofs.lemmas.List.{
 use Rattle.std.proofs.lemmas.List.Elements.{All-head, All-tail}
 use Rattle.std.proofs.lemmas.Str.{IsUtf8-drop, IsCharBoundary-from_take}
 use Rattle.tendril_queue.proofs.Fronts.{leaves_some, left_bytes, left_each}
-use Rattle.tendril_queue.specs.Queues.{queued_bytes, IsQueued, AreQueued, DropsFront}
+use Rattle.tendril_queue.specs.Queues.{IsQueued, AreQueued}
+use Rattle.tendril_text.specs.TextLists.{bytes_of_all, DropsFront}
 use Rattle.tendril_text.specs.Texts.{Text, Keeps}
 
 -- what follows a prefix in UTF-8 is UTF-8 if the prefix is
@@ -53,9 +54,9 @@ valid_after xs ys valid front =
 -- ys are xs without the first texts; of the `count` bytes to be removed from xs, `left` are still to be removed from ys
 pub record IsDropping (xs ys : List Text) (count left : ℕ) : Type 0 where
   pub each : AreQueued ys
-  pub bytes : drop left (queued_bytes ys) ≡ drop count (queued_bytes xs)
-  pub there : left ≤ length (queued_bytes ys)
-  pub valid : IsUtf8 (take left (queued_bytes ys))
+  pub bytes : drop left (bytes_of_all ys) ≡ drop count (bytes_of_all xs)
+  pub there : left ≤ length (bytes_of_all ys)
+  pub valid : IsUtf8 (take left (bytes_of_all ys))
   pub gone : List Text
   pub had : xs ≡ gone ++ ys
 
@@ -67,18 +68,18 @@ dropping_more xs (y ∷ rest) t count left some is h d =
     let k = left - length t.bytes in
     let len : length t.bytes ≡ length y.bytes = ap (λ (x : Text). length x.bytes) is in
     let sum : length y.bytes + k ≡ left = omega (arith, len, h) in
-    let size : length (queued_bytes (y ∷ rest)) ≡ length y.bytes + length (queued_bytes rest) =
-    length-append y.bytes (queued_bytes rest) in
-    let front : take left (queued_bytes (y ∷ rest)) ≡ y.bytes ++ take k (queued_bytes rest) =
-    ap (λ n. take n (queued_bytes (y ∷ rest))) (sym sum) ∙ take-append-add y.bytes (queued_bytes rest) k in
-    let past : drop left (queued_bytes (y ∷ rest)) ≡ drop k (queued_bytes rest) =
-    ap (λ n. drop n (queued_bytes (y ∷ rest))) (sym sum) ∙ sym (drop-drop k (length y.bytes) (queued_bytes
-    (y ∷ rest))) ∙ ap (drop k) (drop_at y.bytes (queued_bytes rest) (length y.bytes) refl) in
+    let size : length (bytes_of_all (y ∷ rest)) ≡ length y.bytes + length (bytes_of_all rest) =
+    length-append y.bytes (bytes_of_all rest) in
+    let front : take left (bytes_of_all (y ∷ rest)) ≡ y.bytes ++ take k (bytes_of_all rest) =
+    ap (λ n. take n (bytes_of_all (y ∷ rest))) (sym sum) ∙ take-append-add y.bytes (bytes_of_all rest) k in
+    let past : drop left (bytes_of_all (y ∷ rest)) ≡ drop k (bytes_of_all rest) =
+    ap (λ n. drop n (bytes_of_all (y ∷ rest))) (sym sum) ∙ sym (drop-drop k (length y.bytes) (bytes_of_all
+    (y ∷ rest))) ∙ ap (drop k) (drop_at y.bytes (bytes_of_all rest) (length y.bytes) refl) in
     record {
       each = All-tail IsQueued y rest d.each;
       bytes = sym past ∙ d.bytes;
       there = let all = d.there in omega (arith, all, size, sum);
-      valid = valid_after y.bytes (take k (queued_bytes rest)) (subst IsUtf8 front d.valid)
+      valid = valid_after y.bytes (take k (bytes_of_all rest)) (subst IsUtf8 front d.valid)
           (All-head IsQueued y rest d.each).valid;
       gone = d.gone ++ y ∷ [];
       had = d.had ∙ sym (append_assoc d.gone (y ∷ []) rest);
@@ -91,8 +92,8 @@ cuts_valid xs [] t count left some is h d = absurd (omega arith)
 cuts_valid xs (y ∷ rest) t count left some is h d =
     let same : t.bytes ≡ y.bytes = ap (λ (x : Text). x.bytes) is in
     let short : left ≤ length y.bytes = omega (arith, h, ap length same) in
-    let front : take left (queued_bytes (y ∷ rest)) ≡ take left y.bytes =
-    take-append-le left y.bytes (queued_bytes rest) short in
+    let front : take left (bytes_of_all (y ∷ rest)) ≡ take left y.bytes =
+    take-append-le left y.bytes (bytes_of_all rest) short in
     let valid = (All-head IsQueued y rest d.each).valid in
     subst (λ l. IsUtf8 (drop left l)) (sym same) (IsUtf8-drop y.bytes left valid
     (IsCharBoundary-from_take y.bytes left valid short (subst IsUtf8 front d.valid)))
@@ -101,7 +102,7 @@ cuts_valid xs (y ∷ rest) t count left some is h d =
 pub dropped_within : (xs ys : List Text) (t cut : Text) (count left : ℕ) → 0 < length ys → t ≡ get_or ys 0 t
     → left < length t.bytes → IsDropping xs ys count left → cut.bytes ≡ drop left t.bytes → Keeps t cut
     → IsUtf8 cut.bytes
-    → AreQueued (set ys 0 cut) × (queued_bytes (set ys 0 cut) ≡ drop count (queued_bytes xs))
+    → AreQueued (set ys 0 cut) × (bytes_of_all (set ys 0 cut) ≡ drop count (bytes_of_all xs))
     × DropsFront xs (set ys 0 cut)
 dropped_within xs ys t cut count left some is h d e keeps valid =
     let all : t.bytes ≡ take left t.bytes ++ cut.bytes = sym (take-append-drop left t.bytes)
@@ -111,13 +112,20 @@ dropped_within xs ys t cut count left some is h d e keeps valid =
     ∙ length-append (take left t.bytes) cut.bytes in
     let l = leaves_some ys t cut some is (omega (arith, size, front, h)) in (
       left_each ys (set ys 0 cut) t cut l d.each valid,
-      sym (drop_at (take left t.bytes) (queued_bytes (set ys 0 cut)) left front)
+      sym (drop_at (take left t.bytes) (bytes_of_all (set ys 0 cut)) left front)
           ∙ ap (drop left) (sym (left_bytes ys (set ys 0 cut) t cut l (take left t.bytes) all)) ∙ d.bytes,
       record {
         gone = d.gone;
         others = ys;
         had = d.had;
         has =
-            inr (record { first = t; left = cut; leaves = l; keeps = keeps });
+            inr (record {
+              first = t;
+              left = cut;
+              leaves = l;
+              lost = take left t.bytes;
+              bytes = all;
+              keeps = keeps;
+            });
       },
     )

@@ -2,7 +2,6 @@ pub mod Across
 pub mod Dropped
 pub mod Eaten
 pub mod Fronts
-pub mod LineEnds
 pub mod Lined
 pub mod Looked
 pub mod Sameness

@@ -33,27 +33,27 @@ use Rattle.std.proofs.lemmas.List.{
   take_rest,
   drop_more,
 }
-use Rattle.tendril_queue.proofs.Fronts.{joined-append, joined_push}
 use Rattle.tendril_queue.proofs.Sameness.{same_after, same_join}
 use Rattle.tendril_queue.specs.declared.eat.Case.{Case}
 use Rattle.tendril_queue.specs.Eating.{AreSame, BeginsWith, Differs}
-use Rattle.tendril_queue.specs.Queues.{queued_bytes}
+use Rattle.tendril_text.proofs.TextLists.{joined-append, joined_push}
+use Rattle.tendril_text.specs.TextLists.{bytes_of_all}
 use Rattle.tendril_text.specs.Texts.{Text}
 
 -- the first `index` texts are the same as the first `at` bytes of the pattern, which is longer
 pub record IsPassed (case : Case) (pattern : List ℕ) (xs : List Text) (index at : ℕ) : Type 0 where
-  pub len : at ≡ length (queued_bytes (take index xs))
+  pub len : at ≡ length (bytes_of_all (take index xs))
   pub within : at ≤ length pattern
   pub more : 0 < index → at < length pattern
-  pub same : AreSame case (queued_bytes (take index xs)) (take at pattern)
+  pub same : AreSame case (bytes_of_all (take index xs)) (take at pattern)
 
 -- the bytes of the texts, split at one of them
 joined_at : (xs : List Text) (t : Text) (index : ℕ) → index < length xs → t ≡ get_or xs index t
-    → queued_bytes xs ≡ queued_bytes (take index xs) ++ (t.bytes ++ queued_bytes (drop (index + 1) xs))
+    → bytes_of_all xs ≡ bytes_of_all (take index xs) ++ (t.bytes ++ bytes_of_all (drop (index + 1) xs))
 joined_at xs t index h is =
-    ap queued_bytes (sym (take-append-drop index xs) ∙ ap (λ l. take index xs ++ l) (drop_more xs index t h))
+    ap bytes_of_all (sym (take-append-drop index xs) ∙ ap (λ l. take index xs ++ l) (drop_more xs index t h))
     ∙ joined-append (take index xs) (get_or xs index t ∷ drop (index + 1) xs)
-    ∙ ap (λ (x : Text). queued_bytes (take index xs) ++ (x.bytes ++ queued_bytes (drop (index + 1) xs))) (sym is)
+    ∙ ap (λ (x : Text). bytes_of_all (take index xs) ++ (x.bytes ++ bytes_of_all (drop (index + 1) xs))) (sym is)
 
 -- the next `count` bytes are compared, in one of the texts
 pub record IsNext (case : Case) (pattern : List ℕ) (xs : List Text) (t : Text) (index at count : ℕ) : Type 0 where
@@ -65,12 +65,12 @@ pub record IsNext (case : Case) (pattern : List ℕ) (xs : List Text) (t : Text)
 module _ (case : Case) (pattern : List ℕ) (xs : List Text) (t : Text) (index at count : ℕ) where
   -- the bytes of the texts that are compared then
   front : IsPassed case pattern xs index at → IsNext case pattern xs t index at count
-      → take (at + count) (queued_bytes xs) ≡ queued_bytes (take index xs) ++ take count t.bytes
+      → take (at + count) (bytes_of_all xs) ≡ bytes_of_all (take index xs) ++ take count t.bytes
   front p n =
       ap₂ take (ap (λ m. m + count) p.len) (joined_at xs t index n.there n.is)
-      ∙ take-append-add (queued_bytes (take index xs)) (t.bytes ++ queued_bytes (drop (index + 1) xs)) count
-      ∙ ap (λ l. queued_bytes (take index xs) ++ l)
-      (take-append-le count t.bytes (queued_bytes (drop (index + 1) xs)) n.in_text)
+      ∙ take-append-add (bytes_of_all (take index xs)) (t.bytes ++ bytes_of_all (drop (index + 1) xs)) count
+      ∙ ap (λ l. bytes_of_all (take index xs) ++ l)
+      (take-append-le count t.bytes (bytes_of_all (drop (index + 1) xs)) n.in_text)
 
   front_len : IsPassed case pattern xs index at → length (take at pattern) ≡ at
   front_len p = length-take-le at pattern p.within
@@ -82,47 +82,47 @@ module _ (case : Case) (pattern : List ℕ) (xs : List Text) (t : Text) (index a
       ∙ take-append-add (take at pattern) (drop at pattern) count
 
   total : IsPassed case pattern xs index at → IsNext case pattern xs t index at count
-      → at + count ≤ length (queued_bytes xs)
+      → at + count ≤ length (bytes_of_all xs)
   total p n =
-      let rest = queued_bytes (drop (index + 1) xs) in
-      let size : length (queued_bytes xs) ≡ length (queued_bytes (take index xs)) + (length t.bytes + length rest) =
-      ap length (joined_at xs t index n.there n.is) ∙ length-append (queued_bytes (take index xs)) (t.bytes ++ rest)
-      ∙ ap (λ m. length (queued_bytes (take index xs)) + m) (length-append t.bytes rest) in
+      let rest = bytes_of_all (drop (index + 1) xs) in
+      let size : length (bytes_of_all xs) ≡ length (bytes_of_all (take index xs)) + (length t.bytes + length rest) =
+      ap length (joined_at xs t index n.there n.is) ∙ length-append (bytes_of_all (take index xs)) (t.bytes ++ rest)
+      ∙ ap (λ m. length (bytes_of_all (take index xs)) + m) (length-append t.bytes rest) in
       let len = p.len in
       let in_text = n.in_text in
       omega (arith, size, len, in_text)
 
   pub differs : IsPassed case pattern xs index at → IsNext case pattern xs t index at count
       → (AreSame case (take count t.bytes) (take count (drop at pattern)) → ⊥)
-      → Differs (AreSame case) pattern (queued_bytes xs)
+      → Differs (AreSame case) pattern (bytes_of_all xs)
   differs p n other = record {
     count = at + count;
     within = total p n;
     in_pattern = n.in_pattern;
-    other = λ same. other (same_after case (queued_bytes (take index xs)) (take at pattern) (take count t.bytes)
+    other = λ same. other (same_after case (bytes_of_all (take index xs)) (take at pattern) (take count t.bytes)
         (take count (drop at pattern))
         (sym p.len ∙ sym (front_len p))
-        (subst (λ l. AreSame case (queued_bytes (take index xs) ++ take count t.bytes) l) (pattern_front p) (subst
+        (subst (λ l. AreSame case (bytes_of_all (take index xs) ++ take count t.bytes) l) (pattern_front p) (subst
         (λ l. AreSame case l (take (at + count) pattern)) (front p n) same)));
   }
 
   -- if the next bytes are the same, all bytes so far are
   together : IsPassed case pattern xs index at → IsNext case pattern xs t index at count
       → AreSame case (take count t.bytes) (take count (drop at pattern))
-      → AreSame case (queued_bytes (take index xs) ++ take count t.bytes) (take (at + count) pattern)
+      → AreSame case (bytes_of_all (take index xs) ++ take count t.bytes) (take (at + count) pattern)
   together p n same =
-      subst (λ l. AreSame case (queued_bytes (take index xs) ++ take count t.bytes) l) (sym (pattern_front p))
-      (same_join case (queued_bytes (take index xs)) (take at pattern) (take count t.bytes) (take count
+      subst (λ l. AreSame case (bytes_of_all (take index xs) ++ take count t.bytes) l) (sym (pattern_front p))
+      (same_join case (bytes_of_all (take index xs)) (take at pattern) (take count t.bytes) (take count
       (drop at pattern)) p.same same)
 
   pub begins : IsPassed case pattern xs index at → IsNext case pattern xs t index at count
       → AreSame case (take count t.bytes) (take count (drop at pattern)) → at + count ≡ length pattern
-      → BeginsWith (AreSame case) pattern (queued_bytes xs)
+      → BeginsWith (AreSame case) pattern (bytes_of_all xs)
   begins p n same all = record {
-    within = subst (λ m. m ≤ length (queued_bytes xs)) all (total p n);
+    within = subst (λ m. m ≤ length (bytes_of_all xs)) all (total p n);
     is = let whole : take (at + count) pattern ≡ pattern = take_all (at + count) pattern (omega (arith, all)) in
-        subst (λ m. AreSame case (take m (queued_bytes xs)) pattern) all
-        (subst (λ l. AreSame case l pattern) (sym (front p n)) (subst (λ l. AreSame case (queued_bytes
+        subst (λ m. AreSame case (take m (bytes_of_all xs)) pattern) all
+        (subst (λ l. AreSame case l pattern) (sym (front p n)) (subst (λ l. AreSame case (bytes_of_all
         (take index xs) ++ take count t.bytes) l) whole (together p n same)));
   }
 
@@ -131,17 +131,17 @@ module _ (case : Case) (pattern : List ℕ) (xs : List Text) (t : Text) (index a
       → AreSame case (take count t.bytes) (take count (drop at pattern)) → at + count < length pattern
       → count ≡ length t.bytes → IsPassed case pattern xs (index + 1) (at + count)
   passed_more p n same goes_on whole =
-      let next : queued_bytes (take (index + 1) xs) ≡ queued_bytes (take index xs) ++ t.bytes =
-      ap queued_bytes (take_more xs index t n.there) ∙ joined_push (take index xs) (get_or xs index t)
-      ∙ ap (λ (x : Text). queued_bytes (take index xs) ++ x.bytes) (sym n.is) in
+      let next : bytes_of_all (take (index + 1) xs) ≡ bytes_of_all (take index xs) ++ t.bytes =
+      ap bytes_of_all (take_more xs index t n.there) ∙ joined_push (take index xs) (get_or xs index t)
+      ∙ ap (λ (x : Text). bytes_of_all (take index xs) ++ x.bytes) (sym n.is) in
       let len = p.len in
       let all : take count t.bytes ≡ t.bytes = take_all count t.bytes (omega (arith, whole)) in
       record {
-        len = ap₂ (λ x y. x + y) len whole ∙ sym (length-append (queued_bytes (take index xs)) t.bytes)
+        len = ap₂ (λ x y. x + y) len whole ∙ sym (length-append (bytes_of_all (take index xs)) t.bytes)
             ∙ ap length (sym next);
         within = omega (arith, goes_on);
         more = λ _. goes_on;
-        same = subst (λ l. AreSame case l (take (at + count) pattern)) (ap (λ l. queued_bytes
+        same = subst (λ l. AreSame case l (take (at + count) pattern)) (ap (λ l. bytes_of_all
             (take index xs) ++ l) all ∙ sym next) (together p n same);
       }
 

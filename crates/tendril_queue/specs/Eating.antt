@@ -5,7 +5,8 @@ use Rattle.tendril_queue.specs.declared.eat.Case.{Case}
 use Rattle.tendril_queue.specs.declared.eat.Case.TheVariants.{Matters, AsciiIgnored}
 use Rattle.tendril_queue.specs.declared.eat.EatResult.{EatResult}
 use Rattle.tendril_queue.specs.declared.eat.EatResult.TheVariants.{Eaten, NotThere, NotKnown}
-use Rattle.tendril_queue.specs.Queues.{Queued, DropsFront}
+use Rattle.tendril_queue.specs.Queues.{Queued}
+use Rattle.tendril_text.specs.TextLists.{DropsFront}
 
 -- equal but for the case of ASCII letters
 abbrev pub AreSameInAnyCase : List ℕ → List ℕ → Type 0

@@ -1,12 +1,14 @@
 -- A line at the front of a queue.
-use Rattle.std.specs.Prelude.{◌≡◌, ℕ, ◌<◌, ◌≤◌, ◌+◌, ◌⊎◌, List, [], ◌∷◌, ◌++◌, length, get_or, take, drop, IsUtf8}
+use Rattle.std.specs.Prelude.{◌≡◌, ℕ, ◌<◌, ◌≤◌, ◌+◌, ◌⊎◌, List, ◌∷◌, ◌++◌, length, get_or, take}
 use Rattle.memchr.specs.Find.{is_byte}
-use Rattle.tendril_block.specs.declared.atomicity.TheConstants.{INLINE_LEN, MAX_LEN}
+use Rattle.tendril_block.specs.declared.atomicity.TheConstants.{MAX_LEN}
 use Rattle.tendril_block.specs.declared.refusal.Refusal.{Refusal}
-use Rattle.tendril_block.specs.declared.refusal.Refusal.TheVariants.{Count, TooLong}
+use Rattle.tendril_block.specs.declared.refusal.Refusal.TheVariants.{TooLong}
 use Rattle.tendril_block.specs.Outcomes.{MemoryMay}
-use Rattle.tendril_queue.specs.Queues.{Queued, DropsFront, LeavesOfFirst, queued_bytes}
-use Rattle.tendril_text.specs.Splits.{EndsPart, LacksSet, TakesEnded}
+use Rattle.tendril_queue.specs.Queues.{Queued}
+use Rattle.tendril_text.specs.Partings.{BothLong}
+use Rattle.tendril_text.specs.Splits.{EndsFirstLine, EndsPart, LacksFeed, TakesEnded}
+use Rattle.tendril_text.specs.TextLists.{DropsFront, LeavesOfFirst, bytes_of_all}
 use Rattle.tendril_text.specs.Texts.{Text, Parts}
 
 -- the words of the first line are before its LF, and `rest` is after it
@@ -35,10 +37,6 @@ pub record PopsLine (old : Queued) (line : Text) (new : Queued) : Type 0 where
   pub bytes : old.bytes ≡ line.bytes ++ new.bytes
   pub texts : SplitsFirst old.texts line new.texts ⊎ SpansTexts old.texts line new.texts
 
--- Count is permitted: a line of `count` bytes and the remainder of its text have more than 8 bytes each
-abbrev pub SplitLineMay : ℕ → ℕ → Refusal → Type 0
-SplitLineMay count total r = (r ≡ Count) × (INLINE_LEN < count) × (INLINE_LEN + count < total)
-
 -- a line of `count` bytes that spans texts can't be made: it is longer than a text can be, or there is no memory
 abbrev pub JoinedLineMay : ℕ → Refusal → Type 0
 JoinedLineMay count r = ((r ≡ TooLong) × (MAX_LEN < count)) ⊎ MemoryMay count r
@@ -52,26 +50,17 @@ pub record LineRefused (queue : Queued) (r : Refusal) : Type 0 where
   pub first : Text
   pub others : List Text
   pub had : queue.texts ≡ first ∷ others
-  pub why : SplitLineMay (length words + 1) (length first.bytes) r
+  pub why : BothLong (length words + 1) (length first.bytes) r
       ⊎ ((length first.bytes ≤ length words) × JoinedLineMay (length words + 1) r)
-
--- the first line of a text in UTF-8 has `count` bytes
-pub record EndsFirstLine (bytes : List ℕ) (count : ℕ) : Type 0 where
-  pub words : List ℕ
-  pub lacks : LacksSet (is_byte 10) words
-  pub is : take count bytes ≡ words ++ 10 ∷ []
-  pub within : count ≤ length bytes
-  pub front_valid : IsUtf8 (take count bytes)
-  pub rest_valid : IsUtf8 (drop count bytes)
 
 -- the first text with an LF is at this index, and its first line has `count` bytes
 pub record HasFirstFeed (texts : List Text) (index count : ℕ) : Type 0 where
   pub inside : index < length texts
-  pub lacks : LacksSet (is_byte 10) (queued_bytes (take index texts))
+  pub lacks : LacksFeed (bytes_of_all (take index texts))
   pub line : (t : Text) → t ≡ get_or texts index t → EndsFirstLine t.bytes count
 
 -- the bytes of a first text, of the texts after it up to an index, and `count` bytes of the one at that index
 abbrev pub IsJoinedLine : Text → List Text → ℕ → ℕ → List ℕ → Type 0
 IsJoinedLine first texts index count line =
     (t : Text) → t ≡ get_or texts index t
-    → line ≡ first.bytes ++ (queued_bytes (take index texts) ++ take count t.bytes)
+    → line ≡ first.bytes ++ (bytes_of_all (take index texts) ++ take count t.bytes)

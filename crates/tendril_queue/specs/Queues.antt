@@ -1,29 +1,10 @@
 -- A queue: texts in UTF-8, one after another, none of them empty.
-use Rattle.std.specs.Prelude.{
-  ◌≡◌,
-  ℕ,
-  ◌<◌,
-  ◌⊎◌,
-  Bool,
-  List,
-  [],
-  ◌∷◌,
-  ◌++◌,
-  length,
-  flat_map,
-  chars,
-  encode_utf8,
-  All,
-  IsUtf8,
-}
+use Rattle.std.specs.Prelude.{◌≡◌, ℕ, ◌<◌, Bool, List, [], ◌∷◌, ◌++◌, length, chars, encode_utf8, All, IsUtf8}
 use Rattle.tendril_block.specs.declared.refusal.Refusal.{Refusal}
 use Rattle.tendril_text.specs.declared.search.SetResult.{SetResult}
 use Rattle.tendril_text.specs.Search.{TakesPart, HasLongPartBefore}
-use Rattle.tendril_text.specs.Texts.{Text, Keeps}
-
--- the bytes of texts, one after another
-abbrev pub queued_bytes : List Text → List ℕ
-queued_bytes texts = flat_map (λ t. t.bytes) texts
+use Rattle.tendril_text.specs.TextLists.{LeavesOfFirst, bytes_of_all, unless_empty}
+use Rattle.tendril_text.specs.Texts.{Text}
 
 -- a queue: its bytes, and the texts that have them
 pub record Queued : Type 0 where
@@ -38,46 +19,18 @@ pub record IsQueued (t : Text) : Type 0 where
 abbrev pub AreQueued : List Text → Type 0
 AreQueued texts = All IsQueued texts
 
--- the list of the text, or the empty list if there are no bytes
-abbrev pub listed_for : List ℕ → Text → List Text
-listed_for [] t = []
-listed_for (x ∷ xs) t = t ∷ []
-
-abbrev pub unless_empty : Text → List Text
-unless_empty t = listed_for t.bytes t
-
 -- the texts of a queue: the first one, unless it is empty, and those after it
 abbrev pub all_texts : Text → List Text → List Text
 all_texts first rest = unless_empty first ++ rest
 
 abbrev pub queued_of : Text → List Text → Queued
-queued_of first rest = record { bytes = queued_bytes (all_texts first rest); texts = all_texts first rest }
+queued_of first rest = record { bytes = bytes_of_all (all_texts first rest); texts = all_texts first rest }
 
 -- a first text and those after it: none of these is empty, and if the first one is, it is the only one
 pub record IsQueue (first : Text) (rest : List Text) : Type 0 where
   pub valid : IsUtf8 first.bytes
   pub each : AreQueued rest
   pub alone : first.bytes ≡ [] → rest ≡ []
-
--- the first text of a list is replaced by its remainder, or removed if that is empty
-pub record LeavesOfFirst (old : List Text) (first left : Text) (new : List Text) : Type 0 where
-  pub rest : List Text
-  pub had : old ≡ first ∷ rest
-  pub has : new ≡ unless_empty left ++ rest
-
--- the first text of a list has lost a prefix
-pub record ShortensFirst (old new : List Text) : Type 0 where
-  pub first : Text
-  pub left : Text
-  pub leaves : LeavesOfFirst old first left new
-  pub keeps : Keeps first left
-
--- the first texts of a list are removed, and the next one has lost a prefix, or nothing
-pub record DropsFront (old new : List Text) : Type 0 where
-  pub gone : List Text
-  pub others : List Text
-  pub had : old ≡ gone ++ others
-  pub has : (new ≡ others) ⊎ ShortensFirst others new
 
 -- the next part of the first text, which is cut at the characters of a set, was removed from it
 module _ {F A B : _} (set : ℕ → Bool) where

@@ -1,7 +1,8 @@
 //! Matching a pattern at the front of a queue, across its texts.
 ghost use Rattle.std.specs.Prelude.{◌≡◌, ◌≤◌, ◌↔◌, ◌++◌, length, take, drop, IsTrue, IsUtf8};
 ghost use Rattle.tendril_queue.specs.Eating.{Eats, Meets, AreSameInAnyCase, AreSame};
-ghost use Rattle.tendril_queue.specs.Queues.{queued_bytes, all_texts, AreQueued, DropsFront, IsQueue};
+ghost use Rattle.tendril_queue.specs.Queues.{all_texts, AreQueued, IsQueue};
+ghost use Rattle.tendril_text.specs.TextLists.{bytes_of_all, DropsFront};
 
 use crate::queue::{TextQueue, refill};
 use std::collections::VecDeque;
@@ -91,7 +92,7 @@ fn look_for<A: Atomicity>(
     case: Case,
     pattern: &[u8],
 ) -> EatResult
-    ensures { Meets (AreSame case) pattern.now (first.now.bytes ++ queued_bytes rest.now.items) result }
+    ensures { Meets (AreSame case) pattern.now (first.now.bytes ++ bytes_of_all rest.now.items) result }
 {
     let text = first.as_byte_slice();
     let count = pattern.len();
@@ -113,7 +114,7 @@ fn look_across<A: Atomicity>(
     pattern: &[u8],
 ) -> EatResult
     requires { length text.now ≤ length pattern.now }
-    ensures { Meets (AreSame case) pattern.now (text.now ++ queued_bytes rest.now.items) result }
+    ensures { Meets (AreSame case) pattern.now (text.now ++ bytes_of_all rest.now.items) result }
 {
     if case.is_same(text, &pattern[..text.len()]) {
         look_in(rest, case, &pattern[text.len()..])
@@ -128,7 +129,7 @@ fn look_in<A: Atomicity>(
     case: Case,
     pattern: &[u8],
 ) -> EatResult
-    ensures { Meets (AreSame case) pattern.now (queued_bytes texts.now.items) result }
+    ensures { Meets (AreSame case) pattern.now (bytes_of_all texts.now.items) result }
 {
     let mut at = 0;
     for index in 0..texts.len() {
@@ -157,10 +158,10 @@ pub(crate) fn drop_front<A: Atomicity>(
     count: usize,
 )
     requires queue { IsQueue first.old rest.old.items }
-    requires there { count ≤ length (first.old.bytes ++ queued_bytes rest.old.items) }
-    requires valid { IsUtf8 (take count (first.old.bytes ++ queued_bytes rest.old.items)) }
-    ensures bytes { first.new.bytes ++ queued_bytes rest.new.items
-        ≡ drop count (first.old.bytes ++ queued_bytes rest.old.items) }
+    requires there { count ≤ length (first.old.bytes ++ bytes_of_all rest.old.items) }
+    requires valid { IsUtf8 (take count (first.old.bytes ++ bytes_of_all rest.old.items)) }
+    ensures bytes { first.new.bytes ++ bytes_of_all rest.new.items
+        ≡ drop count (first.old.bytes ++ bytes_of_all rest.old.items) }
     ensures queue { IsQueue first.new rest.new.items }
     ensures texts { DropsFront (all_texts first.old rest.old.items) (all_texts first.new rest.new.items) }
 {
@@ -177,9 +178,9 @@ pub(crate) fn drop_front<A: Atomicity>(
 // Removes the first `count` bytes of texts, which are UTF-8, and drops the texts that this empties.
 fn drop_in<A: Atomicity>(texts: &mut VecDeque<Tendril<UTF8, A>>, count: usize)
     requires each { AreQueued texts.old.items }
-    requires there { count ≤ length (queued_bytes texts.old.items) }
-    requires valid { IsUtf8 (take count (queued_bytes texts.old.items)) }
-    ensures bytes { queued_bytes texts.new.items ≡ drop count (queued_bytes texts.old.items) }
+    requires there { count ≤ length (bytes_of_all texts.old.items) }
+    requires valid { IsUtf8 (take count (bytes_of_all texts.old.items)) }
+    ensures bytes { bytes_of_all texts.new.items ≡ drop count (bytes_of_all texts.old.items) }
     ensures each { AreQueued texts.new.items }
     ensures texts { DropsFront texts.old.items texts.new.items }
 {

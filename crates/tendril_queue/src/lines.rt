@@ -1,9 +1,8 @@
 //! Lines at the front of a queue, across its texts.
 ghost use Rattle.std.specs.Prelude.{◌≡◌, List, ℕ, length, IfSome, IfNone, IfOk, IfErr, OnErr};
-ghost use Rattle.memchr.specs.Find.{is_byte};
-ghost use Rattle.tendril_queue.specs.Lines.{PopsLine, LineRefused, EndsFirstLine, HasFirstFeed, IsJoinedLine, JoinedLineMay};
-ghost use Rattle.tendril_queue.specs.Queues.{queued_bytes};
-ghost use Rattle.tendril_text.specs.Splits.{LacksSet};
+ghost use Rattle.tendril_queue.specs.Lines.{PopsLine, LineRefused, HasFirstFeed, IsJoinedLine, JoinedLineMay};
+ghost use Rattle.tendril_text.specs.Splits.{LacksFeed};
+ghost use Rattle.tendril_text.specs.TextLists.{bytes_of_all};
 
 use crate::eat::drop_front;
 use crate::queue::{TextQueue, refill};
@@ -33,11 +32,11 @@ impl<A: Atomicity> TextQueue<A> {
     /// ```
     pub fn pop_line(&mut self) -> Result<Option<Tendril<UTF8, A>>, Refusal>
         ensures some { IfOk result (λ found. IfSome found (λ line. PopsLine self.old line self.new)) }
-        ensures none { IfOk result (λ found. IfNone found (LacksSet (is_byte 10) self.old.bytes × (self.new ≡ self.old))) }
+        ensures none { IfOk result (λ found. IfNone found (LacksFeed self.old.bytes × (self.new ≡ self.old))) }
         ensures refusal { IfErr result (LineRefused self.old) }
         ensures err { OnErr result (self.new ≡ self.old) }
     {
-        if let Some(count) = line_end(&self.first) {
+        if let Some(count) = self.first.first_line_len() {
             return match self.first.split_to(count) {
                 Ok(line) => {
                     refill(&mut self.first, &mut self.rest);
@@ -56,23 +55,13 @@ impl<A: Atomicity> TextQueue<A> {
     }
 }
 
-// The length of a text's first line, with its LF.
-fn line_end<A: Atomicity>(text: &Tendril<UTF8, A>) -> Option<u32>
-    ensures some { IfSome result (EndsFirstLine text.now.bytes) }
-    ensures none { IfNone result (LacksSet (is_byte 10) text.now.bytes) }
-{
-    let bytes = text.as_byte_slice();
-    let at = text.find_byte(b'\n')?;
-    Some(at + 1)
-}
-
 // The index of the first text with an LF, and the length of that one's first line.
 fn find_feed<A: Atomicity>(texts: &VecDeque<Tendril<UTF8, A>>) -> Option<(usize, u32)>
     ensures some { IfSome result (λ found. HasFirstFeed texts.now.items found.0 found.1) }
-    ensures none { IfNone result (LacksSet (is_byte 10) (queued_bytes texts.now.items)) }
+    ensures none { IfNone result (LacksFeed (bytes_of_all texts.now.items)) }
 {
     for index in 0..texts.len() {
-        if let Some(count) = line_end(&texts[index]) {
+        if let Some(count) = texts[index].first_line_len() {
             return Some((index, count));
         }
     }

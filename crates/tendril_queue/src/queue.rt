@@ -5,9 +5,10 @@
 //! The first text is a field of its own, since nearly all calls read from it; in a `VecDeque` each would look it up.
 ghost use Rattle.std.specs.Prelude.{◌≡◌, ◌<◌, ◌↔◌, ◌++◌, ◌∷◌, [], ℕ, List, length, chars, encode_utf8, IsTrue};
 ghost use Rattle.std.specs.Prelude.{IfSome, IfNone, IfOk, IfErr, OnOk, OnErr, OnSome};
-ghost use Rattle.tendril_queue.specs.Queues.{unless_empty, all_texts, AreQueued, IsQueue};
-ghost use Rattle.tendril_queue.specs.Queues.{DropsFront, TakesFirst, HasLongFirst};
+ghost use Rattle.tendril_queue.specs.Queues.{all_texts, AreQueued, IsQueue};
+ghost use Rattle.tendril_queue.specs.Queues.{TakesFirst, HasLongFirst};
 ghost use Rattle.tendril_text.specs.Search.{has_byte, part_bytes};
+ghost use Rattle.tendril_text.specs.TextLists.{unless_empty, DropsFront};
 
 use std::alloc::Global;
 use std::collections::VecDeque;

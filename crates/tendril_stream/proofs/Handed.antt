@@ -9,11 +9,12 @@ use Rattle.tendril_text.proofs.Feeds.{Feeds-append, Feeds-none, Feeds-same, Feed
 use Rattle.tendril_stream.proofs.Refused.{DecoderTakes}
 use Rattle.tendril_stream.proofs.Stands.{bytes_of}
 use Rattle.tendril_stream.specs.Compositions.{IsSentOfOne}
-use Rattle.tendril_stream.specs.Decoders.{Decodes, Ends, no_piece}
+use Rattle.tendril_stream.specs.Decoders.{Decodes, Ends}
 use Rattle.tendril_stream.specs.Decodings.{Decoding, IsDecoding}
 use Rattle.tendril_stream.specs.Readings.{AreReadPieces, Hears, IsReadPiece, Receives}
 use Rattle.tendril_stream.specs.Reads.{OneRead, Gave, WasInterrupted, HasFailed, CameToEnd, given}
 use Rattle.tendril_stream.specs.Sinks.{Sent, Piece, IsSent, Feeds}
+use Rattle.tendril_text.specs.TextLists.{no_text}
 use Rattle.tendril_text.specs.Texts.{Text}
 
 module _ {K : Type 0} (decoding : Decoding K) where
@@ -29,7 +30,7 @@ module _ {K : Type 0} (decoding : Decoding K) where
   )
 
   pub one_is_sent : IsDecoding decoding → (pieces : List Text) (e : Sent) → IsSentOfOne decoding pieces e → IsSent e
-  one_is_sent is pieces e h = ⊎_elim (λ of. is.sends h.0 of.0 e of.2) (is.sends h.0 no_piece e) h.1
+  one_is_sent is pieces e h = ⊎_elim (λ of. is.sends h.0 of.0 e of.2) (is.sends h.0 no_text e) h.1
 
 module _ {K S D : Type 0} (decoding : Decoding K) (is : IsDecoding decoding) (takes : S → Sent → S → Type 0)
     (inner : D → S) (held : D → K) (failed : D → Bool) where
@@ -99,7 +100,7 @@ module _ {K S D : Type 0} (decoding : Decoding K) (is : IsDecoding decoding) (ta
             (decoding.decoded (bytes_of pieces)) whole
             (Feeds-append takes (IsSentOfOne decoding pieces) (inner d) (inner last) ends.0 all.told
             (decoding.ends (held last)) all.feeds
-            (Feeds-weaker takes (IsSentOfOne decoding pieces) (decoding.fit (held last) no_piece)
+            (Feeds-weaker takes (IsSentOfOne decoding pieces) (decoding.fit (held last) no_text)
             (λ e fit. (held last, inr fit)) (inner last) ends.0 (decoding.ends (held last)) ends.1))),
       )
 

@@ -26,7 +26,6 @@ use Rattle.std.specs.List.{FoldsTo}
 use Rattle.std.specs.Prelude.{All, IsUtf8}
 use Rattle.tendril_lossy.specs.Lossy.{Told}
 use Rattle.tendril_text.proofs.Feeds.{FoldsTo-append}
-use Rattle.tendril_stream.proofs.LineCuts.{lacks-nil}
 use Rattle.tendril_stream.proofs.Stands.{sent_on}
 use Rattle.tendril_stream.specs.Compositions.{FollowsCalls}
 use Rattle.tendril_stream.specs.Lines.{
@@ -34,15 +33,16 @@ use Rattle.tendril_stream.specs.Lines.{
   ComposesLines,
   HasAllLines,
   HasLines,
-  IsWholeLine,
   SendsLast,
   SendsLines,
-  joined_bytes,
-  last_line,
   text_of_call,
   texts_of_calls,
 }
 use Rattle.tendril_stream.specs.Sinks.{Sent, Piece, Fault, IsSent}
+use Rattle.memchr.specs.Find.{is_byte}
+use Rattle.tendril_text.proofs.Pieces.{lacks-nil}
+use Rattle.tendril_text.specs.Splits.{IsWholeLine}
+use Rattle.tendril_text.specs.TextLists.{bytes_of_all, listed_unless_empty}
 use Rattle.tendril_text.specs.Texts.{Text}
 
 line_some : (line : List ℕ) → IsWholeLine line → 0 < length line
@@ -72,8 +72,8 @@ lines-append : (bytes text : List ℕ) (first more : List Text) (kept rest : Lis
 lines-append bytes text first more kept rest h k = record {
   each = All-append (λ (l : Text). IsWholeLine l.bytes) first more h.each k.each;
   lacks = k.lacks;
-  whole = ap (λ b. b ++ text) h.whole ∙ append_assoc (joined_bytes first) kept text
-      ∙ ap (λ b. joined_bytes first ++ b) k.whole ∙ sym (append_assoc (joined_bytes first) (joined_bytes more) rest)
+  whole = ap (λ b. b ++ text) h.whole ∙ append_assoc (bytes_of_all first) kept text
+      ∙ ap (λ b. bytes_of_all first ++ b) k.whole ∙ sym (append_assoc (bytes_of_all first) (bytes_of_all more) rest)
       ∙ ap (λ b. b ++ rest) (sym (flat_map-append (λ t. t.bytes) first more));
 }
 
@@ -88,7 +88,7 @@ module _ {S : Type 0} (takes : S → Sent → S → Type 0) where
     calls = [];
     made = refl;
     fit = All-nil IsSent;
-    are = record { each = All-nil (λ (l : Text). IsWholeLine l.bytes); lacks = lacks-nil; whole = refl };
+    are = record { each = All-nil (λ (l : Text). IsWholeLine l.bytes); lacks = lacks-nil (is_byte 10); whole = refl };
   }
 
   lines_go_on : (old sink next : S) (bytes : List ℕ) (kept text line : Text) → HasLines takes old bytes sink kept.bytes
@@ -126,7 +126,7 @@ module _ {S : Type 0} (takes : S → Sent → S → Type 0) where
       ended = texts_of_calls h.calls;
       last = kept;
       lines_are = sym (append-nil (texts_of_calls h.calls))
-          ∙ ap (λ l. texts_of_calls h.calls ++ last_line l kept) is;
+          ∙ ap (λ l. texts_of_calls h.calls ++ listed_unless_empty l kept) is;
       are = h.are;
     };
   }
@@ -138,7 +138,7 @@ module _ {S : Type 0} (takes : S → Sent → S → Type 0) where
       ended = texts_of_calls h.calls;
       last = kept;
       lines_are = texts-append h.calls (Piece kept ∷ [])
-          ∙ ap (λ l. texts_of_calls h.calls ++ last_line l kept) is;
+          ∙ ap (λ l. texts_of_calls h.calls ++ listed_unless_empty l kept) is;
       are = h.are;
     };
   }

@@ -30,14 +30,16 @@ use Rattle.std.specs.Prelude.{All, IsUtf8}
 use Rattle.tendril_block.specs.declared.refusal.Refusal.{Refusal}
 use Rattle.tendril_fmt.specs.Parts.{IsEndOf}
 use Rattle.tendril_stream.specs.LineStarts.{CompletesLine, CompletionStops, KeepsMore}
-use Rattle.tendril_stream.specs.Lines.{IsWholeLine, JoinStops, SendsLines, StopsInLines, in_one_text, joined_bytes}
+use Rattle.tendril_stream.specs.Lines.{JoinStops, SendsLines, StopsInLines, in_one_text}
 use Rattle.tendril_stream.specs.Sinks.{Sent, Piece, RefusesCall}
 use Rattle.tendril_text.proofs.Decoding.{part-through, rest-through}
 use Rattle.tendril_text.specs.Decoding.{IsRest}
+use Rattle.tendril_text.specs.Splits.{IsWholeLine}
+use Rattle.tendril_text.specs.TextLists.{bytes_of_all}
 use Rattle.tendril_text.specs.Texts.{Text, IsPart}
 
-pub joined-push : (lines : List Text) (l : Text) → joined_bytes (lines ++ l ∷ []) ≡ joined_bytes lines ++ l.bytes
-joined-push lines l = flat_map-append (λ t. t.bytes) lines (l ∷ []) ∙ ap (λ b. joined_bytes lines ++ b)
+pub joined-push : (lines : List Text) (l : Text) → bytes_of_all (lines ++ l ∷ []) ≡ bytes_of_all lines ++ l.bytes
+joined-push lines l = flat_map-append (λ t. t.bytes) lines (l ∷ []) ∙ ap (λ b. bytes_of_all lines ++ b)
     (append-nil l.bytes)
 
 some-push : (lines : List Text) (l : Text) → 0 < length (lines ++ l ∷ [])
@@ -59,7 +61,7 @@ module _ {S : Type 0} (takes : S → Sent → S → Type 0) (kept text : Text) (
     pub sent : FoldsTo (λ s l t. takes s (Piece l) t) old lines now
     pub each : All (λ l. IsWholeLine l.bytes) lines
     pub valid : All (λ l. IsUtf8 l.bytes) lines
-    pub whole : kept.bytes ++ text.bytes ≡ joined_bytes lines ++ (line.bytes ++ rest.bytes)
+    pub whole : kept.bytes ++ text.bytes ≡ bytes_of_all lines ++ (line.bytes ++ rest.bytes)
     pub share : All (IsPart text) (in_one_text kept.bytes lines)
     pub none : lines ≡ [] → line ≡ kept
     pub some : 0 < length lines → line.bytes ≡ []
@@ -103,10 +105,10 @@ module _ {S : Type 0} (takes : S → Sent → S → Type 0) (kept text : Text) (
     sent = FoldsTo-push (λ s l t. takes s (Piece l) t) old so.lines now l next so.sent takes_it;
     each = All-push (λ (l : Text). IsWholeLine l.bytes) so.lines l so.each h.is;
     valid = All-push (λ (l : Text). IsUtf8 l.bytes) so.lines l so.valid h.valid;
-    whole = so.whole ∙ ap (λ b. joined_bytes so.lines ++ b) h.whole
-        ∙ sym (append_assoc (joined_bytes so.lines) l.bytes left.bytes)
+    whole = so.whole ∙ ap (λ b. bytes_of_all so.lines ++ b) h.whole
+        ∙ sym (append_assoc (bytes_of_all so.lines) l.bytes left.bytes)
         ∙ ap (λ b. b ++ left.bytes) (sym (joined-push so.lines l))
-        ∙ ap (λ b. joined_bytes (so.lines ++ l ∷ []) ++ (b ++ left.bytes)) (sym empty);
+        ∙ ap (λ b. bytes_of_all (so.lines ++ l ∷ []) ++ (b ++ left.bytes)) (sym empty);
     share = one_text-push text kept.bytes so.lines l so.share
         (λ nothing. part-through text rest l so.part (λ long. less_line (nothing_kept now line rest so nothing))
         (h.share (nothing_kept now line rest so nothing)));
@@ -139,7 +141,7 @@ module _ {S : Type 0} (takes : S → Sent → S → Type 0) (kept text : Text) (
     are = record {
       each = so.each;
       lacks = h.lacks;
-      whole = so.whole ∙ ap (λ b. joined_bytes so.lines ++ b) (sym h.bytes);
+      whole = so.whole ∙ ap (λ b. bytes_of_all so.lines ++ b) (sym h.bytes);
     };
     share = so.share;
     kept_shares = λ nothing. subst (IsRest text) (sym (h.same (nothing_kept now line rest so nothing))) so.part;
@@ -192,7 +194,7 @@ module _ {S : Type 0} (takes : S → Sent → S → Type 0) (kept text : Text) (
       mid = now;
       sent = so.sent;
       rest = rest.bytes;
-      front = so.whole ∙ ap (λ b. joined_bytes so.lines ++ (b ++ rest.bytes)) h.0;
+      front = so.whole ∙ ap (λ b. bytes_of_all so.lines ++ (b ++ rest.bytes)) h.0;
       stop = inr (
         refl,
         inl (record {

@@ -7,10 +7,11 @@ use Rattle.tendril_block.specs.declared.refusal.Refusal.{Refusal}
 use Rattle.tendril_block.specs.declared.refusal.Refusal.TheVariants.{Count, Failed, Io, Memory, SinkRefused}
 use Rattle.tendril_block.specs.declared.refusal.Refusal.TheVariants.{TooManyReads}
 use Rattle.tendril_lossy.specs.Lossy.{Told}
-use Rattle.tendril_stream.specs.Decoders.{DecodingStops, EndStops, no_piece}
+use Rattle.tendril_stream.specs.Decoders.{DecodingStops, EndStops}
 use Rattle.tendril_stream.specs.Decodings.{PieceMay, utf8}
 use Rattle.tendril_stream.specs.Readings.{IsOfReading}
 use Rattle.tendril_stream.specs.Sinks.{Sent, Piece, IsSentOf, IsStop}
+use Rattle.tendril_text.specs.TextLists.{no_text}
 
 abbrev of_reading : Refusal → Bool
 of_reading Memory = true
@@ -43,7 +44,7 @@ pub end_clash : {S : Type 0} (takes : S → Sent → S → Type 0) (refuses : S 
     → ((f ≡ true) × (r ≡ Failed)) ⊎ ((f ≡ false) × EndStops utf8 takes refuses ends a k r) → IsOfReading r → ⊥
 end_clash takes refuses ends a f k r h o = ⊎_elim
     (λ w. clash r Failed refl w.1 o)
-    (λ w. ⊎_elim (λ v. stop_clash refuses no_piece v.1.mid v.0 v.1.rest r v.1.stop o)
+    (λ w. ⊎_elim (λ v. stop_clash refuses no_text v.1.mid v.0 v.1.rest r v.1.stop o)
     (λ v. clash r SinkRefused refl v.2 o) w.1)
     h
 

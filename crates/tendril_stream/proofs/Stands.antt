@@ -7,9 +7,10 @@ use Rattle.std.specs.List.{FoldsTo}
 use Rattle.tendril_text.specs.Texts.{Text}
 use Rattle.tendril_lossy.specs.Lossy.{Told}
 use Rattle.tendril_stream.specs.Compositions.{FollowsCalls, StandsAt}
-use Rattle.tendril_stream.specs.Decoders.{Decodes, Ends, no_piece}
+use Rattle.tendril_stream.specs.Decoders.{Decodes, Ends}
 use Rattle.tendril_stream.specs.Decodings.{Decoding, IsDecoding}
 use Rattle.tendril_stream.specs.Sinks.{Sent, Piece, IsSent, told, told_of, Feeds}
+use Rattle.tendril_text.specs.TextLists.{no_text}
 
 abbrev pub bytes_of : List Text → List ℕ
 bytes_of pieces = flat_map (λ p. p.bytes) pieces
@@ -48,7 +49,7 @@ module _ {K S : Type 0} (decoding : Decoding K) (is : IsDecoding decoding) (take
   ends_at finishes sink k b out s h = (
     h.0,
     subst (after h.0) (ap (λ x. decoding.out decoding.start b ++ decoding.ends x) s.keeps ∙ sym (is.whole b))
-        (fed takes after goes (decoding.fit k no_piece) (is.sends k no_piece) (decoding.out decoding.start b)
+        (fed takes after goes (decoding.fit k no_text) (is.sends k no_text) (decoding.out decoding.start b)
         (decoding.ends k) sink h.0 s.tells h.1),
     h.2,
   )

@@ -22,10 +22,11 @@ use Rattle.std.specs.Iterator.{YieldsThen}
 use Rattle.tendril_block.specs.declared.refusal.Refusal.{Refusal}
 use Rattle.tendril_text.specs.Texts.{Text}
 use Rattle.tendril_lossy.specs.Lossy.{Told}
-use Rattle.tendril_stream.specs.Decoders.{Decodes, Ends, EndStops, StopsInPiece, no_piece}
+use Rattle.tendril_stream.specs.Decoders.{Decodes, Ends, EndStops, StopsInPiece}
 use Rattle.tendril_stream.specs.Decodings.{Decoding}
 use Rattle.tendril_stream.specs.Reads.{OneRead, Gave, CameToEnd, MayReadOn, StopsWith, given}
 use Rattle.tendril_stream.specs.Sinks.{Sent, Piece, IsSent, told_of}
+use Rattle.tendril_text.specs.TextLists.{no_text}
 
 -- if `after a told` holds, and accepting e turns the sink a into b, then `after b (told ++ told_of e)` holds; e is one
 -- that a decoder sends
@@ -52,7 +53,7 @@ pub record Composes {K S O : Type 0} (decoding : Decoding K) (takes : S → Sent
 -- what a decoder may send of one of these pieces, or at the end of their stream
 abbrev pub IsSentOfOne : {K : Type 0} → Decoding K → List Text → Sent → Type 0
 IsSentOfOne {K} decoding pieces e =
-    (k : K) × (((piece : Text) × Contains pieces piece × decoding.fit k piece e) ⊎ decoding.fit k no_piece e)
+    (k : K) × (((piece : Text) × Contains pieces piece × decoding.fit k piece e) ⊎ decoding.fit k no_text e)
 
 -- Decoding the pieces of an iterator stopped with an error, at one piece or at the end. The sink was sent the decoding
 -- of the pieces before, and a prefix of what that piece or the end adds.

@@ -1,16 +1,13 @@
 -- What a decoder does to its inner sink.
 use Rattle.std.specs.Prelude.{◌≡◌, ℕ, ◌⊎◌, Bool, true, false, List, [], ◌++◌, drop}
 use Rattle.tendril_text.specs.Decoding.{IsRest}
+use Rattle.tendril_text.specs.TextLists.{no_text}
 use Rattle.tendril_text.specs.Texts.{Text}
 use Rattle.tendril_block.specs.declared.refusal.Refusal.{Refusal}
 use Rattle.tendril_block.specs.declared.refusal.Refusal.TheVariants.{SinkRefused}
 use Rattle.tendril_lossy.specs.Lossy.{Told, due_open, kept}
 use Rattle.tendril_stream.specs.Decodings.{Decoding}
 use Rattle.tendril_stream.specs.Sinks.{Sent, Piece, Fault, Feeds, IsSentOf, RefusesCall, Stops}
-
--- no piece: at the end of a stream a decoder sends only short texts
-abbrev pub no_piece : Text
-no_piece = record { bytes = []; copied = 0 }
 
 -- What `resume` does with the kept bytes k and a piece. True: k was empty, or it was completed or replaced and sent;
 -- the remainder of the piece is left, and no bytes are kept. False: the piece ends within the same character, and more
@@ -29,7 +26,7 @@ abbrev pub FeedsPiece : {K S : Type 0} → Decoding K → (S → Sent → S → 
 FeedsPiece decoding takes old k p new = Feeds takes (decoding.fit k p) old (decoding.out k p.bytes) new
 
 abbrev pub FeedsEnd : {K S : Type 0} → Decoding K → (S → Sent → S → Type 0) → S → K → S → Type 0
-FeedsEnd decoding takes old k new = Feeds takes (decoding.fit k no_piece) old (decoding.ends k) new
+FeedsEnd decoding takes old k new = Feeds takes (decoding.fit k no_text) old (decoding.ends k) new
 
 -- a decoder that kept k has sent a prefix of that when there was an error
 abbrev pub StopsInPiece : {K S : Type 0} → Decoding K → (S → Sent → S → Type 0) → (S → Sent → Refusal → S → Type 0)
@@ -42,7 +39,7 @@ abbrev pub StopsInEnd : {K S : Type 0} → Decoding K → (S → Sent → S → 
     → K
     → Refusal → S → Type 0
 StopsInEnd decoding takes refuses old k refusal new =
-    Stops takes refuses (decoding.fit k no_piece) (decoding.may no_piece) old (decoding.ends k) refusal new
+    Stops takes refuses (decoding.fit k no_text) (decoding.may no_text) old (decoding.ends k) refusal new
 
 -- a call of a decoder that kept k, which returned Ok
 abbrev pub Decodes : {K S : Type 0} → Decoding K → (S → Sent → S → Type 0) → S → K → Sent → S → K → Type 0

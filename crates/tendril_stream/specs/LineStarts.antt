@@ -1,17 +1,10 @@
 -- The start of a line that is completed by a text.
-use Rattle.std.specs.Prelude.{◌≡◌, ◌<◌, ◌≤◌, ℕ, ◌⊎◌, List, [], ◌++◌, length, take, drop, IsUtf8}
+use Rattle.std.specs.Prelude.{◌≡◌, ◌<◌, ℕ, ◌⊎◌, List, [], ◌++◌, length, IsUtf8}
 use Rattle.tendril_block.specs.declared.refusal.Refusal.{Refusal}
 use Rattle.tendril_fmt.specs.Parts.{IsEndOf}
-use Rattle.tendril_stream.specs.Lines.{IsWholeLine, LacksFeed, HasLongNextLine, JoinStops}
+use Rattle.tendril_stream.specs.Lines.{HasLongNextLine, JoinStops}
+use Rattle.tendril_text.specs.Splits.{IsWholeLine, LacksFeed}
 use Rattle.tendril_text.specs.Texts.{Text, IsPart}
-
--- the first line of bytes in UTF-8 has `count` of them
-pub record IsLineCut (bytes : List ℕ) (count : ℕ) : Type 0 where
-  pub within : count ≤ length bytes
-  pub some : 0 < count
-  pub is : IsWholeLine (take count bytes)
-  pub front_valid : IsUtf8 (take count bytes)
-  pub rest_valid : IsUtf8 (drop count bytes)
 
 -- The first line was removed from a text, and joined to what was kept. It shares the text's block if nothing was kept.
 pub record CompletesLine (kept text line rest : Text) : Type 0 where

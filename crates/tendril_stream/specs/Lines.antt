@@ -1,7 +1,6 @@
 -- Lines of a stream of texts.
 use Rattle.std.specs.Prelude.{◌≡◌, ◌<◌, ℕ, ◌⊎◌, List, [], ◌∷◌, ◌++◌, length, drop, flat_map, All, IsUtf8}
 use Rattle.std.specs.List.{FoldsTo}
-use Rattle.memchr.specs.Find.{is_byte}
 use Rattle.tendril_block.specs.declared.atomicity.TheConstants.{INLINE_LEN}
 use Rattle.tendril_block.specs.declared.refusal.Refusal.{Refusal}
 use Rattle.tendril_block.specs.declared.refusal.Refusal.TheVariants.{Count, SinkRefused}
@@ -10,25 +9,15 @@ use Rattle.tendril_fmt.specs.Parts.{IsEndOf, IsFrontOf}
 use Rattle.tendril_lossy.specs.Lossy.{Told}
 use Rattle.tendril_stream.specs.Sinks.{Sent, Piece, Fault, IsSent, RefusesCall, told}
 use Rattle.tendril_text.specs.Decoding.{IsRest}
-use Rattle.tendril_text.specs.Splits.{EndsPart, LacksSet}
+use Rattle.tendril_text.specs.Splits.{IsWholeLine, LacksFeed}
+use Rattle.tendril_text.specs.TextLists.{bytes_of_all, unless_empty}
 use Rattle.tendril_text.specs.Texts.{Text, IsPart}
-
--- bytes without an LF: the start of a line, or nothing
-abbrev pub LacksFeed : List ℕ → Type 0
-LacksFeed bytes = LacksSet (is_byte 10) bytes
-
--- a whole line: bytes without an LF, and the LF that ends them
-abbrev pub IsWholeLine : List ℕ → Type 0
-IsWholeLine line = (words ending : List ℕ) × EndsPart (is_byte 10) words ending × (line ≡ words ++ ending)
-
-abbrev pub joined_bytes : List Text → List ℕ
-joined_bytes texts = flat_map (λ t. t.bytes) texts
 
 -- Bytes are whole lines, one after another, and then `rest`, the start of one more. They are so in one way only.
 pub record AreWholeLines (bytes : List ℕ) (lines : List Text) (rest : List ℕ) : Type 0 where
   pub each : All (λ l. IsWholeLine l.bytes) lines
   pub lacks : LacksFeed rest
-  pub whole : bytes ≡ joined_bytes lines ++ rest
+  pub whole : bytes ≡ bytes_of_all lines ++ rest
 
 -- the lines that lie in one text: all but the first, if that begins with bytes that were kept
 abbrev pub in_one_text : List ℕ → List Text → List Text
@@ -86,7 +75,7 @@ pub record StopsInLines {S : Type 0} (takes : S → Sent → S → Type 0) (refu
   pub mid : S
   pub sent : FoldsTo (λ s l t. takes s (Piece l) t) old lines mid
   pub rest : List ℕ
-  pub front : kept.bytes ++ text.bytes ≡ joined_bytes lines ++ rest
+  pub front : kept.bytes ++ text.bytes ≡ bytes_of_all lines ++ rest
   pub stop : NextLineStops refuses kept text lines mid rest refusal new
 
 -- a call that returned Ok, while the start of a line was kept
@@ -127,16 +116,11 @@ text_of_call (Fault words) = []
 abbrev pub texts_of_calls : List Sent → List Text
 texts_of_calls calls = flat_map text_of_call calls
 
--- the last line, unless it is empty
-abbrev pub last_line : List ℕ → Text → List Text
-last_line [] kept = []
-last_line (b ∷ bytes) kept = kept ∷ []
-
 -- all lines of these bytes: whole ones, and the last one, if the bytes don't end with an LF
 pub record AreAllLines (bytes : List ℕ) (lines : List Text) : Type 0 where
   pub ended : List Text
   pub last : Text
-  pub lines_are : lines ≡ ended ++ last_line last.bytes last
+  pub lines_are : lines ≡ ended ++ unless_empty last
   pub are : AreWholeLines bytes ended last.bytes
 
 -- Since a sink was `old` it was sent the whole lines of these bytes, and maybe errors; `rest` follows the lines.

@@ -1,9 +1,10 @@
 //! The start of a line, which is completed by what comes in next.
 //!
 //! Contracts see a `LineStart` as its text, which has no LF.
-ghost use Rattle.std.specs.Prelude.{◌≡◌, ◌<◌, ◌++◌, [], length, IfSome, IfNone, IfOk, IfErr, OnOk, IsUtf8};
-ghost use Rattle.tendril_stream.specs.LineStarts.{CompletesLine, CompletionStops, IsLineCut, KeepsMore};
-ghost use Rattle.tendril_stream.specs.Lines.{HasLongNextLine, JoinStops, LacksFeed};
+ghost use Rattle.std.specs.Prelude.{◌≡◌, ◌<◌, ◌++◌, [], length, IfOk, IfErr, OnOk, IsUtf8};
+ghost use Rattle.tendril_stream.specs.LineStarts.{CompletesLine, CompletionStops, KeepsMore};
+ghost use Rattle.tendril_stream.specs.Lines.{HasLongNextLine, JoinStops};
+ghost use Rattle.tendril_text.specs.Splits.{EndsFirstLine, LacksFeed};
 ghost use Rattle.tendril_text.specs.Texts.{Text};
 
 use std::alloc::Global;
@@ -19,7 +20,7 @@ pub(crate) struct LineStart<A: Atomicity> {
 }
 
 impl<A: Atomicity> Model for LineStart<A> {
-    ghost use Rattle.tendril_stream.specs.Lines.{LacksFeed};
+    ghost use Rattle.tendril_text.specs.Splits.{LacksFeed};
     ghost use Rattle.tendril_text.specs.Texts.{Text};
 
     ghost Value = { Text };
@@ -57,7 +58,7 @@ impl<A: Atomicity> LineStart<A> {
         rest: &mut Tendril<UTF8, A>,
         count: u32,
     ) -> Result<Tendril<UTF8, A>, Refusal>
-        requires { IsLineCut rest.old.bytes count }
+        requires { EndsFirstLine rest.old.bytes count }
         ensures ok { IfOk result (λ line. CompletesLine self.old rest.old line rest.new) }
         ensures empty { OnOk result (self.new.bytes ≡ []) }
         ensures err { IfErr result (CompletionStops self.old.bytes rest.old.bytes) }
@@ -82,22 +83,12 @@ impl<A: Atomicity> LineStart<A> {
     }
 }
 
-// The length of the first line of a text, with its LF, if it has a whole one.
-pub(crate) fn line_len<A: Atomicity>(text: &Tendril<UTF8, A>) -> Option<u32>
-    ensures some { IfSome result (IsLineCut text.now.bytes) }
-    ensures none { IfNone result (LacksFeed text.now.bytes) }
-{
-    let bytes = text.as_byte_slice();
-    let at = text.find_byte(b'\n')?;
-    Some(at + 1)
-}
-
 // Removes the first line of a text, where nothing was kept. It shares the text's block.
 fn split_line<A: Atomicity>(
     rest: &mut Tendril<UTF8, A>,
     count: u32,
 ) -> Result<Tendril<UTF8, A>, Refusal>
-    requires { IsLineCut rest.old.bytes count }
+    requires { EndsFirstLine rest.old.bytes count }
     ensures ok { (kept : Text) → kept.bytes ≡ [] → IfOk result (λ line. CompletesLine kept rest.old line rest.new) }
     ensures err { IfErr result (HasLongNextLine rest.old.bytes rest.old.bytes) }
 {
@@ -113,7 +104,7 @@ fn join_line<A: Atomicity>(
     rest: &mut Tendril<UTF8, A>,
     count: u32,
 ) -> Result<Tendril<UTF8, A>, Refusal>
-    requires line { IsLineCut rest.old.bytes count }
+    requires line { EndsFirstLine rest.old.bytes count }
     requires lacks { LacksFeed kept.old.bytes }
     requires valid { IsUtf8 kept.old.bytes }
     requires some { 0 < length kept.old.bytes }

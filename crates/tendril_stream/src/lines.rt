@@ -1,9 +1,10 @@
 //! A sink that hands on whole lines.
 ghost use Rattle.std.specs.Prelude.{◌≡◌, ◌<◌, [], false, length, IfErr, OnOk};
-ghost use Rattle.tendril_stream.specs.Lines.{ComposesLines, LacksFeed, SendsLast, SendsLines, StopsInLines};
+ghost use Rattle.tendril_stream.specs.Lines.{ComposesLines, SendsLast, SendsLines, StopsInLines};
 ghost use Rattle.tendril_stream.specs.Sinks.{Piece, RefusesCall};
+ghost use Rattle.tendril_text.specs.Splits.{LacksFeed};
 
-use crate::line_start::{LineStart, line_len};
+use crate::line_start::LineStart;
 use crate::sending::send;
 use crate::sink::TendrilSink;
 use crate::tracks::Tracks;
@@ -143,7 +144,7 @@ fn send_lines<S: TendrilSink<Tendril<UTF8, A>>, A: Atomicity>(
     ensures err { IfErr result (λ r. StopsInLines S.takes S.refuses sink.old line.old text r sink.new) }
 {
     let mut rest = text;
-    'lines: while let Some(count) = line_len(&rest) {
+    'lines: while let Some(count) = rest.first_line_len() {
         let next = line.complete(&mut rest, count)?;
         send(sink, next)?;
     }

@@ -43,13 +43,15 @@ use Rattle.std.proofs.Common.{
   true≢false,
 }
 use Rattle.std.proofs.Math.Seq.{drop-cons}
-use Rattle.std.proofs.lemmas.Bool.{eqb-true}
-use Rattle.std.proofs.lemmas.List.{nil_from_length, take_all}
+use Rattle.std.proofs.lemmas.Bool.{cases_lt, eqb-true}
+use Rattle.std.proofs.lemmas.List.{get_or_append_left, nil_from_length, take_all, take_more}
+use Rattle.std.proofs.lemmas.Str.{IsCharBoundary-after_ascii, IsUtf8-drop, IsUtf8-take}
+use Rattle.std.specs.Prelude.{IsUtf8}
 use Rattle.std.specs.Str.Iter.{LacksByte}
-use Rattle.memchr.specs.Find.{Nowhere, Passes, is_byte}
+use Rattle.memchr.specs.Find.{NoneBefore, Nowhere, Passes, is_byte}
 use Rattle.tendril_fmt.specs.Parts.{IsEndOf}
 use Rattle.tendril_text.specs.Search.{EndsBefore}
-use Rattle.tendril_text.specs.Splits.{LacksSet, TakesLine, TakesSplit}
+use Rattle.tendril_text.specs.Splits.{EndsFirstLine, IsWholeLine, LacksSet, TakesLine, TakesSplit}
 
 -- Parts
 
@@ -103,6 +105,47 @@ feed_follows : (text : List ℕ) (n : ℕ) → n < length text → Passes (is_by
     → drop n text ≡ 10 ∷ drop (n + 1) text
 feed_follows text n less is =
     rw add-one (drop-cons text n 0 less ∙ ap (λ b. b ∷ drop (suc n) text) (eqb-true (slice_index text n) 10 is))
+
+pub lacks-nil : (set : ℕ → Bool) → LacksSet set []
+lacks-nil set k low below is = absurd (omega (arith, below))
+
+pub lacks-append : (set : ℕ → Bool) (a b : List ℕ) → LacksSet set a → LacksSet set b → LacksSet set (a ++ b)
+lacks-append set a b f g k low below is = ⊎_elim
+    (λ less. f k low less (subst (λ x. set x ≡ true) (get_or_append_left a b 0 k less) is))
+    (λ (more : length a ≤ k).
+    let at : length a + (k - length a) ≡ k = omega (arith, more) in
+    let left : k - length a < length b = omega (arith, more, below, length-append a b) in
+    g (k - length a) (omega arith) left (subst (λ x. set x ≡ true)
+    (ap (λ i. slice_index (a ++ b) i) (sym at) ∙ get_or-append-add a b (k - length a) 0) is))
+    (cases_lt k (length a))
+
+-- the first LF is at n
+pub ends_first_line : (text : List ℕ) (n : ℕ) → IsUtf8 text → NoneBefore (Passes (is_byte 10) text) 0 (length text) n
+    → Passes (is_byte 10) text n → EndsFirstLine text (n + 1)
+ends_first_line text n valid found is =
+    let less = found.high in
+    let byte : slice_index text n ≡ 10 = eqb-true (slice_index text n) 10 is in
+    let edge = IsCharBoundary-after_ascii text n valid less (omega (arith, byte)) in
+    record {
+      words = take n text;
+      lacks = lacks_front (is_byte 10) text n (omega (arith, less)) found.before;
+      is = take_more text n 0 less ∙ ap (λ b. take n text ++ b ∷ []) byte;
+      within = omega (arith, less);
+      front_valid = IsUtf8-take text (n + 1) valid edge;
+      rest_valid = IsUtf8-drop text (n + 1) valid edge;
+    }
+
+-- a first line is a whole line
+pub whole_line : (text : List ℕ) (count : ℕ) → EndsFirstLine text count → IsWholeLine (take count text)
+whole_line text count ends = (ends.words, 10 ∷ [], (ends.lacks, (10, refl, refl)), ends.is)
+
+pub line_some : (text : List ℕ) (count : ℕ) → EndsFirstLine text count → 0 < count
+line_some text count ends = omega (
+  arith,
+  ap length ends.is,
+  length-append ends.words (10 ∷ []),
+  length-take count text,
+)
 
 -- the first n bytes end with a CR
 abbrev pub FollowsCr : Bool → List ℕ → ℕ → Type 0

@@ -1,6 +1,7 @@
 -- Definitions for the contracts of texts.
 pub use Rattle.tendril_storage.specs.Texts
 pub use Rattle.tendril_storage.specs.Edits
+pub use Rattle.tendril_storage.specs.Partings
 pub mod Making
 pub mod Parts
 pub mod Pushes
@@ -14,4 +15,5 @@ pub mod Search
 pub mod Iterators
 pub mod Pieces
 pub mod Splits
+pub mod TextLists
 pub mod Trims

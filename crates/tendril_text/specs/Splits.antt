@@ -3,6 +3,7 @@ use Rattle.std.specs.Prelude.{
   ℕ,
   ◌≡◌,
   ◌<◌,
+  ◌≤◌,
   ◌⊎◌,
   Bool,
   true,
@@ -12,9 +13,12 @@ use Rattle.std.specs.Prelude.{
   ◌∷◌,
   ◌++◌,
   length,
+  take,
+  drop,
   map,
   flat_map,
   All,
+  IsUtf8,
   Option,
   Some,
   None,
@@ -23,7 +27,7 @@ use Rattle.std.specs.Prelude.{
   Err,
 }
 use Rattle.std.specs.Str.Iter.{LacksByte}
-use Rattle.memchr.specs.Find.{Nowhere, Passes}
+use Rattle.memchr.specs.Find.{Nowhere, Passes, is_byte}
 use Rattle.tendril_block.specs.declared.refusal.Refusal.{Refusal}
 use Rattle.tendril_block.specs.Outcomes.{CountMay}
 use Rattle.tendril_fmt.specs.Parts.{IsEndOf}
@@ -39,6 +43,23 @@ LacksSet set part = Nowhere (Passes set part) 0 (length part)
 -- a part between bytes of a set, and the byte of the set that ends the part
 abbrev pub EndsPart : (ℕ → Bool) → List ℕ → List ℕ → Type 0
 EndsPart set part ending = LacksSet set part × ((b : ℕ) × (set b ≡ true) × (ending ≡ b ∷ []))
+
+-- bytes without an LF
+abbrev pub LacksFeed : List ℕ → Type 0
+LacksFeed bytes = LacksSet (is_byte 10) bytes
+
+-- a whole line: bytes without an LF, and the LF that ends them
+abbrev pub IsWholeLine : List ℕ → Type 0
+IsWholeLine line = (words ending : List ℕ) × EndsPart (is_byte 10) words ending × (line ≡ words ++ ending)
+
+-- the first line of a text in UTF-8, with its LF, has `count` bytes
+pub record EndsFirstLine (text : List ℕ) (count : ℕ) : Type 0 where
+  pub words : List ℕ
+  pub lacks : LacksFeed words
+  pub is : take count text ≡ words ++ 10 ∷ []
+  pub within : count ≤ length text
+  pub front_valid : IsUtf8 (take count text)
+  pub rest_valid : IsUtf8 (drop count text)
 
 -- a line, and the line ending after it: a CR and an LF, or an LF by itself
 abbrev pub EndsLine : List ℕ → List ℕ → Type 0

@@ -22,7 +22,7 @@ use std::simd::prelude::*;
 /// ```
 #[derive(Drop)]
 pub struct ByteSet {
-    /// The bytes, each of which is ASCII.
+    /// The bytes, all ASCII.
     pub members: Members,
 }
 

@@ -5,6 +5,7 @@ ghost use Rattle.std.specs.Prelude.{◌≡◌, ◌<◌, ◌≤◌, ◌↔◌, �
 ghost use Rattle.memchr.specs.Find.{IsFirstByte, is_byte};
 ghost use Rattle.tendril_fmt.specs.Parts.{IsFrontOf};
 ghost use Rattle.tendril_storage.specs.Texts.{Keeps};
+ghost use Rattle.tendril_text.specs.Splits.{EndsFirstLine, LacksFeed};
 ghost use Rattle.tendril_text.specs.Search.{has_byte, EndsBefore, PartsBefore, BeginsWithOne, HasLongPartBefore, IsTable, TakesPart, part_bytes};
 
 use crate::byte_set::ByteSet;
@@ -171,6 +172,21 @@ impl<A: Atomicity> Tendril<UTF8, A> {
         }
         self.pop_front(count as u32);
         true
+    }
+
+    /// Returns the length of the first line with its LF, or `None` if the text has no LF. Takes one pass up to it, by
+    /// `memchr`.
+    ///
+    /// ```
+    /// let text = StrTendril::from_slice(alloc, "one\ntwo")?;
+    /// assert_eq!(rt; text.first_line_len(), Some(4));
+    /// ```
+    pub fn first_line_len(&self) -> Option<u32>
+        ensures some { IfSome result (EndsFirstLine self.now.bytes) }
+        ensures none { IfNone result (LacksFeed self.now.bytes) }
+    {
+        let at = memchr(b'\n', self.as_byte_slice())?;
+        Some(at as u32 + 1)
     }
 }
 

@@ -7,10 +7,11 @@ use Rattle.tendril_text.specs.Texts.{Text}
 use Rattle.tendril_block.specs.declared.refusal.Refusal.{Refusal}
 use Rattle.tendril_lossy.proofs.Told.{characters-append, characters-map}
 use Rattle.tendril_lossy.specs.Lossy.{Told, Char, characters}
-use Rattle.tendril_stream.specs.Decoders.{Decodes, Ends, no_piece}
+use Rattle.tendril_stream.specs.Decoders.{Decodes, Ends}
 use Rattle.tendril_stream.specs.Decodings.{Decoding, IsDecoding}
 use Rattle.tendril_stream.specs.Reads.{OneRead, given}
 use Rattle.tendril_stream.specs.Sinks.{Sent, Piece, Feeds, told, told_of}
+use Rattle.tendril_text.specs.TextLists.{no_text}
 use Rattle.tendril_transcode.specs.Transcodings.{IsReady, chars_of_all, chars_so_far}
 
 -- a sink that appends the characters of what it is sent
@@ -64,7 +65,7 @@ module _ {S : Type 0} (has : S → List ℕ) where
         → (last : S) × (written ++ has last ≡ chars_of_all decoding start b) × finishes last out
     ended written finishes sink k b out s h = (
       h.0,
-      ap (λ l. written ++ l) (fed (decoding.fit k no_piece) sink h.0 (decoding.ends k) h.1)
+      ap (λ l. written ++ l) (fed (decoding.fit k no_text) sink h.0 (decoding.ends k) h.1)
           ∙ sym (append_assoc written (has sink) (characters (decoding.ends k)))
           ∙ ap₂ (λ x y. x ++ characters (decoding.ends y)) s.tells s.keeps
           ∙ sym (characters-append (decoding.out start b) (decoding.ends (decoding.after start b))),

@@ -21,13 +21,13 @@ use Rattle.std.specs.Io.KnownBytes.{Appends, Consumes, IsAtEnd}
 use Rattle.tendril_block.specs.declared.refusal.Refusal.{Refusal}
 use Rattle.tendril_block.specs.declared.refusal.Refusal.TheVariants.{Memory, SinkRefused}
 use Rattle.tendril_lossy.specs.Lossy.{Told, characters}
-use Rattle.tendril_stream.specs.Decoders.{no_piece}
 use Rattle.tendril_stream.specs.Decodings.{Decoding}
 use Rattle.tendril_stream.specs.Readings.{StopsBetween}
 use Rattle.tendril_stream.specs.Reads.{OneRead, Gave, CameToEnd, MayReadOn, StopsWith, given}
 use Rattle.tendril_stream.specs.Sinks.{Sent, Piece, Fault}
 use Rattle.tendril_text.specs.Texts.{Text}
 use Rattle.tendril_script.specs.Writing.{AppendsFront}
+use Rattle.tendril_text.specs.TextLists.{no_text}
 
 -- the maximal number of reads
 abbrev pub most_reads : ℕ
@@ -116,7 +116,7 @@ module _ {K : Type 0} (decoding : Decoding K) (start : K) where
   pub record EndStopsAfter (max_reads : ℕ) (these : List OneRead) (left before after : Option (List ℕ))
       (refusal : Refusal) : Type 0 where
     pub rest : List Told
-    pub may : decoding.may no_piece rest refusal
+    pub may : decoding.may no_text rest refusal
     pub writes : WritesSoFar these before after
     pub at_end : IsAtEnd left
     pub ends : StopsWith CameToEnd these
@@ -134,7 +134,7 @@ module _ {K : Type 0} (decoding : Decoding K) (start : K) where
   abbrev pub EndingStops : List OneRead → Option (List ℕ) → Option (List ℕ) → Refusal → Type 0
   EndingStops these before after refusal =
       ((refusal ≡ SinkRefused) × WritesFrontOfText (chars_of_all (given these)) before after)
-      ⊎ ((rest : List Told) × decoding.may no_piece rest refusal × WritesSoFar these before after)
+      ⊎ ((rest : List Told) × decoding.may no_text rest refusal × WritesSoFar these before after)
 
   -- What these reads output is written. The decoder hasn't failed and is in the state that they lead to; its sink is
   -- empty.

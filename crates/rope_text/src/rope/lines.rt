@@ -1,9 +1,10 @@
 //! The lines of a rope, one by one.
 ghost use Rattle.std.specs.Prelude.{◌≡◌, false, ◌<◌, ◌≤◌, ◌+◌, ◌-◌, ◌↔◌, [], ℕ, length, take, drop, slice_index, IsTrue, IsUtf8, IfSome, IfNone, OnSome, IfOk, IfErr, OnErr};
 ghost use Rattle.std.specs.Iterator.{at_most};
-ghost use Rattle.rope_text.specs.Fronts.{CutsLine, CutLineMay, LosesPieces, NextCutLine};
+ghost use Rattle.rope_text.specs.Fronts.{CutsLine, CutLineMay, NextCutLine};
 ghost use Rattle.tendril_text.specs.Iterators.{parts_left};
 ghost use Rattle.tendril_text.specs.Splits.{TakesLine};
+ghost use Rattle.tendril_text.specs.TextLists.{DropsFront};
 
 use crate::rope::Rope;
 use tendril_text::block::Refusal;
@@ -124,7 +125,7 @@ impl<A: Atomicity> Rope<A> {
         requires within { count ≤ length self.old.bytes }
         requires ascii { (k : ℕ) → k < count → slice_index self.old.bytes k < 128 }
         ensures bytes { self.new.bytes ≡ drop count self.old.bytes }
-        ensures pieces { LosesPieces self.old.pieces self.new.pieces }
+        ensures pieces { DropsFront self.old.pieces self.new.pieces }
     {
         for _ in 0..count {
             self.pop_front_char();

@@ -2,7 +2,8 @@
 ghost use Rattle.std.specs.Prelude.{◌≡◌, ◌<◌, ◌↔◌, [], length, All, IsTrue};
 ghost use Rattle.std.specs.Iterator.Runs.{YieldsRefsInOrder};
 ghost use Rattle.std.specs.VecDeque.Iter.{deque_iter_steps, deque_iter_rest};
-ghost use Rattle.rope_text.specs.Ropes.{IsPiece, bytes_of_all, piece_at};
+ghost use Rattle.rope_text.specs.Ropes.{IsPiece, piece_at};
+ghost use Rattle.tendril_text.specs.TextLists.{bytes_of_all};
 ghost use Rattle.tendril_text.specs.Texts.{Text};
 
 use crate::rope::Rope;

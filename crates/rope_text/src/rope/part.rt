@@ -2,7 +2,8 @@
 ghost use Rattle.std.specs.Prelude.{◌≡◌, ◌≤◌, ◌<◌, ◌+◌, length, min, take, drop, All, IsUtf8};
 ghost use Rattle.tendril_block.specs.Outcomes.{Gives, NoneMust};
 ghost use Rattle.rope_text.specs.Parts.{IsCloneOf, PartMay, SubRope, SharesPart};
-ghost use Rattle.rope_text.specs.Ropes.{bytes_of_all, piece_at, IsPiece};
+ghost use Rattle.rope_text.specs.Ropes.{piece_at, IsPiece};
+ghost use Rattle.tendril_text.specs.TextLists.{bytes_of_all};
 
 use crate::rope::Rope;
 use std::collections::VecDeque;

@@ -1,7 +1,8 @@
 //! The search for the piece that has the byte at an offset, by the ends of the pieces.
 ghost use Rattle.std.specs.Prelude.{◌≡◌, ◌<◌, ◌≤◌, ◌+◌, ◌*◌, ◌^◌, ◌↔◌, length, take, drop, IsTrue};
 ghost use Rattle.std.specs.Str.{IsCharBoundary};
-ghost use Rattle.rope_text.specs.Ropes.{bytes_of_all, piece_at};
+ghost use Rattle.rope_text.specs.Ropes.{piece_at};
+ghost use Rattle.tendril_text.specs.TextLists.{bytes_of_all};
 
 use crate::rope::Rope;
 use tendril_text::Atomicity;

@@ -1,6 +1,6 @@
 //! Pops of characters at the start of a rope.
 ghost use Rattle.std.specs.Prelude.{◌≡◌, ◌++◌, ◌∷◌, [], chars, encode_utf8, IfSome, IfNone, OnSome};
-ghost use Rattle.rope_text.specs.Parts.{LosesFront};
+ghost use Rattle.tendril_text.specs.TextLists.{LosesFront};
 
 use crate::rope::Rope;
 use tendril_text::Atomicity;

@@ -1,7 +1,8 @@
 //! Pushes onto ropes.
 ghost use Rattle.std.specs.Prelude.{◌≡◌, ◌+◌, ◌%◌, ◌^◌, ◌≤◌, ◌<◌, ◌++◌, length, map, IfErr, IsOk};
 ghost use Rattle.std.specs.VecDeque.{deque_capacity, deque_len};
-ghost use Rattle.rope_text.specs.Growth.{Grows, piece_of, without_back};
+ghost use Rattle.rope_text.specs.Growth.{Grows, without_back};
+ghost use Rattle.tendril_text.specs.TextLists.{unless_empty};
 
 use crate::rope::Rope;
 use std::collections::VecDeque;
@@ -24,7 +25,7 @@ impl<A: Atomicity> Rope<A> {
         &mut self,
         text: Tendril<UTF8, A>,
     ) -> Result<(), (Refusal, Tendril<UTF8, A>)>
-        ensures grows { Grows text.bytes (piece_of text) self.old (without_back result) self.new }
+        ensures grows { Grows text.bytes (unless_empty text) self.old (without_back result) self.new }
         ensures back { IfErr result (λ e. e.1 ≡ text) }
     {
         let len = text.as_byte_slice().len() as u64;

@@ -3,9 +3,10 @@ ghost use Rattle.std.specs.Prelude.{◌≡◌, ◌<◌, ◌≤◌, ◌+◌, ◌�
 ghost use Rattle.std.specs.Str.{IsCharBoundary};
 ghost use Rattle.std.specs.VecDeque.{deque_capacity, deque_len};
 ghost use Rattle.tendril_block.specs.Outcomes.{NoneMust, Outcome};
-ghost use Rattle.rope_text.specs.Ropes.{bytes_of_all, piece_at};
+ghost use Rattle.rope_text.specs.Ropes.{piece_at};
 ghost use Rattle.rope_text.specs.Splits.{IsCutAt, SplitMay, SplitsOff};
 ghost use Rattle.tendril_text.specs.Parts.{Slices};
+ghost use Rattle.tendril_text.specs.TextLists.{bytes_of_all};
 
 use crate::rope::Rope;
 use std::alloc::Global;

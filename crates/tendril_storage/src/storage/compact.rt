@@ -34,8 +34,8 @@ impl<A: Atomicity> Storage<A> {
         Self::from_slice(self.alloc, self.as_slice())
     }
 
-    // Whether the bytes are inline, or more than 8 in a block of which they aren't a small part and which has no other
-    // reference. Such a block isn't shared any more, whatever its mark says.
+    // Whether the bytes are inline, or are more than 8 and no small part of their block, which has no other reference.
+    // Such a block isn't shared any more, whatever its mark says.
     fn is_compact(&mut self) -> bool
         ensures { self.new ≡ self.old }
     {
@@ -100,7 +100,7 @@ impl<A: Atomicity> Storage<A> {
     }
 }
 
-// Whether `len` bytes are a small part of their block, of which `dropped` other bytes were dropped: these are more than
+// Whether `len` bytes are a small part of their block, where `dropped` other bytes were dropped: these are more than
 // twice as many plus 64.
 fn is_small_part(len: u32, dropped: usize) -> bool {
     dropped as u64 > 2 * len as u64 + 64

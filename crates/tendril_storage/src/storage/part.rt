@@ -142,6 +142,10 @@ impl<A: Atomicity> Storage<A> {
         if let Some(front) = self.take_few(count, 0) {
             return Ok(front);
         }
+        if count as usize > INLINE_LEN && count == self.len32() {
+            let empty = Self::new(self.alloc);
+            return Ok(mem::replace(self, empty));
+        }
         // The front of a long view is returned in registers: the words of one that a call wrote one by one would be
         // loaded as a pair, which stalls the processor.
         if count as usize > INLINE_LEN && (self.len32() - count) as usize > INLINE_LEN {

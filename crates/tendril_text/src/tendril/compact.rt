@@ -20,7 +20,7 @@ impl<F: Format, A: Atomicity> Tendril<F, A> {
     /// Returns `Memory` if that fails; then nothing has changed.
     ///
     /// ```
-    /// let page = StrTendril::from_slice(alloc, "a page, of which a part is kept")?;
+    /// let page = StrTendril::from_slice(alloc, "a long page, and a part is kept")?;
     /// let mut part = page.try_subtendril(17, 14)?;
     /// part.compact()?;
     /// assert_eq!(rt; part.as_str(), "a part is kept");

@@ -117,11 +117,15 @@ impl<F: Format, A: Atomicity> Tendril<F, A> {
 }
 
 /// `clone` is `Tendril::clone` for derives and generic code, which call std's `Clone`. Its error is std's `AllocError`,
-/// as for an `Rc`.
+/// as for an `Rc`; for at most 8 bytes it doesn't fail.
 impl<F: Format, A: Atomicity> Clone for Tendril<F, A> {
+    ghost use Rattle.std.specs.Prelude.{◌≤◌, length};
+    ghost use Rattle.tendril_block.specs.declared.atomicity.TheConstants.{INLINE_LEN};
     ghost use Rattle.tendril_text.specs.Parts.{IsShareOf};
 
     ghost is_clone = { λ t copy. IsShareOf t.bytes copy };
+
+    ghost is_infallible = { λ t. length t.bytes ≤ INLINE_LEN };
 
     fn clone(&self) -> Result<Self, AllocError> {
         match Tendril::clone(self) {

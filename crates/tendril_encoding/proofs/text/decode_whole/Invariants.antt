@@ -1,8 +1,7 @@
 use Rattle.std.proofs.Common.{◌≡◌, ◌-◌, ◌≤◌, false, length, take}
 use Rattle.std.specs.Prelude.{encode_utf8_all}
-use Rattle.tendril_encoding.specs.HasMarks.{has_marks}
 use Rattle.tendril_encoding.specs.States.{decoding_from}
-use Rattle.tendril_lossy.specs.Lossy.{characters}
+use Rattle.tendril_lossy.specs.Lossy.{characters, has_marks}
 use Rattle.tendril_stream.specs.Compositions.{StandsAt}
 use Rattle.tendril_encoding.proofs.text.decode_whole.Given as goal
 

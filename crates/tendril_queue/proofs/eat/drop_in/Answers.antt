@@ -1,7 +1,8 @@
 use Rattle.std.proofs.Common.{◌<◌, ◌-◌, length, subst, sym, ap, arith}
 use Rattle.std.specs.Prelude.{IsUtf8}
 use Rattle.tendril_queue.proofs.Dropped.{IsDropping, cuts_valid, dropped_within, dropping_more}
-use Rattle.tendril_queue.proofs.Fronts.{same_first, some_texts}
+use Rattle.tendril_queue.proofs.Fronts.{same_first}
+use Rattle.tendril_text.proofs.TextLists.{some_texts}
 use Rattle.tendril_queue.proofs.eat.drop_in.Goals as goal
 use Rattle.tendril_text.specs.Texts.{Text}
 
@@ -10,7 +11,7 @@ pop_front-requires-clause-valid g c =
     let ys = c.loop-left.texts.items in
     let d = c.loop-left.invariant in
     let t = c.index_mut.result.now in
-    let some = some_texts ys c.loop-left.left (omega arith) d.there in
+    let some = some_texts ys (c.loop-left.left - 1) (let there = d.there in omega arith) in
     let same = same_first ys c.index.result.now t some c.index.ensures c.index_mut.ensures.value in
     let len = ap length c.as_byte_slice-first.ensures.value in
     let short : c.loop-left.left < length c.index.result.now.bytes = omega arith in
@@ -22,7 +23,7 @@ returns-then-left-first-clause-each g c =
     let ys = c.loop-left.texts.items in
     let d = c.loop-left.invariant in
     let t = c.index_mut.result.now in
-    let some = some_texts ys c.loop-left.left (omega arith) d.there in
+    let some = some_texts ys (c.loop-left.left - 1) (let there = d.there in omega arith) in
     let same = same_first ys c.index.result.now t some c.index.ensures c.index_mut.ensures.value in
     let len = ap length c.as_byte_slice-first.ensures.value in
     let short : c.loop-left.left < length c.index.result.now.bytes = omega arith in
@@ -38,7 +39,7 @@ returns-then-left-first-clause-texts g c =
     let ys = c.loop-left.texts.items in
     let d = c.loop-left.invariant in
     let t = c.index_mut.result.now in
-    let some = some_texts ys c.loop-left.left (omega arith) d.there in
+    let some = some_texts ys (c.loop-left.left - 1) (let there = d.there in omega arith) in
     let same = same_first ys c.index.result.now t some c.index.ensures c.index_mut.ensures.value in
     let len = ap length c.as_byte_slice-first.ensures.value in
     let short : c.loop-left.left < length c.index.result.now.bytes = omega arith in
@@ -55,7 +56,7 @@ loop-left-preserved g c =
     let ys = c.loop-left.texts.items in
     let d = c.loop-left.invariant in
     let t = c.index.result.now in
-    let some = some_texts ys c.loop-left.left (omega arith) d.there in
+    let some = some_texts ys (c.loop-left.left - 1) (let there = d.there in omega arith) in
     let len = ap length c.as_byte_slice-first.ensures.value in
     let more = dropping_more xs ys t c.args.count c.loop-left.left some c.index.ensures (omega arith) d in
     subst (λ n. IsDropping xs c.pop_front-in-loop-left.new.self.items c.args.count (c.loop-left.left - n)) (sym len)

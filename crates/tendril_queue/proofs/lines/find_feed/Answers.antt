@@ -1,7 +1,10 @@
-use Rattle.std.proofs.Common.{◌<◌, ◌∙◌, length, subst, sym, arith}
+use Rattle.std.proofs.Common.{◌<◌, ◌∙◌, length, take, subst, sym, arith}
 use Rattle.std.proofs.lemmas.List.{get_or_default}
-use Rattle.tendril_queue.proofs.LineEnds.{lf_more}
-use Rattle.tendril_queue.specs.Lines.{EndsFirstLine}
+use Rattle.memchr.specs.Find.{is_byte}
+use Rattle.tendril_text.proofs.Pieces.{lacks-append}
+use Rattle.tendril_text.proofs.TextLists.{joined_more}
+use Rattle.tendril_text.specs.Splits.{EndsFirstLine, LacksFeed}
+use Rattle.tendril_text.specs.TextLists.{bytes_of_all}
 use Rattle.tendril_text.specs.Texts.{Text}
 use Rattle.tendril_queue.proofs.lines.find_feed.Goals as goal
 
@@ -22,5 +25,8 @@ returns-in-Some-clause-some g c =
 pub loop-index-preserved : goal.loop-index-preserved
 loop-index-preserved g c =
     let len = c.args.texts.now.ok.0 in
-    lf_more c.args.texts.now.items c.loop-index.index c.index.result.now (omega arith) c.index.ensures
-    c.loop-index.invariant c.in_default.ensures.none
+    let xs = c.args.texts.now.items in
+    let t = c.index.result.now in
+    let at = c.loop-index.index in
+    subst LacksFeed (sym (joined_more xs at t (omega arith) c.index.ensures))
+    (lacks-append (is_byte 10) (bytes_of_all (take at xs)) t.bytes c.loop-index.invariant c.in_default.ensures.none)

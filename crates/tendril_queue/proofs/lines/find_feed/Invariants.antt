@@ -1,7 +1,7 @@
 use Rattle.std.proofs.Common.{take}
-use Rattle.tendril_queue.proofs.LineEnds.{LacksLf}
-use Rattle.tendril_queue.specs.Queues.{queued_bytes}
+use Rattle.tendril_text.specs.Splits.{LacksFeed}
+use Rattle.tendril_text.specs.TextLists.{bytes_of_all}
 use Rattle.tendril_queue.proofs.lines.find_feed.Given as goal
 
 abbrev pub invariant-loop-index : goal.invariant-loop-index
-invariant-loop-index g l = LacksLf (queued_bytes (take l.index l.texts.items))
+invariant-loop-index g l = LacksFeed (bytes_of_all (take l.index l.texts.items))

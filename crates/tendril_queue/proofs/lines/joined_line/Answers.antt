@@ -1,8 +1,8 @@
 use Rattle.std.proofs.Common.{◌≡◌, ◌+◌, ◌<◌, ◌≤◌, ◌++◌, ◌∙◌, length, take, sym, ap, arith, add-zero, length-append}
 use Rattle.std.proofs.lemmas.Result.{err_from_is_err_and}
-use Rattle.tendril_queue.proofs.LineEnds.{bytes_more}
 use Rattle.tendril_queue.proofs.Lined.{may_join}
-use Rattle.tendril_queue.specs.Queues.{queued_bytes}
+use Rattle.tendril_text.proofs.TextLists.{joined_more}
+use Rattle.tendril_text.specs.TextLists.{bytes_of_all}
 use Rattle.tendril_queue.proofs.lines.joined_line.Goals as goal
 
 pub returns-in_err-line-clause-err : goal.returns-in_err-line-clause-err
@@ -25,14 +25,14 @@ returns-in_err-push_tendril-clause-err g c =
     let most = c.requires.inside in
     let inside : at < length xs = omega (arith, less, most) in
     let next : at + 1 ≤ c.args.index = omega (arith, less) in
-    let so_far = queued_bytes (take at xs) in
-    let size : length (line.bytes ++ t.bytes) ≡ length first.bytes + length (queued_bytes (take (at + 1) xs)) =
+    let so_far = bytes_of_all (take at xs) in
+    let size : length (line.bytes ++ t.bytes) ≡ length first.bytes + length (bytes_of_all (take (at + 1) xs)) =
     omega (
       arith,
       length-append line.bytes t.bytes,
       ap length c.loop-at.invariant,
       length-append first.bytes so_far,
-      ap length (bytes_more xs at t inside c.index.ensures),
+      ap length (joined_more xs at t inside c.index.ensures),
       length-append so_far t.bytes,
     ) in
     let p = err_from_is_err_and c.from_residual-in_err-push_tendril.result

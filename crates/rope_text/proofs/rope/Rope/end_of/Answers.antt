@@ -1,6 +1,7 @@
 use Rattle.std.proofs.Common.{◌+◌, length, take, ap, ◌∙◌, arith}
 use Rattle.rope_text.proofs.Ends.{end_is}
-use Rattle.rope_text.specs.Ropes.{RopeText, bytes_of_all}
+use Rattle.rope_text.specs.Ropes.{RopeText}
+use Rattle.tendril_text.specs.TextLists.{bytes_of_all}
 use Rattle.rope_text.proofs.rope.Rope.end_of.Goals as goal
 
 pub returns : goal.returns

@@ -2,7 +2,7 @@ use Rattle.std.proofs.Common.{◌-◌, length, sym, ap, subst, arith}
 use Rattle.std.specs.Prelude.{IsUtf8}
 use Rattle.std.proofs.lemmas.List.{take_all}
 use Rattle.std.proofs.lemmas.Str.{IsCharBoundary-before_ascii, IsUtf8-take}
-use Rattle.rope_text.proofs.Joined.{joined_valid}
+use Rattle.rope_text.proofs.Joined.{pieces_valid}
 use Rattle.rope_text.specs.Ropes.{RopeText}
 use Rattle.tendril_text.proofs.Pieces.{line_crlf, line_lf}
 use Rattle.rope_text.proofs.rope.Rope.first_line.Goals as goal
@@ -12,7 +12,7 @@ returns-in_default-clause-valid g c =
     let size = ap (λ (r : RopeText). length r.bytes) c.self.view_is in
     let counts = c.self.invariant.counts in
     let valid = subst (λ (r : RopeText). IsUtf8 r.bytes) c.self.view_is
-    (joined_valid c.self.inside.pieces.items c.self.invariant.each) in
+    (pieces_valid c.self.inside.pieces.items c.self.invariant.each) in
     subst IsUtf8 (sym (take_all c.self.inside.total c.args.self.now.bytes (omega arith))) valid
 
 pub returns-then-follows_cr-clause-line : goal.returns-then-follows_cr-clause-line
@@ -25,7 +25,7 @@ pub returns-then-follows_cr-clause-valid : goal.returns-then-follows_cr-clause-v
 returns-then-follows_cr-clause-valid g c =
     let b = c.args.self.now.bytes in
     let valid = subst (λ (r : RopeText). IsUtf8 r.bytes) c.self.view_is
-    (joined_valid c.self.inside.pieces.items c.self.invariant.each) in
+    (pieces_valid c.self.inside.pieces.items c.self.invariant.each) in
     let high = c.in-Some.ensures.first.0.high in
     let cr = c.follows_cr.ensures.0 c.if-follows_cr.true in
     let some = cr.0 in
@@ -42,5 +42,5 @@ returns-clause-line g c =
 pub returns-clause-valid : goal.returns-clause-valid
 returns-clause-valid g c =
     let valid = subst (λ (r : RopeText). IsUtf8 r.bytes) c.self.view_is
-    (joined_valid c.self.inside.pieces.items c.self.invariant.each) in
+    (pieces_valid c.self.inside.pieces.items c.self.invariant.each) in
     IsUtf8-take c.args.self.now.bytes c.in-Some.at valid (c.in-Some.ensures.cut (omega arith))

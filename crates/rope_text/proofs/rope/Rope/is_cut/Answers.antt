@@ -4,7 +4,8 @@ use Rattle.std.specs.Str.{IsCharBoundary}
 use Rattle.std.proofs.lemmas.List.{get_or_read}
 use Rattle.rope_text.proofs.Located.{cut_behind, cut_between}
 use Rattle.rope_text.proofs.Whole.{joined_pieces}
-use Rattle.rope_text.specs.Ropes.{IsPiece, RopeText, bytes_of_all, no_text, piece_at}
+use Rattle.rope_text.specs.Ropes.{IsPiece, RopeText, piece_at}
+use Rattle.tendril_text.specs.TextLists.{bytes_of_all, no_text}
 use Rattle.tendril_text.specs.Texts.{Text}
 use Rattle.rope_text.proofs.rope.Rope.is_cut.Goals as goal
 

@@ -1,6 +1,7 @@
 use Rattle.std.proofs.Common.{◌≡◌, [], length, subst, sym, ap, ◌∙◌, arith, eq-eqb}
 use Rattle.rope_text.proofs.Joined.{no_pieces}
-use Rattle.rope_text.specs.Ropes.{RopeText, bytes_of_all}
+use Rattle.rope_text.specs.Ropes.{RopeText}
+use Rattle.tendril_text.specs.TextLists.{bytes_of_all}
 use Rattle.rope_text.proofs.rope.Rope.is_empty.Goals as goal
 
 pub returns-clause-pieces : goal.returns-clause-pieces

@@ -1,6 +1,6 @@
 use Rattle.std.proofs.Common.{◌≤◌, length, take}
 use Rattle.rope_text.proofs.Passed.{AreLeft}
-use Rattle.rope_text.specs.Ropes.{bytes_of_all}
+use Rattle.tendril_text.specs.TextLists.{bytes_of_all}
 use Rattle.rope_text.proofs.rope.Rope.near.Given as goal
 
 abbrev pub invariant-loop-count : goal.invariant-loop-count

@@ -1,5 +1,5 @@
 use Rattle.std.proofs.Common.{◌-◌, ◌<◌, ◌≤◌, length, take}
-use Rattle.rope_text.specs.Ropes.{bytes_of_all}
+use Rattle.tendril_text.specs.TextLists.{bytes_of_all}
 use Rattle.rope_text.proofs.rope.Rope.next_with.Given as goal
 
 abbrev pub invariant-loop-index : goal.invariant-loop-index

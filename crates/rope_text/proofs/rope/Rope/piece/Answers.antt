@@ -1,6 +1,7 @@
 use Rattle.std.proofs.Common.{length, ap, ◌∙◌, arith}
 use Rattle.std.proofs.lemmas.List.{get_or_read}
-use Rattle.rope_text.specs.Ropes.{RopeText, no_text, piece_at}
+use Rattle.rope_text.specs.Ropes.{RopeText, piece_at}
+use Rattle.tendril_text.specs.TextLists.{no_text}
 use Rattle.rope_text.proofs.rope.Rope.piece.Goals as goal
 
 pub returns : goal.returns

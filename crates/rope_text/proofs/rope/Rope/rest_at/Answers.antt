@@ -2,7 +2,8 @@ use Rattle.std.proofs.Common.{◌≡◌, ap, ◌∙◌, subst, get_or}
 use Rattle.std.proofs.lemmas.List.{get_or_read}
 use Rattle.rope_text.proofs.Located.{rest_stands}
 use Rattle.rope_text.proofs.Whole.{joined_pieces}
-use Rattle.rope_text.specs.Ropes.{RopeText, no_text, piece_at}
+use Rattle.rope_text.specs.Ropes.{RopeText, piece_at}
+use Rattle.tendril_text.specs.TextLists.{no_text}
 use Rattle.tendril_text.specs.Texts.{Text}
 use Rattle.rope_text.proofs.rope.Rope.rest_at.Goals as goal
 

@@ -5,8 +5,9 @@ use Rattle.std.proofs.lemmas.Bool.{cases_lt}
 use Rattle.std.proofs.lemmas.Str.{IsUtf8-nil}
 use Rattle.rope_text.proofs.Shared.{slice_refused}
 use Rattle.rope_text.proofs.Split.{cut_as, first_left, front_of_piece, long_front, split_between, split_within}
-use Rattle.rope_text.specs.Ropes.{RopeText, bytes_of_all, piece_at}
+use Rattle.rope_text.specs.Ropes.{RopeText, piece_at}
 use Rattle.rope_text.specs.Splits.{HasLongFront}
+use Rattle.tendril_text.specs.TextLists.{bytes_of_all}
 use Rattle.tendril_text.specs.Texts.{Text}
 use Rattle.rope_text.proofs.rope.Rope.split_to.Goals as goal
 

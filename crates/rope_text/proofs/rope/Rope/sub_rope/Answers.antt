@@ -3,9 +3,10 @@ use Rattle.std.proofs.Common.{inr}
 use Rattle.std.specs.Prelude.{IsUtf8}
 use Rattle.std.specs.Str.{IsCharBoundary}
 use Rattle.rope_text.proofs.Cuts.{begins_at_cut, between_cuts, ends_at_cut}
-use Rattle.rope_text.proofs.Joined.{joined_valid, length_joined_both}
+use Rattle.rope_text.proofs.Joined.{pieces_valid, length_joined_both}
 use Rattle.rope_text.proofs.Shared.{drop_joined, not_false, not_true, sub_rope_from, sub_rope_none}
-use Rattle.rope_text.specs.Ropes.{RopeText, bytes_of_all, piece_at}
+use Rattle.rope_text.specs.Ropes.{RopeText, piece_at}
+use Rattle.tendril_text.specs.TextLists.{bytes_of_all}
 use Rattle.rope_text.proofs.rope.Rope.sub_rope.Goals as goal
 
 pub returns-then-count-eq0 : goal.returns-then-count-eq0
@@ -39,7 +40,7 @@ returns-then-not-is_cut-2 g c =
     let size = ap (λ (r : RopeText). length r.bytes) c.self.view_is in
     let there : c.args.offset + c.args.count ≤ length b = omega arith in
     let valid = subst (λ (r : RopeText). IsUtf8 r.bytes) c.self.view_is
-    (joined_valid c.self.inside.pieces.items c.self.invariant.each) in
+    (pieces_valid c.self.inside.pieces.items c.self.invariant.each) in
     let no : c.is_cut-2.result ≡ false = first_of (cc, search (rules, not_true, c.if-not-is_cut-2.true)) in
     let end_place : length (bytes_of_all (take c.locate_from-last.result.0 c.args.self.now.pieces)) +
     (c.locate_from-last.result.1 + 1) ≡ c.args.offset + c.args.count = let p = c.locate_from-last.ensures.place in
@@ -89,7 +90,7 @@ share-requires-clause-valid g c =
     let end = subst (λ (r : RopeText). IsCharBoundary r.bytes (c.args.offset + c.args.count)) (sym c.self.view_is)
     (subst (λ n. IsCharBoundary c.args.self.now.bytes n) end_place (c.is_cut-2.ensures.0 yes-2)) in
     rw (drop_joined xs first from c.args.offset place)
-    (between_cuts (bytes_of_all xs) c.args.offset c.args.count (joined_valid xs c.self.invariant.each) begin end)
+    (between_cuts (bytes_of_all xs) c.args.offset c.args.count (pieces_valid xs c.self.invariant.each) begin end)
 
 pub returns : goal.returns
 returns g c =
@@ -109,7 +110,7 @@ returns g c =
     omega arith in
     let end = subst (λ (r : RopeText). IsCharBoundary r.bytes (c.args.offset + c.args.count)) (sym c.self.view_is)
     (subst (λ n. IsCharBoundary c.args.self.now.bytes n) end_place (c.is_cut-2.ensures.0 yes-2)) in
-    let valid = between_cuts (bytes_of_all xs) c.args.offset c.args.count (joined_valid xs c.self.invariant.each)
+    let valid = between_cuts (bytes_of_all xs) c.args.offset c.args.count (pieces_valid xs c.self.invariant.each)
     begin end in
     rw (← c.self.view_is) (sub_rope_from (record { bytes = bytes_of_all xs; pieces = xs }) first from c.args.offset
     c.args.count c.share.result refl place (omega arith) valid c.share.ensures)

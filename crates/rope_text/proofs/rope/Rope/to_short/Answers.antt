@@ -3,7 +3,7 @@ use Rattle.std.specs.Prelude.{IsUtf8}
 use Rattle.std.proofs.lemmas.List.{take_all}
 use Rattle.std.proofs.Math.Seq.{take-add}
 use Rattle.std.proofs.lemmas.Slice.{take-put_mid}
-use Rattle.rope_text.proofs.Joined.{joined_valid}
+use Rattle.rope_text.proofs.Joined.{pieces_valid}
 use Rattle.rope_text.specs.Ropes.{RopeText}
 use Rattle.rope_text.proofs.rope.Rope.to_short.Goals as goal
 
@@ -30,5 +30,5 @@ from_byte_slice_without_validating-requires g c =
     let within = c.loop-at.invariant.within in
     let past = c.loop-at-test.false in
     let valid = subst (λ (r : RopeText). IsUtf8 r.bytes) c.self.view_is
-    (joined_valid c.self.inside.pieces.items c.self.invariant.each) in
+    (pieces_valid c.self.inside.pieces.items c.self.invariant.each) in
     rw (c.loop-at.invariant.same, take_all c.loop-at.at c.args.self.now.bytes (omega arith)) valid

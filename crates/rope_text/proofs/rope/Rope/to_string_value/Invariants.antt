@@ -1,6 +1,6 @@
 use Rattle.std.proofs.Common.{◌≡◌, take}
 use Rattle.std.specs.Prelude.{string_bytes}
-use Rattle.rope_text.specs.Ropes.{bytes_of_all}
+use Rattle.tendril_text.specs.TextLists.{bytes_of_all}
 use Rattle.rope_text.proofs.rope.Rope.to_string_value.Given as goal
 
 abbrev pub invariant-loop-index : goal.invariant-loop-index

@@ -2,7 +2,7 @@ use Rattle.std.proofs.Common.{rules, ◌≡◌, ◌≤◌, length, true, false, 
 use Rattle.std.specs.Prelude.{IsUtf8}
 use Rattle.std.specs.Str.{IsCharBoundary}
 use Rattle.std.proofs.lemmas.Str.{IsUtf8-take, IsCharBoundary-from_take}
-use Rattle.rope_text.proofs.Joined.{joined_valid}
+use Rattle.rope_text.proofs.Joined.{pieces_valid}
 use Rattle.rope_text.proofs.Shared.{not_false, not_true}
 use Rattle.rope_text.proofs.Split.{splits_none, splits_off}
 use Rattle.rope_text.specs.Ropes.{RopeText}
@@ -19,7 +19,7 @@ returns-then-not-is_cut g c =
     let size = ap (λ (r : RopeText). length r.bytes) c.self.view_is in
     let there : c.args.count ≤ length b = omega arith in
     let valid = subst (λ (r : RopeText). IsUtf8 r.bytes) c.self.view_is
-    (joined_valid c.self.inside.pieces.items c.self.invariant.each) in
+    (pieces_valid c.self.inside.pieces.items c.self.invariant.each) in
     let no : c.is_cut.result ≡ false = first_of (cc, search (rules, not_true, c.if-not-is_cut.true)) in (
       inl (inr (
         there,
@@ -45,7 +45,7 @@ returns g c =
     let size = ap (λ (r : RopeText). length r.bytes) c.self.view_is in
     let there : c.args.count ≤ length b = omega arith in
     let valid = subst (λ (r : RopeText). IsUtf8 r.bytes) c.self.view_is
-    (joined_valid c.self.inside.pieces.items c.self.invariant.each) in
+    (pieces_valid c.self.inside.pieces.items c.self.invariant.each) in
     let yes : c.is_cut.result ≡ true = first_of (cc, search (rules, not_false, c.if-not-is_cut.false)) in
     splits_off c.args.count c.args.self.now c.split_to.result c.split_to.new.self there
     (IsUtf8-take b c.args.count valid

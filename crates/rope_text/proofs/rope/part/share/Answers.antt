@@ -4,8 +4,8 @@ use Rattle.std.proofs.lemmas.List.{get_or_read, length-take}
 use Rattle.rope_text.proofs.Shared.{growth_refused, slice_refused}
 use Rattle.rope_text.proofs.Sharing.{IsSharing, IsSharing-more, IsSharing-all, IsSharing-cut, in_pieces, length_built}
 use Rattle.rope_text.proofs.Sharing.{long_share, parted}
-use Rattle.rope_text.specs.Growth.{piece_of}
-use Rattle.rope_text.specs.Ropes.{no_text, piece_at}
+use Rattle.rope_text.specs.Ropes.{piece_at}
+use Rattle.tendril_text.specs.TextLists.{unless_empty, no_text}
 use Rattle.tendril_text.specs.Texts.{Text}
 use Rattle.rope_text.proofs.rope.part.share.Goals as goal
 
@@ -54,7 +54,7 @@ returns-in-Err-push_tendril g c =
     let part = ap length c.in-Ok.ensures.1.bytes
     ∙ length-take c.smaller-here.result (drop c.loop-left.at c.index-piece.result.now.bytes) in
     let most = now.most in
-    let full = growth_refused c.in-Ok.part.bytes (piece_of c.in-Ok.part) c.loop-left.rope c.push_tendril.new.self
+    let full = growth_refused c.in-Ok.part.bytes (unless_empty c.in-Ok.part) c.loop-left.rope c.push_tendril.new.self
     c.in-Err-push_tendril.refusal (omega arith) c.in-Err-push_tendril.ensures.grows in
     inr (tt, inr (full.0, omega arith))
 

@@ -1,8 +1,8 @@
 use Rattle.std.proofs.Common.{◌++◌, ◌∙◌, length, drop, refl, sym, ap, subst, rules, ⊎_elim}
 use Rattle.std.proofs.lemmas.Result.{err_from_is_err_and}
 use Rattle.std.specs.Prelude.{IsUtf8}
+use Rattle.memchr.specs.Find.{is_byte}
 use Rattle.tendril_queue.proofs.Fronts.{all_bytes}
-use Rattle.tendril_queue.proofs.LineEnds.{LacksLf, lf_both}
 use Rattle.tendril_queue.proofs.Lined.{
   DropsLine,
   line_first,
@@ -14,8 +14,11 @@ use Rattle.tendril_queue.proofs.Lined.{
   text_at,
 }
 use Rattle.tendril_queue.specs.Lines.{HasFirstFeed}
-use Rattle.tendril_queue.specs.Queues.{Queued, all_texts, queued_bytes}
+use Rattle.tendril_queue.specs.Queues.{Queued, all_texts}
 use Rattle.tendril_block.specs.declared.refusal.Refusal.TheVariants.{Count}
+use Rattle.tendril_text.proofs.Pieces.{lacks-append}
+use Rattle.tendril_text.specs.Splits.{LacksFeed}
+use Rattle.tendril_text.specs.TextLists.{bytes_of_all}
 use Rattle.tendril_queue.proofs.queue.TextQueue.pop_line.Goals as goal
 
 pub returns-in-Ok-clause-some : goal.returns-in-Ok-clause-some
@@ -34,8 +37,9 @@ pub returns-in_default-find_feed-clause-none : goal.returns-in_default-find_feed
 returns-in_default-find_feed-clause-none g c =
     let first = c.self.inside.first in
     let xs = c.self.inside.rest.items in (
-      subst (λ (q : Queued). LacksLf q.bytes) c.self.view_is (subst LacksLf (sym (all_bytes first xs))
-          (lf_both first.bytes (queued_bytes xs) c.in_default.ensures.none c.in_default-find_feed.ensures.none)),
+      subst (λ (q : Queued). LacksFeed q.bytes) c.self.view_is (subst LacksFeed (sym (all_bytes first xs))
+          (lacks-append (is_byte 10) first.bytes (bytes_of_all xs) c.in_default.ensures.none
+          c.in_default-find_feed.ensures.none)),
       refl,
     )
 
@@ -85,7 +89,7 @@ returns-clause-some g c =
     let at = text_at xs index first feed.inside in
     let line = c.in_ok-line.line in
     let dropped : DropsLine first xs (length line.bytes) c.drop_front.new.first c.drop_front.new.rest.items = record {
-      bytes = c.drop_front.ensures.bytes ∙ ap (λ b. drop (length b) (first.bytes ++ queued_bytes xs))
+      bytes = c.drop_front.ensures.bytes ∙ ap (λ b. drop (length b) (first.bytes ++ bytes_of_all xs))
           c.as_byte_slice-all.ensures.value;
       texts = c.drop_front.ensures.texts;
     } in

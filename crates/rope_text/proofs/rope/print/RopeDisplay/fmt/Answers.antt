@@ -1,7 +1,8 @@
 use Rattle.std.proofs.Common.{rules, ◌≡◌, ◌+◌, ◌<◌, ◌++◌, length, get_or, take, sym, ap, subst, ◌∙◌, arith}
 use Rattle.rope_text.proofs.Printed.{styled_more, written_more}
 use Rattle.rope_text.proofs.Whole.{joined_read_more}
-use Rattle.rope_text.specs.Ropes.{RopeText, bytes_of_all}
+use Rattle.rope_text.specs.Ropes.{RopeText}
+use Rattle.tendril_text.specs.TextLists.{bytes_of_all}
 use Rattle.rope_text.proofs.rope.print.RopeDisplay.fmt.Goals as goal
 
 pub loop-index-preserved : goal.loop-index-preserved

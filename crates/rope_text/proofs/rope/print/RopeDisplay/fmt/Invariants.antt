@@ -1,6 +1,6 @@
 use Rattle.std.proofs.Common.{take}
 use Rattle.std.specs.Fmt.{HasWritten, HasWrittenStyled, IsFlush, IsPlainFormatter}
-use Rattle.rope_text.specs.Ropes.{bytes_of_all}
+use Rattle.tendril_text.specs.TextLists.{bytes_of_all}
 use Rattle.rope_text.proofs.rope.print.RopeDisplay.fmt.Given as goal
 
 abbrev pub invariant-loop-index : goal.invariant-loop-index
