@@ -3,6 +3,7 @@ ghost use Rattle.std.specs.Prelude.{◌≡◌, ◌+◌, ◌<◌, ◌≤◌, ◌+
 ghost use Rattle.tendril_block.specs.Tail.{tail_bytes};
 
 use crate::copied::Copied;
+use crate::few::Few;
 use crate::refusal::Refusal;
 use crate::stored::Stored;
 use crate::tail::Tail;
@@ -36,34 +37,20 @@ impl Body {
         ensures took { result.took ≡ 0 }
     {
         Body {
-            stored: Stored::small(alloc, &[]),
+            stored: Stored::Small(Few::new(alloc)),
             took: Copied::zero(),
         }
     }
 
-    /// A copy of few bytes. Allocates nothing.
-    #[inline(always)]
-    pub(crate) fn small(alloc: Global, bytes: &[u8]) -> Self
-        requires { length bytes.now ≤ 40 }
-        ensures bytes { result.bytes ≡ bytes.now }
-        ensures took { result.took ≡ length bytes.now }
-    {
-        let none = Copied::zero();
-        Body {
-            stored: Stored::small(alloc, bytes),
-            took: none.plus(&none, &none, bytes.len()),
-        }
-    }
-
-    /// A copy of these bytes with at least this capacity.
-    pub(crate) fn copy(alloc: Global, bytes: &[u8], capacity: usize) -> Result<Self, Refusal>
+    /// A copy of these bytes in a vector with at least this capacity.
+    pub(crate) fn in_vector(alloc: Global, bytes: &[u8], capacity: usize) -> Result<Self, Refusal>
         ensures bytes { IfOk result (λ b. b.bytes ≡ bytes.now) }
         ensures took { IfOk result (λ b. b.took ≡ length bytes.now) }
         ensures refusal { IfErr result (λ r. r ≡ Refusal.Memory) }
     {
         let none = Copied::zero();
         Ok(Body {
-            stored: Stored::copy(alloc, bytes, capacity)?,
+            stored: Stored::in_vector(alloc, bytes, capacity)?,
             took: none.plus(&none, &none, bytes.len()),
         })
     }
@@ -126,6 +113,20 @@ impl Body {
         self.stored.append(more)?;
         self.took = self.took.plus(&self.took, &self.took, more.len());
         Ok(())
+    }
+
+    /// Appends few bytes to few in the node, if they fit there; returns whether it did.
+    #[inline(always)]
+    pub(crate) fn append_few(&mut self, more: &[u8]) -> bool
+        ensures bytes { result ≡ true → self.new.bytes ≡ self.old.bytes ++ more.now }
+        ensures took { result ≡ true → self.new.took ≡ self.old.took + length more.now }
+        ensures unchanged { result ≡ false → self.new ≡ self.old }
+    {
+        if !self.stored.append_few(more) {
+            return false;
+        }
+        self.took = self.took.plus(&self.took, &self.took, more.len());
+        true
     }
 
     /// Appends bytes if there are exactly `at` bytes, in a vector with enough spare capacity; returns whether it did.

@@ -1,11 +1,11 @@
 //! Few bytes, stored in the value itself, with their number in one byte.
-ghost use Rattle.std.specs.Prelude.{◌≡◌, ◌+◌, ◌-◌, ◌≤◌, ◌++◌, [], length, take, drop};
-ghost use Rattle.std.specs.Int.{to_le_bytes, w64};
+ghost use Rattle.std.specs.Prelude.{◌≡◌, ◌+◌, ◌≤◌, ◌++◌, [], length, take, drop};
 ghost use Rattle.std.specs.List.{refill};
 ghost use Rattle.tendril_block.specs.Tail.{tail_bytes, tail_room};
 ghost use Rattle.std.specs.Borrow.{Lends, Array, u8 as byte, sem};
 
 use crate::tail::Tail;
+use crate::words::copy_few;
 use std::alloc::Global;
 use std::marker::Model;
 
@@ -26,18 +26,19 @@ pub(crate) struct Few {
 
 impl Model for Few {
     ghost use Rattle.std.specs.Prelude.{◌≡◌, ◌≤◌, ℕ, List, length, take};
+    ghost use Rattle.tendril_block.specs.declared.few.TheConstants.{NODE_CAPACITY};
 
     ghost Value = { List ℕ };
 
     ghost view = { λ f. take f.len f.cells.bytes };
 
-    ghost invariant = { λ f. (f.len ≤ 40) × (length f.cells.bytes ≡ 40) };
+    ghost invariant = { λ f. (f.len ≤ NODE_CAPACITY) × (length f.cells.bytes ≡ NODE_CAPACITY) };
 }
 
 // The array is in a struct of its own, so that a contract can say what it is after a borrow of its first bytes.
 #[derive(Drop)]
 struct Cells {
-    bytes: [u8; 40],
+    bytes: [u8; NODE_CAPACITY],
 }
 
 impl Cells {
@@ -46,7 +47,7 @@ impl Cells {
 
     // The first `len` bytes.
     fn front_mut(&mut self, len: usize) -> &mut [u8]
-        requires { len ≤ 40 }
+        requires { len ≤ NODE_CAPACITY }
         ensures* lends { sem 𝓛 (Lends the_row (Array byte 0) self.entry result (with_front self.old)) }
         ensures bytes { result.now ≡ take len self.old.bytes }
     {
@@ -54,104 +55,13 @@ impl Cells {
     }
 
     // Overwrites the bytes from `start` on.
+    #[inline(always)]
     fn write(&mut self, start: usize, bytes: &[u8])
-        requires { start + length bytes.now ≤ 40 }
+        requires { start + length bytes.now ≤ NODE_CAPACITY }
         ensures front { take (start + length bytes.now) self.new.bytes ≡ take start self.old.bytes ++ bytes.now }
-        ensures len { length self.new.bytes ≡ 40 }
+        ensures len { length self.new.bytes ≡ NODE_CAPACITY }
     {
-        put_words(&mut self.front_mut(start + bytes.len())[start..], bytes);
-    }
-}
-
-// Copies at most 40 bytes over as many others. Five copies of 8 bytes each, which may overlap, cover any 8 to 40 bytes:
-// no further branch depends on the length. A call of std's copy branches on it, and costs more.
-#[inline(always)]
-fn put_words(place: &mut [u8], bytes: &[u8])
-    requires few { length bytes.now ≤ 40 }
-    requires len { length place.old ≡ length bytes.now }
-    ensures { place.new ≡ bytes.now }
-{
-    let len = bytes.len();
-    if len < 8 {
-        place.copy_from_slice(bytes);
-        return;
-    }
-    let last = len - 8;
-    put_word(place, bytes, 0);
-    put_word(place, bytes, last.min(8));
-    put_word(place, bytes, last.min(16));
-    put_word(place, bytes, last.min(24));
-    put_word(place, bytes, last);
-}
-
-// Copies the eight bytes from `at` on over those at the same offset of `place`.
-#[inline(always)]
-fn put_word(place: &mut [u8], bytes: &[u8], at: usize)
-    requires in_place { at + 8 ≤ length place.old }
-    requires in_bytes { at + 8 ≤ length bytes.now }
-    ensures { place.new ≡ take at place.old ++ (take 8 (drop at bytes.now) ++ drop (at + 8) place.old) }
-{
-    put_number(place, at, word_of(&bytes[at..at + 8]));
-}
-
-// Copies 8 to 40 bytes to the front of an array. Each of its five words is computed in a register, whatever the length:
-// to move the array, right after it was written at places that depend on the length, would stall the processor.
-#[inline(always)]
-fn five_words(bytes: &[u8]) -> [u8; 40]
-    requires many { 8 ≤ length bytes.now }
-    requires few { length bytes.now ≤ 40 }
-    ensures { take (length bytes.now) result ≡ bytes.now }
-{
-    let mut words = [0; 40];
-    put_number(&mut words, 0, word_at(bytes, 0));
-    put_number(&mut words, 8, word_at(bytes, 8));
-    put_number(&mut words, 16, word_at(bytes, 16));
-    put_number(&mut words, 24, word_at(bytes, 24));
-    put_number(&mut words, 32, word_at(bytes, 32));
-    words
-}
-
-// Writes the bytes of a number over the eight from `at` on.
-#[inline(always)]
-fn put_number(place: &mut [u8], at: usize, number: u64)
-    requires { at + 8 ≤ length place.old }
-    ensures { place.new ≡ take at place.old ++ (to_le_bytes w64 number ++ drop (at + 8) place.old) }
-{
-    put_eight(&mut place[at..at + 8], number);
-}
-
-// Overwrites eight bytes by those of a number. `copy_from_slice` would test whether the two overlap.
-#[inline(always)]
-fn put_eight(place: &mut [u8], number: u64)
-    requires { length place.old ≡ 8 }
-    ensures { place.new ≡ to_le_bytes w64 number }
-{
-    if let Some(eight) = place.as_mut_array::<8>() {
-        *eight = number.to_le_bytes();
-    }
-}
-
-// The eight bytes from `at` on as a number, in little-endian order. If there are fewer from `at` on, the last eight are
-// read, and those before `at` are shifted out.
-#[inline(always)]
-fn word_at(bytes: &[u8], at: usize) -> u64
-    requires many { 8 ≤ length bytes.now }
-    requires few { at ≤ 32 }
-    ensures { take (length bytes.now - at) (to_le_bytes w64 result) ≡ take 8 (drop at bytes.now) }
-{
-    let from = at.min(bytes.len() - 8);
-    word_of(&bytes[from..from + 8]) >> (8 * (at - from) % 64)
-}
-
-// Eight bytes as a number, in little-endian order.
-#[inline(always)]
-fn word_of(bytes: &[u8]) -> u64
-    requires { length bytes.now ≡ 8 }
-    ensures { to_le_bytes w64 result ≡ bytes.now }
-{
-    match bytes {
-        [a, b, c, d, e, f, g, h] => u64::from_le_bytes([*a, *b, *c, *d, *e, *f, *g, *h]),
-        _ => 0,
+        copy_few(&mut self.front_mut(start + bytes.len())[start..], bytes);
     }
 }
 
@@ -165,35 +75,14 @@ impl Few {
         Few {
             len: 0,
             gap: [0; 6],
-            cells: Cells { bytes: [0; 40] },
-            alloc,
-        }
-    }
-
-    /// A copy of few bytes.
-    #[inline(always)]
-    pub(crate) fn copy(alloc: Global, bytes: &[u8]) -> Self
-        requires { length bytes.now ≤ 40 }
-        ensures { result ≡ bytes.now }
-    {
-        if bytes.len() < 8 {
-            let mut few = Few::new(alloc);
-            few.push(bytes);
-            return few;
-        }
-        Few {
-            len: bytes.len() as u8,
-            gap: [0; 6],
-            cells: Cells {
-                bytes: five_words(bytes),
-            },
+            cells: Cells { bytes: [0; NODE_CAPACITY] },
             alloc,
         }
     }
 
     pub(crate) fn len(&self) -> usize
         ensures len { result ≡ length self.now }
-        ensures fits { result ≤ 40 }
+        ensures fits { result ≤ NODE_CAPACITY }
     {
         self.len as usize
     }
@@ -204,7 +93,7 @@ impl Few {
 
     pub(crate) fn as_slice(&self) -> &[u8]
         ensures bytes { result.now ≡ self.now }
-        ensures fits { length result.now ≤ 40 }
+        ensures fits { length result.now ≤ NODE_CAPACITY }
     {
         &self.cells.bytes[..self.len as usize]
     }
@@ -217,8 +106,9 @@ impl Few {
     }
 
     /// Appends bytes.
+    #[inline(always)]
     pub(crate) fn push(&mut self, more: &[u8])
-        requires { length self.old + length more.now ≤ 40 }
+        requires { length self.old + length more.now ≤ NODE_CAPACITY }
         ensures { self.new ≡ self.old ++ more.now }
     {
         let len = self.len as usize;
@@ -228,7 +118,7 @@ impl Few {
 
     /// Appends a tail.
     pub(crate) fn push_tail(&mut self, tail: Tail)
-        requires { length self.old + tail_room tail ≤ 40 }
+        requires { length self.old + tail_room tail ≤ NODE_CAPACITY }
         ensures { self.new ≡ self.old ++ tail_bytes tail.entry }
     {
         match tail {
@@ -254,7 +144,9 @@ impl Few {
         requires { start + len ≤ length self.old }
         ensures { self.new ≡ take len (drop start self.old) }
     {
-        *self = Few::copy(self.alloc, &self.as_slice()[start..start + len]);
+        let mut part = Few::new(self.alloc);
+        part.push(&self.as_slice()[start..start + len]);
+        *self = part;
     }
 }
 

@@ -6,7 +6,7 @@ ghost use Rattle.tendril_block.specs.contracts.body.Body.{the_row as body_row};
 use crate::atomicity::Atomicity;
 use crate::body::Body;
 use crate::copied::Copied;
-use crate::few::NODE_CAPACITY;
+use crate::node::Node;
 use crate::node::kind::Kind;
 use crate::pointer::Pointer;
 use crate::refusal::Refusal;
@@ -50,18 +50,10 @@ impl<K: Kind, const N: u64> Atomicity for CountedBy<K, N> {
         Ok(Holder::new(pointer))
     }
 
+    #[inline(always)]
     fn copy(alloc: Global, bytes: &[u8], capacity: usize) -> Result<Holder<K, N>, Refusal> {
-        // Few bytes have a branch of their own, so that their words go from registers to the node.
-        if capacity.max(bytes.len()) <= NODE_CAPACITY {
-            let Ok(pointer) = Pointer::make(alloc, Body::small(alloc, bytes)) else {
-                return Err(Refusal::Memory);
-            };
-            return Ok(Holder::new(pointer));
-        }
-        let Ok(pointer) = Pointer::make(alloc, Body::copy(alloc, bytes, capacity)?) else {
-            return Err(Refusal::Memory);
-        };
-        Ok(Holder::new(pointer))
+        let node = Node::copy(alloc, bytes, capacity)?;
+        Ok(Holder::new(Pointer::from_node(node)))
     }
 
     fn share(block: &Holder<K, N>) -> Result<Holder<K, N>, Refusal> {
@@ -124,7 +116,7 @@ impl<K: Kind, const N: u64> Atomicity for CountedBy<K, N> {
     }
 
     fn from_sole(sole: Sole) -> Result<Holder<K, N>, (Refusal, Sole)> {
-        Ok(Holder::new(Pointer::from_sole(sole)))
+        Ok(Holder::new(Pointer::from_node(sole.into_node())))
     }
 }
 

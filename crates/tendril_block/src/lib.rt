@@ -17,6 +17,7 @@ mod sole;
 mod stored;
 mod subtendril_error;
 mod tail;
+pub mod words;
 
 pub use atomic::{Atomic, AtomicUpTo, LocalBlock, NonAtomic, SharedBlock};
 pub use atomicity::{Atomicity, INLINE_LEN, MAX_HOLDERS, MAX_LEN, MIN_CAP};

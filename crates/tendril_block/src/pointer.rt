@@ -1,11 +1,12 @@
 //! A counted pointer to a body: a `Handle` of a node that has at most N of them.
-ghost use Rattle.std.specs.Prelude.{◌≡◌, length, IfOk, IfErr, IfSome};
+ghost use Rattle.std.specs.Prelude.{◌≡◌, IfOk, IfErr, IfSome};
 ghost use Rattle.std.specs.Borrow.{LendsSo, sem};
 ghost use Rattle.tendril_block.specs.Owned.{limit};
 ghost use Rattle.tendril_block.specs.contracts.body.Body.{the_row as body_row};
 
 use crate::atomicity::MAX_HOLDERS;
 use crate::body::Body;
+use crate::node::Node;
 use crate::node::handle::Handle;
 use crate::node::kind::Kind;
 use crate::sole::Sole;
@@ -72,12 +73,12 @@ impl<K: Kind, const N: u64> Pointer<K, N> {
         }
     }
 
-    /// The only pointer to these bytes, which count as copied once.
-    pub(crate) fn from_sole(sole: Sole) -> Self
-        ensures bytes { result.node.inner.bytes ≡ sole }
-        ensures took { result.node.inner.took ≡ length sole }
+    /// The only pointer to a body, whose node has a count of 1.
+    pub(crate) fn from_node(node: Box<Node>) -> Self
+        requires { node.value.count ≡ 1 }
+        ensures { result.node.inner ≡ node.value.body }
     {
-        let node = Handle::from_node(sole.into_node(), N);
+        let node = Handle::from_node(node, N);
         Pointer { node }
     }
 }

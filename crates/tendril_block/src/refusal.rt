@@ -8,7 +8,8 @@ use std::{fmt, io};
 
 /// Why a call failed: the error of every call here. The numbers and names are part of the product: programs print them.
 ///
-/// If several apply, a call returns the first in this order: 13, 14, 5, 6, 4, 7, 1, 3, 2.
+/// If several apply, a call returns the first in this order: 13, 14, 5, 6, 4, 7, 1. Count (3) and Memory (2) come after
+/// these, in either order.
 #[derive(Clone, Copy, Debug, PartialEq, Eq, Hash)]
 pub enum Refusal {
     /// The resulting text would have more than 4294967295 bytes.

@@ -1,7 +1,6 @@
 //! Bytes taken out of their block.
 ghost use Rattle.std.specs.Prelude.{◌≡◌, IfOk, IfErr, length};
 
-use crate::body::Body;
 use crate::node::Node;
 use crate::refusal::Refusal;
 use std::alloc::Global;
@@ -38,11 +37,8 @@ impl Sole {
         ensures bytes { IfOk result (λ s. s ≡ bytes.now) }
         ensures refusal { IfErr result (λ r. r ≡ Refusal.Memory) }
     {
-        let body = Body::copy(alloc, bytes, 0)?;
-        match Box::new(alloc, Node { count: 1, body }) {
-            Ok(node) => Ok(Sole { node }),
-            Err(_) => Err(Refusal::Memory),
-        }
+        let node = Node::copy(alloc, bytes, 0)?;
+        Ok(Sole { node })
     }
 
     /// The bytes.

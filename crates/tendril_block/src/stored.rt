@@ -17,25 +17,12 @@ pub(crate) enum Stored {
 const _: () = prove!(size_of::<Stored>() == 48);
 
 impl Stored {
-    /// A copy of few bytes.
-    #[inline(always)]
-    pub(crate) fn small(alloc: Global, bytes: &[u8]) -> Self
-        requires { length bytes.now ≤ 40 }
-        ensures { stored_bytes result ≡ bytes.now }
-    {
-        Stored::Small(Few::copy(alloc, bytes))
-    }
-
-    /// A copy of these bytes with at least this capacity.
-    pub(crate) fn copy(alloc: Global, bytes: &[u8], capacity: usize) -> Result<Self, Refusal>
+    /// A copy of these bytes in a vector with at least this capacity.
+    pub(crate) fn in_vector(alloc: Global, bytes: &[u8], capacity: usize) -> Result<Self, Refusal>
         ensures bytes { IfOk result (λ s. stored_bytes s ≡ bytes.now) }
         ensures refusal { IfErr result (λ r. r ≡ Refusal.Memory) }
     {
-        let capacity = capacity.max(bytes.len());
-        if capacity <= NODE_CAPACITY {
-            return Ok(Stored::small(alloc, bytes));
-        }
-        let mut copy = Vec::with_capacity(alloc, capacity)?;
+        let mut copy = Vec::with_capacity(alloc, capacity.max(bytes.len()))?;
         append_reserved(&mut copy, bytes);
         Ok(Stored::Large(copy))
     }
@@ -79,8 +66,10 @@ impl Stored {
         ensures refusal { IfErr result (λ r. r ≡ Refusal.Memory) }
         ensures err { OnErr result (stored_bytes self.new ≡ stored_bytes self.old) }
     {
+        if self.append_few(more) {
+            return Ok(());
+        }
         match self {
-            Stored::Small(few) if more.len() <= NODE_CAPACITY - few.len() => few.push(more),
             Stored::Small(few) => {
                 let count = few.len().checked_add(more.len()).ok_or(Refusal::Memory)?;
                 let mut bytes = spilled(few, count)?;
@@ -90,6 +79,21 @@ impl Stored {
             Stored::Large(bytes) => bytes.extend_from_slice(more)?,
         }
         Ok(())
+    }
+
+    /// Appends few bytes to few, if they fit into the node; returns whether it did.
+    #[inline(always)]
+    pub(crate) fn append_few(&mut self, more: &[u8]) -> bool
+        ensures bytes { result ≡ true → stored_bytes self.new ≡ stored_bytes self.old ++ more.now }
+        ensures unchanged { result ≡ false → self.new ≡ self.old }
+    {
+        match self {
+            Stored::Small(few) if more.len() <= NODE_CAPACITY - few.len() => {
+                few.push(more);
+                true
+            }
+            _ => false,
+        }
     }
 
     /// Appends bytes if there are exactly `at` bytes, in a vector with enough spare capacity; returns whether it did.

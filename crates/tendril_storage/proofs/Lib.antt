@@ -1,4 +1,3 @@
 mod Overs
 pub mod Partings
 pub mod Views
-pub mod Words

@@ -2,14 +2,15 @@
 ghost use Rattle.std.specs.Prelude.{◌≡◌, ◌<◌, ◌≤◌, ◌+◌, ◌^◌, IfOk, IfErr, length, take, drop};
 ghost use Rattle.tendril_block.specs.Outcomes.{MemoryMay};
 
-use crate::storage::{BlockView, Held, Storage, word_of};
+use crate::storage::{BlockView, Held, Storage};
 use std::alloc::Global;
 use std::marker::Model;
+use tendril_block::words::word_of;
 use tendril_block::{Atomicity, INLINE_LEN, MAX_LEN, Refusal, Sole};
 
 #[derive(Drop)]
 enum Kept {
-    Inline { len: u64, buffer: [u8; 8] },
+    Inline { len: u64, buffer: [u8; INLINE_LEN] },
     Alone(Sole),
 }
 

@@ -1,6 +1,5 @@
 //! Where a text's bytes are stored: inline, or in a view of a block.
 ghost use Rattle.std.specs.Prelude.{◌≡◌, ◌≤◌, ◌+◌, ◌++◌, [], length, take};
-ghost use Rattle.std.specs.Int.{w64, to_le_bytes};
 ghost use Rattle.tendril_block.specs.Tail.{tail_bytes};
 
 mod clear;
@@ -15,13 +14,14 @@ mod reserve;
 use std::alloc::Global;
 use std::cell::Cell;
 use std::marker::Model;
+use tendril_block::words::WORD_LEN;
 use tendril_block::{Atomicity, INLINE_LEN, LocalBlock, MAX_LEN, Tail};
 
 // Three words: the inline bytes are aligned to 8, so that a copy moves whole words.
 pub(crate) enum Held<B> {
     Inline {
         len: u64,
-        buffer: [u8; 8],
+        buffer: [u8; INLINE_LEN],
     },
     View {
         // Set by clones, slices and pops, cleared by writes and `compact`. Contracts don't mention it.
@@ -86,6 +86,9 @@ const _: () = prove!(size_of::<Held<LocalBlock>>() == 24);
 
 const _: () = prove!(align_of::<Held<LocalBlock>>() == 8);
 
+// Inline bytes are one word.
+const _: () = prove!(INLINE_LEN == WORD_LEN);
+
 /// The bytes of a text, of any format.
 #[derive(Drop)]
 pub struct Storage<A: Atomicity> {
@@ -114,7 +117,7 @@ impl<A: Atomicity> Storage<A> {
         Storage {
             held: Held::Inline {
                 len: 0,
-                buffer: [0; 8],
+                buffer: [0; INLINE_LEN],
             },
             alloc,
         }
@@ -171,28 +174,8 @@ impl<A: Atomicity> Storage<A> {
     }
 }
 
-// Returns at most 8 bytes as the lowest ones of a word. Each length has its own loads: to read as one word what was
-// just written in pieces would stall the processor.
-#[inline(always)]
-pub(crate) fn word_of(bytes: &[u8]) -> u64
-    requires { length bytes.now ≤ INLINE_LEN }
-    ensures { take (length bytes.now) (to_le_bytes w64 result) ≡ bytes.now }
-{
-    match bytes {
-        [] => 0,
-        [a] => u64::from(*a),
-        [a, b] => u64::from_le_bytes([*a, *b, 0, 0, 0, 0, 0, 0]),
-        [a, b, c] => u64::from_le_bytes([*a, *b, *c, 0, 0, 0, 0, 0]),
-        [a, b, c, d] => u64::from_le_bytes([*a, *b, *c, *d, 0, 0, 0, 0]),
-        [a, b, c, d, e] => u64::from_le_bytes([*a, *b, *c, *d, *e, 0, 0, 0]),
-        [a, b, c, d, e, f] => u64::from_le_bytes([*a, *b, *c, *d, *e, *f, 0, 0]),
-        [a, b, c, d, e, f, g] => u64::from_le_bytes([*a, *b, *c, *d, *e, *f, *g, 0]),
-        [a, b, c, d, e, f, g, h, ..] => u64::from_le_bytes([*a, *b, *c, *d, *e, *f, *g, *h]),
-    }
-}
-
 // Copies bytes into a buffer, from `at` on.
-fn put(buffer: &mut [u8; 8], at: usize, bytes: &[u8])
+fn put(buffer: &mut [u8; INLINE_LEN], at: usize, bytes: &[u8])
     requires { at + length bytes.now ≤ INLINE_LEN }
     ensures { take (at + length bytes.now) buffer.new ≡ take at buffer.old ++ bytes.now }
 {
@@ -200,7 +183,7 @@ fn put(buffer: &mut [u8; 8], at: usize, bytes: &[u8])
 }
 
 // Copies a tail into a buffer, from `at` on.
-fn put_tail(buffer: &mut [u8; 8], at: usize, tail: Tail)
+fn put_tail(buffer: &mut [u8; INLINE_LEN], at: usize, tail: Tail)
     requires { at + length (tail_bytes tail) ≤ INLINE_LEN }
     ensures { take (at + length (tail_bytes tail.entry)) buffer.new ≡ take at buffer.old ++ tail_bytes tail.entry }
 {

@@ -4,9 +4,10 @@ ghost use Rattle.tendril_block.specs.Outcomes.{MemoryMay};
 ghost use Rattle.tendril_block.specs.Tail.{tail_bytes};
 
 use crate::storage::replace::try_replace_in_block;
-use crate::storage::{Held, Storage, put, put_tail, word_of};
+use crate::storage::{Held, Storage, put, put_tail};
 use std::alloc::Global;
 use std::cell::Cell;
+use tendril_block::words::word_of;
 use tendril_block::{Atomicity, INLINE_LEN, MAX_LEN, NODE_CAPACITY, Refusal, Tail};
 
 impl<A: Atomicity> Storage<A> {
@@ -81,7 +82,7 @@ impl<A: Atomicity> Storage<A> {
             let block = joined::<A>(alloc, left, tail)?;
             return Ok(Self::viewed(alloc, block));
         }
-        let mut buffer = [0; 8];
+        let mut buffer = [0; INLINE_LEN];
         put(&mut buffer, 0, left);
         put_tail(&mut buffer, left.len(), tail);
         Ok(Storage {

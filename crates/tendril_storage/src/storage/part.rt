@@ -3,9 +3,10 @@ ghost use Rattle.std.specs.Prelude.{◌≡◌, ◌<◌, ◌≤◌, ◌+◌, ◌�
 ghost use Rattle.tendril_block.specs.Outcomes.{CountMay};
 ghost use Rattle.tendril_storage.specs.Partings.{IsParted, TakesFew, TakesFront};
 
-use crate::storage::{Held, Storage, word_of};
+use crate::storage::{Held, Storage};
 use std::cell::Cell;
 use std::mem;
+use tendril_block::words::word_of;
 use tendril_block::{Atomicity, INLINE_LEN, MAX_LEN, Refusal};
 
 impl<A: Atomicity> Storage<A> {
