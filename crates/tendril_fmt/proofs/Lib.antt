@@ -1,3 +1,4 @@
+pub mod AsciiBlocks
 pub mod AsciiParts
 pub mod CharIndices
 pub mod Characters

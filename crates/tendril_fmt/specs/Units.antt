@@ -1,6 +1,7 @@
 -- Code points split off WTF-8 and off units.
 use Rattle.std.specs.Prelude.{◌≡◌, ℕ, ◌-◌, ◌<◌, List, [], ◌∷◌, ◌++◌, length, Option, Some, None, encode_utf8}
 use Rattle.std.specs.Char.Escape.{encode_utf16}
+use Rattle.std.specs.List.{AllByRecursion}
 use Rattle.tendril_fmt.specs.CodePoints.{IsCodePoint}
 use Rattle.tendril_fmt.specs.Wtf8.{IsWtf8, wtf8, units}
 
@@ -21,6 +22,12 @@ pub record SplitsUnits (us : List ℕ) (c : ℕ) (rest : List ℕ) : Type 0 wher
   pub point : IsCodePoint c
   pub spelt : wtf8 us ≡ encode_utf8 c ++ wtf8 rest
   pub shorter : length rest < length us
+
+-- bytes or units begin with the block `front` of ASCII, and `rest` follows
+pub record StartsWithAscii (all front rest : List ℕ) : Type 0 where
+  pub ascii : AllByRecursion (λ u. u < 0x80) front
+  pub block : length front ≡ 16
+  pub split : all ≡ front ++ rest
 
 -- how many bytes units add to the WTF-8 of the unit `last`, if they follow it
 abbrev pub bytes_behind : ℕ → List ℕ → ℕ

@@ -4,13 +4,15 @@ ghost use Rattle.std.specs.Iterator.{YieldsFirst, item_count};
 ghost use Rattle.std.specs.Char.Escape.{encode_utf16};
 ghost use Rattle.std.specs.Char.Utf16.{is_high_surrogate, is_low_surrogate};
 ghost use Rattle.std.specs.List.{AllByRecursion};
+ghost use Rattle.std.specs.Simd.Lanes.{chunk, put_chunk};
 ghost use Rattle.tendril_fmt.specs.CodePoints.{IsCodePoint};
-ghost use Rattle.tendril_fmt.specs.Units.{SplitsUnits, bytes_behind};
+ghost use Rattle.tendril_fmt.specs.Units.{SplitsUnits, StartsWithAscii, bytes_behind};
 ghost use Rattle.tendril_fmt.specs.Wtf8.{IsWtf8, units as units_of, wtf8};
 
 use crate::futf::split_text;
 use std::iter::FusedIterator;
 use std::marker::Model;
+use std::simd::prelude::*;
 
 /// The 16-bit units of WTF-8, as in UTF-16: two for a character past U+FFFF, one for any other character or a lone
 /// surrogate.
@@ -78,32 +80,90 @@ pub fn decode_wtf8(bytes: &[u8], units: Vec<u16>) -> Vec<u16>
     requires room { vec_len units + length bytes.now ≤ vec_capacity units }
     ensures { result.items ≡ units.items ++ units_of bytes.now }
 {
-    // The vector is passed by value, so that the compiler knows that a write to its elements doesn't change its length.
+    let start = units.len();
     let mut all = units;
-    let mut rest = bytes;
-    while let Some((code, after)) = split_text(rest) {
-        push_units(&mut all, code);
-        rest = after;
-    }
+    // Zeros first: several units are written at once to a slice, not to spare capacity.
+    let _filled = all.resize(start + bytes.len(), 0);
+    let end = put_units(all.as_mut_slice(), start, bytes);
+    all.truncate(end);
     all
 }
 
-// Appends the one or two units of a code point.
+// Writes the units of valid WTF-8 at an offset, and returns the offset after them.
+fn put_units(units: &mut [u16], start: usize, bytes: &[u8]) -> usize
+    requires valid { IsWtf8 bytes.now }
+    requires room { start + length bytes.now ≤ length units.old }
+    ensures within { result ≤ start + length bytes.now }
+    ensures units { take result units.new ≡ take start units.old ++ units_of bytes.now }
+{
+    let mut at = start;
+    let mut rest = bytes;
+    loop {
+        if let Some((ascii, after)) = split_ascii_bytes(rest) {
+            put_ascii_bytes(units, at, ascii);
+            at += BLOCK;
+            rest = after;
+        } else if let Some((code, after)) = split_text(rest) {
+            at = put_code_units(units, at, code);
+            rest = after;
+        } else {
+            return at;
+        }
+    }
+}
+
+// The first `BLOCK` bytes, if all are ASCII, and those after them. If the first isn't one, the others aren't read.
 #[inline]
-fn push_units(units: &mut Vec<u16>, code: u32)
+fn split_ascii_bytes(bytes: &[u8]) -> Option<(&[u8], &[u8])>
+    ensures { IfSome result (λ p. StartsWithAscii bytes.now p.0.now p.1.now) }
+{
+    let first = bytes.first()?;
+    if 0x80 <= *first || bytes.len() < BLOCK {
+        return None;
+    }
+    let (front, after) = bytes.split_at(BLOCK);
+    if !are_ascii_bytes(u8x16::from_slice(front)) {
+        return None;
+    }
+    Some((front, after))
+}
+
+// Whether all bytes of a block are ASCII.
+#[inline]
+fn are_ascii_bytes(block: u8x16) -> bool
+    ensures { result ≡ true → AllByRecursion (λ b. b < 0x80) block }
+{
+    block.simd_ge(u8x16::splat(0x80)).to_bitmask() == 0
+}
+
+// Writes a block of ASCII bytes as units at an offset.
+#[inline]
+fn put_ascii_bytes(units: &mut [u16], at: usize, bytes: &[u8])
+    requires block { length bytes.now ≡ BLOCK }
+    requires fits { at + BLOCK ≤ length units.old }
+    ensures { units.new ≡ put_chunk at units.old (chunk 0 BLOCK bytes.now) }
+{
+    u8x16::from_slice(bytes)
+        .cast::<u16>()
+        .copy_to_slice(&mut units[at..]);
+}
+
+// Writes the one or two units of a code point at an offset, and returns the offset after them.
+#[inline]
+fn put_code_units(units: &mut [u16], at: usize, code: u32) -> usize
     requires point { IsCodePoint code }
-    requires room { vec_len units.old + length (encode_utf16 code) ≤ vec_capacity units.old }
-    ensures items { units.new.items ≡ units.old.items ++ encode_utf16 code }
-    ensures len { vec_len units.new ≡ vec_len units.old + length (encode_utf16 code) }
-    ensures capacity { vec_capacity units.new ≡ vec_capacity units.old }
+    requires fits { at + length (encode_utf16 code) ≤ length units.old }
+    ensures place { result ≡ at + length (encode_utf16 code) }
+    ensures units { take result units.new ≡ take at units.old ++ encode_utf16 code }
 {
     if code < 0x1_0000 {
-        units.push_reserved(code as u16);
-        return;
+        units[at] = code as u16;
+        return at + 1;
     }
     let above = code - 0x1_0000;
-    units.push_reserved((0xD800 + above / 0x400) as u16);
-    units.push_reserved((0xDC00 + above % 0x400) as u16);
+    units[at] = (0xD800 + above / 0x400) as u16;
+    units[at + 1] = (0xDC00 + above % 0x400) as u16;
+    at + 2
 }
 
 // How many units `count_piece` counts, in a number of 16 bits: eight of these fit into a register of the processor.
@@ -180,7 +240,8 @@ pub fn encode_wtf8(units: &[u16], bytes: &mut [u8])
     let mut rest = units;
     loop {
         if let Some((ascii, after)) = split_ascii(rest) {
-            at = put_ascii(bytes, at, ascii);
+            put_ascii(bytes, at, ascii);
+            at += BLOCK;
             rest = after;
         } else if let Some((code, after)) = split_units(rest) {
             at = put_code_point(bytes, at, code);
@@ -191,51 +252,44 @@ pub fn encode_wtf8(units: &[u16], bytes: &mut [u8])
     }
 }
 
-// How many ASCII units are written at once.
-const RUN: usize = 16;
+// How many units or bytes a block has.
+const BLOCK: usize = 16;
 
-// The first `RUN` units, if all are ASCII, and those after them. If the first isn't one, the others aren't read.
+// The first `BLOCK` units, if all are ASCII, and those after them. If the first isn't one, the others aren't read.
 #[inline]
 fn split_ascii(units: &[u16]) -> Option<(&[u16], &[u16])>
-    ensures { IfSome result (λ p. AllByRecursion (λ u. u < 0x80) p.0.now
-        × ((units.now ≡ p.0.now ++ p.1.now) × (length p.1.now < length units.now))) }
+    ensures { IfSome result (λ p. StartsWithAscii units.now p.0.now p.1.now) }
 {
     let first = units.first()?;
-    if 0x80 <= *first || units.len() < RUN {
+    if 0x80 <= *first || units.len() < BLOCK {
         return None;
     }
-    let (front, after) = units.split_at(RUN);
-    if !are_ascii(front) {
+    let (front, after) = units.split_at(BLOCK);
+    if !are_ascii(u16x16::from_slice(front)) {
         return None;
     }
     Some((front, after))
 }
 
-// Whether all units are ASCII. Without a branch, so that several are tested at once.
+// Whether all units of a block are ASCII.
 #[inline]
-fn are_ascii(units: &[u16]) -> bool
-    ensures { result ≡ true → AllByRecursion (λ u. u < 0x80) units.now }
+fn are_ascii(block: u16x16) -> bool
+    ensures { result ≡ true → AllByRecursion (λ u. u < 0x80) block }
 {
-    let mut all = true;
-    for unit in units {
-        all = all & (*unit < 0x80);
-    }
-    all
+    block.simd_ge(u16x16::splat(0x80)).to_bitmask() == 0
 }
 
-// Writes ASCII units at an offset, and returns the offset after them.
+// Writes a block of ASCII units at an offset.
 #[inline]
-fn put_ascii(bytes: &mut [u8], at: usize, units: &[u16]) -> usize
+fn put_ascii(bytes: &mut [u8], at: usize, units: &[u16])
     requires ascii { AllByRecursion (λ u. u < 0x80) units.now }
-    requires fits { at + length units.now ≤ length bytes.old }
-    ensures place { result ≡ at + length units.now }
-    ensures bytes { take result bytes.new ≡ take at bytes.old ++ units.now }
+    requires block { length units.now ≡ BLOCK }
+    requires fits { at + BLOCK ≤ length bytes.old }
+    ensures { bytes.new ≡ put_chunk at bytes.old (chunk 0 BLOCK units.now) }
 {
-    let mut end = at;
-    for unit in units {
-        end = put(bytes, end, *unit as u8);
-    }
-    end
+    u16x16::from_slice(units)
+        .cast::<u8>()
+        .copy_to_slice(&mut bytes[at..]);
 }
 
 // Splits off the first code point: a lead and the trail right after it are one code point, any other unit is one by
