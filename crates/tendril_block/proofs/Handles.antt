@@ -42,7 +42,7 @@ use Rattle.std_alloc.specs.Owners.{sole_or_counted}
 use Rattle.tendril_block.proofs.Carved.{low}
 use Rattle.std_alloc.proofs.ResultValues.{and_tt}
 use Rattle.core.specs.contracts.marker.PhantomData as marker
-use Rattle.tendril_block.specs.declared.node.kind.Kind.{Ghosts}
+use Rattle.tendril_block.specs.declared.node.threading.Threading.{Ghosts}
 use Rattle.tendril_block.specs.contracts.node.handle.Handle as block
 use Rattle.tendril_block.specs.Written.{with_body}
 use Rattle.tendril_block.specs.Owned.{Crosses, limit, whose, BodyRow, BodyIn, body_at, content, Id, all_but_body, owed}

@@ -1,4 +1,4 @@
--- How the low-level values of a `Last` and the node that it owns follow from each other. Assumes `Logic`.
+-- How the low-level values of a `UnfreedNode` and the node that it owns follow from each other. Assumes `Logic`.
 use Rattle.std.proofs.Common.{◌≡◌, ℕ, List, [], ◌∷◌, ◌++◌, refl, subst}
 use mir.Val.{Val, vptr, vstruct, of_list}
 use base.Logic.{id⊢}
@@ -18,7 +18,7 @@ use Rattle.std.specs.declared.alloc.Global.{Global}
 use Rattle.std.specs.contracts.alloc.Global as heap
 use Rattle.tendril_block.proofs.Values.{both}
 use Rattle.tendril_block.proofs.Handles.{Z, al}
-use Rattle.tendril_block.specs.contracts.node.last.Last as last
+use Rattle.tendril_block.specs.contracts.node.unfreed_node.UnfreedNode as last
 use Rattle.tendril_block.specs.Owned.{BodyIn, last_at, last_owns}
 
 abbrev pub L : RattleType

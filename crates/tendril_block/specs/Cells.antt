@@ -1,7 +1,7 @@
--- The array of a `Few` after its first bytes were overwritten.
+-- The array of a `InlineBytes` after its first bytes were overwritten.
 use Rattle.std.specs.Prelude.{ℕ, List, length}
 use Rattle.std.specs.List.{refill}
-use Rattle.tendril_block.specs.declared.few.Cells.{Cells}
+use Rattle.tendril_block.specs.declared.inline_bytes.Cells.{Cells}
 
 -- the array with its first bytes overwritten by w
 abbrev pub with_front : Cells → List ℕ → Cells

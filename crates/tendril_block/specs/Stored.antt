@@ -1,6 +1,6 @@
 -- The bytes of a block: few are stored in the node itself, more in a vector.
 use Rattle.std.specs.Prelude.{ℕ, List, ◌≤◌, vec_capacity}
-use Rattle.tendril_block.specs.declared.few.TheConstants.{NODE_CAPACITY}
+use Rattle.tendril_block.specs.declared.inline_bytes.TheConstants.{NODE_CAPACITY}
 use Rattle.tendril_block.specs.declared.stored.Stored.{Stored}
 use Rattle.tendril_block.specs.declared.stored.Stored.TheVariants.{Small, Large}
 

@@ -3,7 +3,7 @@ ghost use Rattle.std.specs.Prelude.{◌≡◌, ◌+◌, ◌<◌, ◌≤◌, ◌+
 ghost use Rattle.tendril_block.specs.Tail.{tail_bytes};
 
 use crate::copied::Copied;
-use crate::few::Few;
+use crate::inline_bytes::InlineBytes;
 use crate::refusal::Refusal;
 use crate::stored::Stored;
 use crate::tail::Tail;
@@ -37,7 +37,7 @@ impl Body {
         ensures took { result.took ≡ 0 }
     {
         Body {
-            stored: Stored::Small(Few::new(alloc)),
+            stored: Stored::Small(InlineBytes::new(alloc)),
             took: Copied::zero(),
         }
     }

@@ -7,7 +7,7 @@ use crate::atomicity::Atomicity;
 use crate::body::Body;
 use crate::copied::Copied;
 use crate::node::Node;
-use crate::node::kind::Kind;
+use crate::node::threading::Threading;
 use crate::pointer::Pointer;
 use crate::refusal::Refusal;
 use crate::sole::Sole;
@@ -23,14 +23,14 @@ pub struct CountedBy<K, const N: u64> {
 
 /// One reference to a block.
 #[derive(Drop)]
-pub struct Holder<K: Kind, const N: u64> {
+pub struct Holder<K: Threading, const N: u64> {
     pointer: Pointer<K, N>,
     // What was copied for this reference is `before`, and what was copied into the body since that number was `since`.
     since: Copied,
     before: Copied,
 }
 
-impl<K: Kind, const N: u64> Atomicity for CountedBy<K, N> {
+impl<K: Threading, const N: u64> Atomicity for CountedBy<K, N> {
     type Block = Holder<K, N>;
 
     ghost bytes_of = { λ b. b.pointer.node.inner.bytes };
@@ -120,7 +120,7 @@ impl<K: Kind, const N: u64> Atomicity for CountedBy<K, N> {
     }
 }
 
-impl<K: Kind, const N: u64> Holder<K, N> {
+impl<K: Threading, const N: u64> Holder<K, N> {
     // The only reference to a block.
     fn new(pointer: Pointer<K, N>) -> Self
         ensures pointer { result.pointer ≡ pointer }

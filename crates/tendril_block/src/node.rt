@@ -5,15 +5,15 @@
 
 pub(crate) mod any_thread;
 pub(crate) mod handle;
-pub(crate) mod kind;
-pub(crate) mod last;
-pub(crate) mod loose;
+pub(crate) mod threading;
+pub(crate) mod unfreed_node;
+pub(crate) mod raw_box;
 pub(crate) mod one_thread;
 
 ghost use Rattle.std.specs.Prelude.{◌≡◌, length, IfOk, IfErr};
 
 use crate::body::Body;
-use crate::few::NODE_CAPACITY;
+use crate::inline_bytes::NODE_CAPACITY;
 use crate::refusal::Refusal;
 use std::alloc::Global;
 

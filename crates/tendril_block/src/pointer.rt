@@ -8,19 +8,19 @@ use crate::atomicity::MAX_HOLDERS;
 use crate::body::Body;
 use crate::node::Node;
 use crate::node::handle::Handle;
-use crate::node::kind::Kind;
+use crate::node::threading::Threading;
 use crate::sole::Sole;
 use std::alloc::Global;
 
 /// A pointer to a body that has at most N of them. N = 0 means 1, and a greater N than `MAX_HOLDERS` means
 /// `MAX_HOLDERS`.
 #[derive(Drop)]
-pub(crate) struct Pointer<K: Kind, const N: u64> {
+pub(crate) struct Pointer<K: Threading, const N: u64> {
     node: Handle<K>,
     ghost up_to: { node.limit ≡ N },
 }
 
-impl<K: Kind, const N: u64> Pointer<K, N> {
+impl<K: Threading, const N: u64> Pointer<K, N> {
     ghost use Rattle.tendril_block.specs.contracts.pointer.Pointer.{the_row};
 
     /// Allocates a node for a body and returns its only pointer, or the body if the allocation fails.
@@ -53,7 +53,7 @@ impl<K: Kind, const N: u64> Pointer<K, N> {
 
     /// Borrows the body mutably, if this is the only pointer.
     pub(crate) fn alone_mut(&mut self) -> Option<&mut Body>
-        ensures* lends { sem 𝓛 (LendsSo (the_row K.row N.row K.Kind) body_row self.entry result
+        ensures* lends { sem 𝓛 (LendsSo (the_row K.row N.row K.Threading) body_row self.entry result
             (λ n w. n.node.inner ≡ w)
             (λ n. n.node.inner ≡ self.old.node.inner)) }
         ensures bytes { IfSome result (λ b. b.now ≡ self.old.node.inner) }

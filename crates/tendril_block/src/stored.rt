@@ -3,14 +3,14 @@ ghost use Rattle.std.specs.Prelude.{◌≡◌, ◌+◌, ◌≤◌, ◌++◌, len
 ghost use Rattle.tendril_block.specs.Tail.{tail_bytes, tail_room};
 ghost use Rattle.tendril_block.specs.Stored.{stored_bytes, HasRoom};
 
-use crate::few::{Few, NODE_CAPACITY};
+use crate::inline_bytes::{InlineBytes, NODE_CAPACITY};
 use crate::refusal::Refusal;
 use crate::tail::Tail;
 use std::alloc::Global;
 
 #[derive(Drop)]
 pub(crate) enum Stored {
-    Small(Few),
+    Small(InlineBytes),
     Large(Vec<u8>),
 }
 
@@ -180,7 +180,7 @@ fn copy_to_front(bytes: &mut [u8], start: usize, len: usize)
 }
 
 // A vector with these few bytes and a capacity of at least `count`.
-fn spilled(few: &Few, count: usize) -> Result<Vec<u8>, Refusal>
+fn spilled(few: &InlineBytes, count: usize) -> Result<Vec<u8>, Refusal>
     ensures bytes { IfOk result (λ v. (v.items ≡ few.now) × (count ≤ vec_capacity v)) }
     ensures refusal { IfErr result (λ r. r ≡ Refusal.Memory) }
 {

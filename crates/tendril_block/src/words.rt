@@ -5,7 +5,7 @@
 ghost use Rattle.std.specs.Prelude.{◌≡◌, ◌+◌, ◌≤◌, ◌++◌, length, take, drop, true};
 ghost use Rattle.std.specs.Int.{to_le_bytes, w64};
 
-use crate::few::NODE_CAPACITY;
+use crate::inline_bytes::NODE_CAPACITY;
 
 /// The number of bytes of a word.
 pub const WORD_LEN: usize = 8;

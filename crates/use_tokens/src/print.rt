@@ -1,6 +1,6 @@
 //! Prints tokens, one per line.
 
-use crate::token::{Kind, Token};
+use crate::token::{TokenKind, Token};
 use std::io::{self, Write};
 
 /// Prints each token: its kind, the name of a tag, and its source in quotes.
@@ -14,18 +14,18 @@ pub fn print_tokens<W: Write>(out: &mut W, tokens: &[Token]) -> io::Result<()> {
 fn print<W: Write>(out: &mut W, token: &Token) -> io::Result<()> {
     let source = token.source.as_str();
     match &token.kind {
-        Kind::Text => writeln!(out, "text {source:?}"),
-        Kind::StartTag {
+        TokenKind::Text => writeln!(out, "text {source:?}"),
+        TokenKind::StartTag {
             name,
             self_closing: false,
         } => writeln!(out, "start {name} {source:?}"),
-        Kind::StartTag {
+        TokenKind::StartTag {
             name,
             self_closing: true,
         } => writeln!(out, "self-closing {name} {source:?}"),
-        Kind::EndTag { name } => writeln!(out, "end {name} {source:?}"),
-        Kind::Comment => writeln!(out, "comment {source:?}"),
-        Kind::Other => writeln!(out, "other {source:?}"),
-        Kind::Cut => writeln!(out, "cut {source:?}"),
+        TokenKind::EndTag { name } => writeln!(out, "end {name} {source:?}"),
+        TokenKind::Comment => writeln!(out, "comment {source:?}"),
+        TokenKind::Other => writeln!(out, "other {source:?}"),
+        TokenKind::Cut => writeln!(out, "cut {source:?}"),
     }
 }

@@ -1,6 +1,6 @@
 //! Tests the tokens of inputs, wherever these are cut. The expected tokens follow the rules of HTML's tokenization.
 
-use crate::token::{Kind, Token, TokenSink};
+use crate::token::{TokenKind, Token, TokenSink};
 use crate::tokenizer::Tokenizer;
 use std::alloc::Global;
 use std::test::Fail;
@@ -127,21 +127,21 @@ const INPUTS: [(&str, &[Row<'static>]); 12] = [
     ),
 ];
 
-fn word(kind: &Kind) -> &'static str {
+fn word(kind: &TokenKind) -> &'static str {
     match kind {
-        Kind::Text => "text",
-        Kind::StartTag {
+        TokenKind::Text => "text",
+        TokenKind::StartTag {
             self_closing: false,
             ..
         } => "start",
-        Kind::StartTag {
+        TokenKind::StartTag {
             self_closing: true,
             ..
         } => "self-closing",
-        Kind::EndTag { .. } => "end",
-        Kind::Comment => "comment",
-        Kind::Other => "other",
-        Kind::Cut => "cut",
+        TokenKind::EndTag { .. } => "end",
+        TokenKind::Comment => "comment",
+        TokenKind::Other => "other",
+        TokenKind::Cut => "cut",
     }
 }
 

@@ -6,7 +6,7 @@ use tendril::block::Refusal;
 
 /// The kind of a token. A tag's name is as in the source, in either case.
 #[derive(Debug, Drop)]
-pub enum Kind {
+pub enum TokenKind {
     /// Text outside markup, up to the next `<` or to the end of a text that was sent.
     Text,
     StartTag {
@@ -23,7 +23,7 @@ pub enum Kind {
     Cut,
 }
 
-impl Kind {
+impl TokenKind {
     /// Returns the kind of markup that was in this state before its last byte.
     #[inline(always)]
     pub(crate) fn of_markup(last: Markup, source: &StrTendril) -> Result<Self, Refusal> {
@@ -31,13 +31,13 @@ impl Kind {
             Markup::EndTagOpen
             | Markup::DeclarationOpen
             | Markup::DeclarationDash
-            | Markup::BogusComment => Ok(Kind::Other),
+            | Markup::BogusComment => Ok(TokenKind::Other),
             Markup::CommentStart
             | Markup::CommentStartDash
             | Markup::Comment
             | Markup::CommentEndDash
             | Markup::CommentEnd
-            | Markup::CommentEndBang => Ok(Kind::Comment),
+            | Markup::CommentEndBang => Ok(TokenKind::Comment),
             _ => Self::of_tag(source, last == Markup::SelfClosingTag),
         }
     }
@@ -46,10 +46,10 @@ impl Kind {
     fn of_tag(source: &StrTendril, self_closing: bool) -> Result<Self, Refusal> {
         if source.as_byte_slice().get(1) == Some(&b'/') {
             let name = tag_name(source, 2)?;
-            return Ok(Kind::EndTag { name });
+            return Ok(TokenKind::EndTag { name });
         }
         let name = tag_name(source, 1)?;
-        Ok(Kind::StartTag { self_closing, name })
+        Ok(TokenKind::StartTag { self_closing, name })
     }
 }
 
@@ -64,7 +64,7 @@ fn tag_name(source: &StrTendril, start: u32) -> Result<StrTendril, Refusal> {
 /// A token: its kind, and its bytes in the input.
 #[derive(Debug, Drop)]
 pub struct Token {
-    pub kind: Kind,
+    pub kind: TokenKind,
     pub source: StrTendril,
 }
 

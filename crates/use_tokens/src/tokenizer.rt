@@ -6,7 +6,7 @@ ghost use Rattle.use_tokens.specs.Spelled.{TokensSpell, TokensSpellPrefix, untak
 use crate::joined::{append, begun_text, joined};
 use crate::markup::Markup;
 use crate::state::State;
-use crate::token::{Kind, Token, TokenSink};
+use crate::token::{TokenKind, Token, TokenSink};
 use std::alloc::Global;
 use std::borrow::CowStr;
 use std::mem;
@@ -196,7 +196,7 @@ impl<K: TokenSink> Tokenizer<K> {
             (last, Some(count)) => {
                 let end = text.split_to(count as u32)?;
                 append(&mut begun, end)?;
-                let kind = Kind::of_markup(last, &begun)?;
+                let kind = TokenKind::of_markup(last, &begun)?;
                 self.send(kind, begun)?;
             }
             (markup, None) => {
@@ -210,7 +210,7 @@ impl<K: TokenSink> Tokenizer<K> {
     // Sends a token, unless its source is empty. Inlined, as is what makes a token, so that its words go from registers
     // to the sink.
     #[inline(always)]
-    fn send(&mut self, kind: Kind, source: StrTendril) -> Result<(), Refusal>
+    fn send(&mut self, kind: TokenKind, source: StrTendril) -> Result<(), Refusal>
         ensures ok { OnOk result (TokensSpell (K.tokens self.old.sink) source.bytes (K.tokens self.new.sink) []) }
         ensures state { self.new.state ≡ self.old.state }
         ensures input { self.new.input ≡ self.old.input }
@@ -231,7 +231,7 @@ impl<K: TokenSink> Tokenizer<K> {
         ensures input { self.new.input ≡ self.old.input }
         ensures err { OnErr result (K.tokens self.new.sink ≡ K.tokens self.old.sink) }
     {
-        self.send(Kind::Text, source)?;
+        self.send(TokenKind::Text, source)?;
         Ok(true)
     }
 }
@@ -270,7 +270,7 @@ impl<K: TokenSink> TendrilSink<StrTendril> for Tokenizer<K> {
         if source.is_empty() {
             return Ok(sink);
         }
-        let kind = Kind::Cut;
+        let kind = TokenKind::Cut;
         sink.process_token(Token { kind, source })?;
         Ok(sink)
     }

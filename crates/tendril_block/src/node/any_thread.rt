@@ -1,7 +1,7 @@
 //! References in any threads: atomic operations on the node's count keep its invariant.
 ghost use Rattle.std.specs.Prelude.{true, refl};
 
-use crate::node::kind::Kind;
+use crate::node::threading::Threading;
 use atomic_table::exchange;
 use std::marker::Brand;
 use std::sync::atomic::Ordering::SeqCst;
@@ -10,7 +10,7 @@ use std::sync::atomic::raw;
 /// References in any threads.
 pub struct AnyThread;
 
-impl Kind for AnyThread {
+impl Threading for AnyThread {
     ghost any_thread = { true };
 
     unsafe fn subtract(word: *mut u64) -> u64 {

@@ -5,14 +5,14 @@ ghost use Rattle.tendril_block.specs.Owned.{Crosses, block_owns, block_shares, B
 
 use crate::body::Body;
 use crate::node::Node;
-use crate::node::kind::Kind;
-use crate::node::last::Last;
-use crate::node::loose::Loose;
+use crate::node::threading::Threading;
+use crate::node::unfreed_node::UnfreedNode;
+use crate::node::raw_box::RawBox;
 use std::alloc::Global;
 use std::marker::{Model, PhantomData, Send};
 
 /// A reference to a node. In proofs it also has the node's limit of references and its body.
-pub(crate) struct Handle<K: Kind> {
+pub(crate) struct Handle<K: Threading> {
     node: *mut Node,
     alloc: Global,
     kind: PhantomData<K>,
@@ -20,13 +20,13 @@ pub(crate) struct Handle<K: Kind> {
     pub(crate) ghost inner: { BodyIn } by { body_coded },
 }
 
-impl<K: Kind> Model for Handle<K> {
+impl<K: Threading> Model for Handle<K> {
     ghost also_owns = { λ b. block_owns (Crosses K.row K.any_thread) K.any_thread b.limit b.node b.alloc b.inner };
 
     ghost also_shares = { λ b _ κ. block_shares K.any_thread b.limit b.node b.alloc b.inner κ };
 }
 
-impl<K: Kind> Handle<K> {
+impl<K: Threading> Handle<K> {
     ghost use Rattle.tendril_block.specs.contracts.node.handle.Handle.{the_row};
     ghost use Rattle.tendril_block.specs.Owned.{BodyRow};
     ghost use Rattle.std.specs.Borrow.{LendsIf};
@@ -37,7 +37,7 @@ impl<K: Kind> Handle<K> {
         ensures { MatchResult result (λ b. (b.limit ≡ limit) × (b.inner ≡ body)) (λ v. v ≡ body) }
     {
         match Box::new(alloc, Node { count: 1, body }) {
-            Ok(node) => Ok(Handle::of(Loose::of(node), limit)),
+            Ok(node) => Ok(Handle::of(RawBox::of(node), limit)),
             Err(failed) => Err(failed.value.body),
         }
     }
@@ -47,15 +47,15 @@ impl<K: Kind> Handle<K> {
         requires { node.value.count ≡ 1 }
         ensures { (result.limit ≡ limit) × (result.inner ≡ node.value.body) }
     {
-        Handle::of(Loose::of(node), limit)
+        Handle::of(RawBox::of(node), limit)
     }
 
     // The first reference to a node whose count is 1.
-    fn of(loose: Loose<Node, Global>, _limit: u64) -> Handle<K>
+    fn of(loose: RawBox<Node, Global>, _limit: u64) -> Handle<K>
         requires { loose.value.count ≡ 1 }
         ensures { (result.limit ≡ _limit) × (result.inner ≡ loose.value.body) }
     {
-        let Loose { at, alloc } = loose;
+        let RawBox { at, alloc } = loose;
         Handle {
             node: at,
             alloc,
@@ -124,7 +124,7 @@ impl<K: Kind> Handle<K> {
 
     /// Borrows the body mutably, if this is the only reference.
     pub(crate) fn alone_mut(&mut self) -> Option<&mut Body>
-        ensures* lends { sem 𝓛 (LendsIf (the_row K.row K.Kind) BodyRow self.entry result (with_body self.old) self.old) }
+        ensures* lends { sem 𝓛 (LendsIf (the_row K.row K.Threading) BodyRow self.entry result (with_body self.old) self.old) }
         ensures bytes { IfSome result (λ v. v.now ≡ self.old.inner) }
     {
         let node = self.node;
@@ -137,7 +137,7 @@ impl<K: Kind> Handle<K> {
 
     // Consumes the reference if it is the only one, else returns it. The count stays 1: nothing else can read it any
     // more, and the node's next first reference needs a count of 1.
-    fn take_alone(self) -> Result<Last, Handle<K>>
+    fn take_alone(self) -> Result<UnfreedNode, Handle<K>>
         ensures { MatchResult result (λ l. (l.count ≡ 1) × (l.inner ≡ self.inner)) (λ b. b ≡ self) }
     {
         let Handle { node, alloc, kind } = self;
@@ -145,7 +145,7 @@ impl<K: Kind> Handle<K> {
         if count != 1 {
             return Err(Handle { node, alloc, kind });
         }
-        Ok(Last { node, alloc })
+        Ok(UnfreedNode { node, alloc })
     }
 
     /// Takes the node, with a count of 1, or returns the reference if there are others.
@@ -161,7 +161,7 @@ impl<K: Kind> Handle<K> {
     }
 
     // Subtracts the reference from the count. If it was the last one, returns the node, which must then be freed.
-    fn release(self) -> Option<Last>
+    fn release(self) -> Option<UnfreedNode>
         ensures { IfSome result (λ l. l.inner ≡ self.inner) }
     {
         let Handle {
@@ -171,14 +171,14 @@ impl<K: Kind> Handle<K> {
         } = self;
         let found = unsafe { K::subtract(&raw mut (*node).count) };
         if found == 1 {
-            Some(Last { node, alloc })
+            Some(UnfreedNode { node, alloc })
         } else {
             None
         }
     }
 }
 
-impl<K: Kind> Drop for Handle<K> {
+impl<K: Threading> Drop for Handle<K> {
     fn drop(self) {
         if let Some(last) = self.release() {
             drop(last.free().into_box());
@@ -187,4 +187,4 @@ impl<K: Kind> Drop for Handle<K> {
 }
 
 // A kind that is `Send` changes the count atomically.
-unsafe impl<K: Kind + Send> Send for Handle<K> {}
+unsafe impl<K: Threading + Send> Send for Handle<K> {}

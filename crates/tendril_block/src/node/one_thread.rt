@@ -3,7 +3,7 @@ ghost use Rattle.std.specs.Prelude.{false, []};
 ghost use base.Fml.{ftok};
 ghost use base.Mask.{every};
 
-use crate::node::kind::Kind;
+use crate::node::threading::Threading;
 use std::marker::{Model, PhantomData};
 
 /// References that stay in one thread.
@@ -17,7 +17,7 @@ impl Model for OneThread {
     ghost also_owns = { λ _. ftok every };
 }
 
-impl Kind for OneThread {
+impl Threading for OneThread {
     ghost any_thread = { false };
 
     unsafe fn subtract(word: *mut u64) -> u64 {

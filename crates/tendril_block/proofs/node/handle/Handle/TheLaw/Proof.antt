@@ -22,7 +22,7 @@ use Rattle.atomic_table.specs.Seated.{fact}
 use Rattle.std_alloc.specs.Owners.{sole_or_counted}
 use Rattle.std_alloc.proofs.ArcSteps.{Settles, Lends-settled}
 use Rattle.core.specs.contracts.marker.PhantomData as marker
-use Rattle.tendril_block.specs.declared.node.kind.Kind.{Ghosts}
+use Rattle.tendril_block.specs.declared.node.threading.Threading.{Ghosts}
 use Rattle.tendril_block.specs.contracts.node.handle.Handle as C
 use Rattle.tendril_block.specs.Owned.{Crosses, rule_kept, rule, BodyIn, shown, Id, reader, writer, held_at, lends}
 use Rattle.tendril_block.specs.Owned.{ptr_in_block, block_owns, block_shares}

@@ -22,7 +22,7 @@ use Rattle.tendril_block.specs.Owned.{limit, BodyRow, BodyIn, body_at, content, 
 use Rattle.tendril_block.specs.Owned.{block_owns}
 use Rattle.tendril_block.proofs.body.Body.TheSendSync as body_crosses
 use Rattle.core.specs.contracts.marker.PhantomData as marker
-use Rattle.tendril_block.specs.declared.node.kind.Kind.{Ghosts}
+use Rattle.tendril_block.specs.declared.node.threading.Threading.{Ghosts}
 use Rattle.tendril_block.specs.contracts.node.handle.Handle as C
 
 ptr_send : IsSend RawPtr

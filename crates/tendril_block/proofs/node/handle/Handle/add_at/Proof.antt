@@ -55,13 +55,13 @@ use Rattle.std_alloc.specs.Owners.{sole_or_counted}
 use Rattle.tendril_count.specs.Rule.{role_coded, Reader, mark}
 use Rattle.tendril_count.proofs.Parts.{mark_halves}
 use Rattle.core.specs.contracts.marker.PhantomData as marker
-use Rattle.tendril_block.specs.declared.node.kind.Kind.{Ghosts}
+use Rattle.tendril_block.specs.declared.node.threading.Threading.{Ghosts}
 use Rattle.tendril_block.proofs.Carved.{kept_twice}
 use Rattle.tendril_block.proofs.Handles.{Z, al, Self, args, handle_val, handle_good, handle_in, joined}
 use Rattle.tendril_block.specs.Owned.{limit, whose, content, rule_kept, rule, reader, writer, Id, Joining, joined_to}
 use Rattle.tendril_block.specs.Owned.{block_shares}
 use Rattle.tendril_block.specs.contracts.node.handle.Handle as block
-use Rattle.tendril_block.specs.contracts.node.kind.Kind.add as callee
+use Rattle.tendril_block.specs.contracts.node.threading.Threading.add as callee
 use Rattle.tendril_block.specs.contracts.node.handle.Handle.add_at.{ended, clauses}
 use Rattle.tendril_block.specs.contracts.node.handle.Handle.add_at.Key.{name as #self}
 use Rattle.tendril_block.proofs.node.handle.Handle.add_at.Statement.{statement}

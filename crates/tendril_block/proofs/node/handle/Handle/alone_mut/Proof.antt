@@ -42,12 +42,12 @@ use Rattle.std_alloc.proofs.RcSteps.{is_not, is_so}
 use Rattle.std_alloc.specs.Owners.{sole_or_counted}
 use Rattle.tendril_count.specs.Rule.{role_coded, Reader, mark}
 use Rattle.tendril_block.proofs.Carved.{counted, kept_twice}
-use Rattle.tendril_block.specs.declared.node.kind.Kind.{Ghosts}
+use Rattle.tendril_block.specs.declared.node.threading.Threading.{Ghosts}
 use Rattle.tendril_block.proofs.Handles.{Z, Self, args, handle_val, handle_out, handle_in, granted, refused, back}
 use Rattle.tendril_block.specs.Owned.{BodyRow, BodyIn, body_at, rule, rule_kept, all_but_body, reader, writer, Id}
 use Rattle.tendril_block.specs.Owned.{Stepper, seen_by}
 use Rattle.tendril_block.specs.Written.{with_body}
-use Rattle.tendril_block.specs.contracts.node.kind.Kind.alone as callee
+use Rattle.tendril_block.specs.contracts.node.threading.Threading.alone as callee
 use Rattle.tendril_block.specs.contracts.node.handle.Handle.alone_mut.{ended, clauses}
 use Rattle.tendril_block.specs.contracts.node.handle.Handle.alone_mut.Key.{name as #self}
 use Rattle.tendril_block.proofs.node.handle.Handle.alone_mut.Statement.{statement}

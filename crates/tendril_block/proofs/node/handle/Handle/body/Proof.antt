@@ -5,7 +5,7 @@ use mir.MapTy.{inst_fn}
 use contract.BorrowLft.{◌⊑◌}
 use denote.Param.{param}
 use Rattle.core.specs.contracts.marker.PhantomData as marker
-use Rattle.tendril_block.specs.declared.node.kind.Kind.{Ghosts}
+use Rattle.tendril_block.specs.declared.node.threading.Threading.{Ghosts}
 use Rattle.tendril_block.proofs.Handles.{Self, args}
 use mir.Val.{Val, vptr}
 use base.Logic.{SProp, emp, id⊢}

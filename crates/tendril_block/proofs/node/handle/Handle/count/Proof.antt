@@ -39,11 +39,11 @@ use Rattle.std.specs.contracts.alloc.Global as heap
 use Rattle.std.proofs.raw_atomic.Walks.{proved, leaves}
 use contract.Monad.{fact, fact_i}
 use Rattle.core.specs.contracts.marker.PhantomData as marker
-use Rattle.tendril_block.specs.declared.node.kind.Kind.{Ghosts}
+use Rattle.tendril_block.specs.declared.node.threading.Threading.{Ghosts}
 use Rattle.tendril_block.proofs.Handles.{Self, args}
 use Rattle.tendril_block.specs.Owned.{block_shares}
 use Rattle.tendril_block.specs.contracts.node.handle.Handle as block
-use Rattle.tendril_block.specs.contracts.node.kind.Kind.peek as callee
+use Rattle.tendril_block.specs.contracts.node.threading.Threading.peek as callee
 use Rattle.tendril_block.specs.contracts.node.handle.Handle.count.{ended, clauses}
 use Rattle.tendril_block.specs.contracts.node.handle.Handle.count.Key.{name as #self}
 use Rattle.tendril_block.proofs.node.handle.Handle.count.Statement.{statement}

@@ -5,7 +5,7 @@ use mir.MapTy.{inst_fn}
 use contract.BorrowLft.{◌⊑◌}
 use denote.Param.{param}
 use denote.Triple.Entry.{alive}
-use Rattle.tendril_block.specs.declared.node.kind.Kind.{Ghosts}
+use Rattle.tendril_block.specs.declared.node.threading.Threading.{Ghosts}
 use Rattle.tendril_block.proofs.Handles.{Self, args, handle_val, handle_good, handle_in}
 use mir.Val.{Val, vint, vptr}
 use base.Logic.{SProp, ent, emp, id⊢}
@@ -33,7 +33,7 @@ use Rattle.std.specs.contracts.impls.GlobalAllocator.TheImpl.{ghosts}
 use Rattle.std.proofs.raw_atomic.Walks.{proved_at, leaves}
 use Rattle.std_alloc.specs.Owners.{sole_or_counted}
 use Rattle.atomic_table.specs.Seated.{word}
-use Rattle.tendril_block.proofs.Values.{both, Loose, loose_good, loose_out}
+use Rattle.tendril_block.proofs.Values.{both, RawBox, loose_good, loose_out}
 use Rattle.tendril_block.proofs.Carved.{carve, begin, apart}
 use Rattle.tendril_block.specs.Owned.{BodyRow, body_at, reader, writer, Id}
 use Rattle.tendril_block.specs.contracts.node.Node as node
@@ -46,7 +46,7 @@ abbrev Z : RattleType
 Z = heap.the_row
 
 abbrev L : RattleType
-L = Loose node.the_row Z heap_laws.the_row_laws ghosts
+L = RawBox node.the_row Z heap_laws.the_row_laws ghosts
 
 abbrev stayed : (K : RattleType) (k : Ghosts K.Denot) (d : Dict)
     → Stays (ended K k d).signature.params (ended K k d).kept

@@ -43,12 +43,12 @@ use Rattle.atomic_table.specs.Seated.{word}
 use Rattle.tendril_block.proofs.Values.{both, loose_good}
 use Rattle.tendril_block.proofs.Lasts.{L, last_in}
 use Rattle.tendril_block.proofs.Carved.{rejoin, counted}
-use Rattle.tendril_block.specs.declared.node.kind.Kind.{Ghosts}
+use Rattle.tendril_block.specs.declared.node.threading.Threading.{Ghosts}
 use Rattle.tendril_block.proofs.Handles.{Z, Self, args, handle_val, handle_good, handle_out, taken}
 use Rattle.tendril_block.specs.Owned.{content, owed, reader, Id, Stepper, left}
 use Rattle.tendril_block.specs.declared.node.Node.{Node}
 use Rattle.tendril_block.specs.contracts.node.Node as node
-use Rattle.tendril_block.specs.contracts.node.kind.Kind.subtract as callee
+use Rattle.tendril_block.specs.contracts.node.threading.Threading.subtract as callee
 use Rattle.tendril_block.specs.contracts.node.handle.Handle.release.{ended, clauses}
 use Rattle.tendril_block.specs.contracts.node.handle.Handle.release.Key.{name as #self}
 use Rattle.tendril_block.proofs.node.handle.Handle.release.Statement.{statement}

@@ -46,14 +46,14 @@ use Rattle.tendril_count.specs.Rule.{role_coded, Reader, mark}
 use Rattle.tendril_block.proofs.Values.{both, loose_good}
 use Rattle.tendril_block.proofs.Lasts.{L, last_in}
 use Rattle.tendril_block.proofs.Carved.{rejoin, counted, kept_twice}
-use Rattle.tendril_block.specs.declared.node.kind.Kind.{Ghosts}
+use Rattle.tendril_block.specs.declared.node.threading.Threading.{Ghosts}
 use Rattle.tendril_block.proofs.Handles.{Z, Self, args, handle_val, handle_good, handle_out, handle_in, granted}
 use Rattle.tendril_block.proofs.Handles.{refused, gives_up}
 use Rattle.tendril_block.specs.Owned.{BodyRow, body_at, rule, rule_kept, all_but_body, content, owed, reader, writer}
 use Rattle.tendril_block.specs.Owned.{Id, Stepper, seen_by}
 use Rattle.tendril_block.specs.declared.node.Node.{Node}
 use Rattle.tendril_block.specs.contracts.node.Node as node
-use Rattle.tendril_block.specs.contracts.node.kind.Kind.alone as callee
+use Rattle.tendril_block.specs.contracts.node.threading.Threading.alone as callee
 use Rattle.tendril_block.specs.contracts.node.handle.Handle.take_alone.{ended, clauses}
 use Rattle.tendril_block.specs.contracts.node.handle.Handle.take_alone.Key.{name as #self}
 use Rattle.tendril_block.proofs.node.handle.Handle.take_alone.Statement.{statement}
