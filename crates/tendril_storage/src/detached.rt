@@ -11,7 +11,8 @@ use tendril_block::{Atomicity, INLINE_LEN, MAX_LEN, Refusal, Sole};
 #[derive(Drop)]
 enum Kept {
     Inline { len: u64, buffer: [u8; INLINE_LEN] },
-    Alone(Sole),
+    // With the length beside it, no node is read when a text is taken back: it may be in the cache of another core.
+    Alone { sole: Sole, len: u32 },
 }
 
 /// The bytes of a text, shared with no other. Up to 8 are stored inline.
@@ -40,7 +41,7 @@ impl Detached {
     {
         match &self.kept {
             Kept::Inline { len, buffer } => &buffer[..*len as usize],
-            Kept::Alone(sole) => sole.as_slice(),
+            Kept::Alone { sole, .. } => sole.as_slice(),
         }
     }
 
@@ -54,7 +55,10 @@ impl Detached {
                 len: *len,
                 buffer: *buffer,
             },
-            Kept::Alone(sole) => Kept::Alone(Sole::copy(self.alloc, sole.as_slice())?),
+            Kept::Alone { sole, len } => Kept::Alone {
+                sole: Sole::copy(self.alloc, sole.as_slice())?,
+                len: *len,
+            },
         };
         Ok(Detached {
             kept,
@@ -75,13 +79,13 @@ impl Detached {
         }
     }
 
-    fn long(alloc: Global, sole: Sole) -> Self
-        requires long { INLINE_LEN < length sole }
-        requires fits { length sole ≤ MAX_LEN }
+    fn long(alloc: Global, sole: Sole, len: u32) -> Self
+        requires long { INLINE_LEN < len }
+        requires len { len ≡ length sole }
         ensures { result ≡ sole }
     {
         Detached {
-            kept: Kept::Alone(sole),
+            kept: Kept::Alone { sole, len },
             alloc,
         }
     }
@@ -114,7 +118,7 @@ impl<A: Atomicity> Storage<A> {
             Err(text) => text,
         };
         match Sole::copy(text.alloc, text.as_slice()) {
-            Ok(sole) => Ok(Detached::long(text.alloc, sole)),
+            Ok(sole) => Ok(Detached::long(text.alloc, sole, text.len32())),
             Err(refusal) => Err((refusal, text)),
         }
     }
@@ -142,7 +146,7 @@ impl<A: Atomicity> Storage<A> {
             len,
         } = view;
         match A::into_sole(block) {
-            Ok(sole) => Ok(Detached::long(alloc, sole)),
+            Ok(sole) => Ok(Detached::long(alloc, sole, len)),
             Err(block) => Err(Self::from_view(
                 alloc,
                 BlockView {
@@ -193,9 +197,9 @@ impl<A: Atomicity> Storage<A> {
                 held: Held::Inline { len, buffer },
                 alloc,
             }),
-            Kept::Alone(sole) => match A::from_sole(sole) {
-                Ok(block) => Ok(Self::viewed(alloc, block)),
-                Err((refusal, sole)) => Err((refusal, Detached::long(alloc, sole))),
+            Kept::Alone { sole, len } => match A::from_sole(sole) {
+                Ok(block) => Ok(Self::viewed(alloc, block, len)),
+                Err((refusal, sole)) => Err((refusal, Detached::long(alloc, sole, len))),
             },
         }
     }

@@ -80,7 +80,7 @@ impl<A: Atomicity> Storage<A> {
         let len = left.len() + tail.len();
         if len > INLINE_LEN {
             let block = joined::<A>(alloc, left, tail)?;
-            return Ok(Self::viewed(alloc, block));
+            return Ok(Self::viewed(alloc, block, len as u32));
         }
         let mut buffer = [0; INLINE_LEN];
         put(&mut buffer, 0, left);
@@ -101,8 +101,9 @@ impl<A: Atomicity> Storage<A> {
         ensures copied { IfOk result (λ s. s.copied ≡ length bytes.items) }
         ensures refusal { IfErr result (λ r. r ≡ Refusal.Memory) }
     {
+        let len = bytes.len() as u32;
         match A::make(bytes) {
-            Ok(block) => Ok(Self::viewed(alloc, block)),
+            Ok(block) => Ok(Self::viewed(alloc, block, len)),
             Err(_) => Err(Refusal::Memory),
         }
     }
@@ -116,17 +117,16 @@ impl<A: Atomicity> Storage<A> {
         ensures refusal { IfErr result (λ r. r ≡ Refusal.Memory) }
     {
         let block = A::copy(alloc, bytes, capacity)?;
-        Ok(Self::viewed(alloc, block))
+        Ok(Self::viewed(alloc, block, bytes.len() as u32))
     }
 
-    /// Returns a view of all bytes of a block that nothing else refers to.
+    /// Returns a view of all `len` bytes of a block that nothing else refers to.
     #[inline(always)]
-    pub(crate) fn viewed(alloc: Global, block: A::Block) -> Self
-        requires { length (A.bytes_of block) ≤ MAX_LEN }
+    pub(crate) fn viewed(alloc: Global, block: A::Block, len: u32) -> Self
+        requires { len ≡ length (A.bytes_of block) }
         ensures bytes { result.bytes ≡ A.bytes_of block }
         ensures copied { result.copied ≡ A.copied block }
     {
-        let len = A::bytes(&block).len() as u32;
         Storage {
             held: Held::View {
                 shared: Cell::new(false),
