@@ -7,12 +7,12 @@ pub use Rattle.rope_text.specs.Ropes
 pub use Rattle.rope_text.specs.Sink
 pub use Rattle.rope_text.specs.Splits
 pub use Rattle.rope_run.specs.RopeCells
-pub use Rattle.rope_run.specs.RopeChains
 pub use Rattle.rope_run.specs.RopeLines
 pub use Rattle.rope_run.specs.RopePrinted
 pub use Rattle.rope_run.specs.RopeRows
 pub use Rattle.rope_run.specs.RopeSteps
 pub use Rattle.tendril_run.specs.Cells
+pub use Rattle.tendril_run.specs.Chains
 pub use Rattle.tendril_run.specs.Steps
 pub use Rattle.tendril_lines.specs.Lines
 pub use Rattle.tendril_lines.specs.Printed

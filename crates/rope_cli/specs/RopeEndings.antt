@@ -1,7 +1,8 @@
 -- What is printed to standard error, and what is written then.
 use Rattle.std.specs.Prelude.{ℕ, List, [], ◌∷◌, ◌++◌, codes, Option}
 use Rattle.tendril_script.specs.Endings.{RunEnded}
-use Rattle.rope_cli.specs.RopeSessions.{RopeAnswers, no_cells}
+use Rattle.rope_cli.specs.RopeSessions.{RopeAnswers}
+use Rattle.rope_run.specs.RopeCells.{no_cells}
 
 -- the program's name
 abbrev pub rope_program_name : List ℕ

@@ -1,30 +1,19 @@
 -- What the lines of a script print, on a table of texts and ropes that is empty at first.
-use Rattle.std.specs.Prelude.{ℕ, ◌≡◌, ◌⊎◌, List, [], Option}
+use Rattle.std.specs.Prelude.{ℕ, List, Option}
 use Rattle.tendril_block.specs.declared.refusal.Refusal.TheVariants.{Memory}
 use Rattle.tendril_lines.specs.declared.command.Reply.TheVariants.{Refused}
-use Rattle.rope_run.specs.RopeCells.{Cells}
-use Rattle.rope_run.specs.RopeLines.{IsRopeLine}
+use Rattle.rope_run.specs.RopeCells.{Cells, no_cells}
+use Rattle.rope_run.specs.RopeLines.{rope_words_of}
 use Rattle.rope_run.specs.RopePrinted.{rope_printed}
 use Rattle.rope_run.specs.RopeSteps.{RopeStep}
-use Rattle.rope_run.specs.declared.command.RopeCommand.{RopeCommand}
-use Rattle.rope_run.specs.declared.command.RopeReply.{RopeReply}
 use Rattle.rope_run.specs.declared.command.RopeReply.TheVariants.{Plain}
-use Rattle.tendril_script.specs.Commands.{CommandAnswers}
 use Rattle.tendril_script.specs.Sessions.{RanFrom}
+use Rattle.tendril_run.specs.TableAnswers.{TableAnswers}
 use Rattle.tendril_run.specs.WhiteSpace.{class}
-
--- a table without slots and ropes
-abbrev pub no_cells : Cells
-no_cells = record { slots = []; ropes = [] }
-
--- the reply to a command: that of its step, or Memory before the step, and nothing changed
-abbrev pub RopeReplies : Cells → RopeCommand → RopeReply → Cells → Type 0
-RopeReplies old command reply new =
-    RopeStep class old command reply new ⊎ ((reply ≡ Plain (Refused Memory)) × (new ≡ old))
 
 -- what a line prints: the reply to the command that it spells, or `malformed`
 abbrev pub RopeAnswers : Cells → List ℕ → List ℕ → Cells → Type 0
-RopeAnswers = CommandAnswers IsRopeLine RopeReplies rope_printed
+RopeAnswers = TableAnswers rope_words_of (RopeStep class) (Plain (Refused Memory)) rope_printed
 
 -- the writer got what is written for the script that the reader had left, if their bytes are known
 abbrev pub RopesRan : Option (List ℕ) → Option (List ℕ) → Option (List ℕ) → Type 0

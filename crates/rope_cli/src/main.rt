@@ -1,7 +1,6 @@
 //! The program `rope`: it runs commands on texts and ropes, one per line.
 #![tactic(auto)]
 
-mod lines;
 mod program;
 #[cfg(test)]
 mod tests;

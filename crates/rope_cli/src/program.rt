@@ -6,15 +6,22 @@ ghost use Rattle.tendril_script.specs.Writing.{AppendsFront};
 ghost use Rattle.rope_cli.specs.RopeEndings.{RopesEnded, rope_usage};
 ghost use Rattle.rope_cli.specs.RopeSessions.{RopesRan};
 
-use crate::lines::RopeLines;
+use rope::RopeTable;
 use std::alloc::Global;
 use std::io::{Read, Write};
 use std::rt::Env;
+use tendril_run::TableLines;
 use tendril_script::{Program, run_program, run_words};
+use tendril_text::NonAtomic;
 use tendril_text::block::Refusal;
 
-impl Program for RopeLines {
+/// The program `rope`: it runs scripts on a table of texts and ropes.
+pub struct Ropes;
+
+impl Program for Ropes {
     ghost use Rattle.rope_cli.specs.RopeEndings.{rope_program_name, rope_usage};
+
+    type Runner = TableLines<RopeTable<NonAtomic>>;
 
     ghost name = { rope_program_name };
 
@@ -62,8 +69,8 @@ pub fn program_with_arguments<S: Env + AllocGlobal, R: Read, W: Write, E: Write>
     ensures told { result ≡ 2 → AppendsFront (E.contents err.old) (E.contents err.new) rope_usage }
     ensures reads_first { Keeps (W.contents out.old) (W.contents out.new) ⊎ IsAtEnd (R.remaining input.new) }
 {
-    let mut lines = RopeLines::new(system.alloc());
-    run_program(system, &mut lines, input, out, err)
+    let mut lines = TableLines::new(system.alloc());
+    run_program::<S, Ropes, R, W, E>(system, &mut lines, input, out, err)
 }
 
 /// Runs what the words ask for, and returns the program's status.
@@ -96,5 +103,5 @@ pub fn program<R: Read, W: Write, E: Write>(
     // Nothing is written before the input's end.
     ensures reads_first { Keeps (W.contents out.old) (W.contents out.new) ⊎ IsAtEnd (R.remaining input.new) }
 {
-    run_words(alloc, &mut RopeLines::new(alloc), words, input, out, err)
+    run_words::<Ropes, R, W, E>(alloc, &mut TableLines::new(alloc), words, input, out, err)
 }

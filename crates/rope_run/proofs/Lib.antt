@@ -1,5 +1,5 @@
-mod Chained
 mod GivenRopes
+mod NoRopes
 mod RopeChanged
 mod RopePopped
 mod RopeReading

@@ -6,4 +6,3 @@ pub mod RopeOf
 pub mod RopeRules
 pub mod RopeRows
 pub mod RopeSteps
-pub mod RopeChains

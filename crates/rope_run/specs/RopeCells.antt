@@ -1,5 +1,5 @@
 -- Tables of texts and ropes: two lists of cells. A rope's cell is a text in UTF-8, or `gone` after a drop.
-use Rattle.std.specs.Prelude.{ℕ, ◌≤◌, List, length, get_or, IsUtf8}
+use Rattle.std.specs.Prelude.{ℕ, ◌≤◌, List, [], length, get_or, IsUtf8}
 use Rattle.rope_text.specs.declared.rope.TheConstants.{MAX_TOTAL}
 use Rattle.tendril_run.specs.Cells.{Cell}
 
@@ -17,6 +17,10 @@ IsRopeCell (rope b) = IsUtf8 b × (length b ≤ MAX_TOTAL)
 pub record Cells : Type 0 where
   pub slots : List Cell
   pub ropes : List RopeCell
+
+-- a table without slots and ropes
+abbrev pub no_cells : Cells
+no_cells = record { slots = []; ropes = [] }
 
 -- a table: its cells, and its spare capacity for slots and for ropes
 pub record RopeBoard : Type 0 where

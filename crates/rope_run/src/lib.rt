@@ -4,15 +4,13 @@
 //! changes the cell that it names, or adds one, and leaves all others.
 #![tactic(auto)]
 
-mod chain;
 mod command;
 mod line;
 mod one_rope;
 mod reply;
 mod table;
 
-pub use chain::run_ropes;
 pub use command::{RopeCommand, RopeReply};
 pub use line::parse_rope_line;
 pub use reply::print_rope_reply;
-pub use table::RopeTable;
+pub use table::{RopeTable, run_ropes};

@@ -8,8 +8,11 @@ ghost use Rattle.tendril_lines.specs.declared.kind.Kind.TheVariants as kind;
 ghost use Rattle.tendril_run.specs.Cells.{text as text_cell};
 ghost use Rattle.tendril_run.specs.Rules.{GivesBy};
 
+mod chain;
+
 use crate::command::{RopeCommand, RopeReply};
 use crate::one_rope;
+pub use chain::run_ropes;
 use rope_text::{MAX_TOTAL, Rope};
 use std::alloc::Global;
 use std::marker::Model;
@@ -111,10 +114,6 @@ impl<A: Atomicity> RopeTable<A> {
             RopeCommand::RopeTake(rope) => self.add_slot(self.whole(*rope)),
             RopeCommand::RopeDrop(rope) => self.drop_rope(*rope),
         }
-    }
-
-    pub(crate) fn allocator(&self) -> Global {
-        self.alloc
     }
 
     // Adds a rope, for which there is capacity.

@@ -20,7 +20,8 @@ pub longer_by : (xs zs : List Text) (t : Text) (rope : RopeText) → zs ≡ xs +
     → IsLonger rope t.bytes (unless_empty t) (record { bytes = bytes_of_all zs; pieces = zs })
 longer_by xs zs t rope e some is = record {
   bytes = ap bytes_of_all e ∙ joined_push xs t ∙ ap (λ (r : RopeText). r.bytes ++ t.bytes) is;
-  pieces = e ∙ ap (λ (r : RopeText). r.pieces ++ t ∷ []) is ∙ ap (λ l. rope.pieces ++ l) (sym (unless_empty_some t some));
+  pieces = e ∙ ap (λ (r : RopeText). r.pieces ++ t ∷ []) is
+      ∙ ap (λ l. rope.pieces ++ l) (sym (unless_empty_some t some));
 }
 
 -- the pieces of another rope are appended

@@ -75,7 +75,9 @@ impl InlineBytes {
         InlineBytes {
             len: 0,
             gap: [0; 6],
-            cells: Cells { bytes: [0; NODE_CAPACITY] },
+            cells: Cells {
+                bytes: [0; NODE_CAPACITY],
+            },
             alloc,
         }
     }

@@ -1,7 +1,6 @@
 //! The program `tendril`: it runs commands on texts, one per line, or decodes its input.
 #![tactic(auto)]
 
-mod lines;
 mod program;
 #[cfg(test)]
 mod tests;

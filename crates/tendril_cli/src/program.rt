@@ -9,20 +9,26 @@ ghost use Rattle.tendril_cli.specs.Sessions.{Ran};
 ghost use Rattle.tendril_cli.specs.Words.{AskToDecode};
 ghost use Rattle.tendril_transcode.specs.Transcodings.{most_reads};
 
-use crate::lines::TextLines;
 use std::alloc::Global;
 use std::io::{Read, Write};
 use std::rt::Env;
+use tendril_run::{Table, TableLines};
 use tendril_script::{Program, run_program, run_words};
 use tendril_stream::{Counted, KeptUtf8};
+use tendril_text::NonAtomic;
 use tendril_text::block::Refusal;
 use tendril_transcode::transcode;
 
-impl Program for TextLines {
+/// The program `tendril`: it runs scripts on a table of texts, or decodes.
+pub struct Texts;
+
+impl Program for Texts {
     ghost use Rattle.tendril_transcode.specs.Transcodings.{most_reads};
     ghost use Rattle.tendril_cli.specs.Decodings.{DecodesAll, DecodingHalts};
     ghost use Rattle.tendril_cli.specs.Endings.{program_name, usage};
     ghost use Rattle.tendril_cli.specs.Words.{AskToDecode};
+
+    type Runner = TableLines<Table<NonAtomic>>;
 
     ghost name = { program_name };
 
@@ -85,8 +91,8 @@ pub fn program_with_arguments<S: Env + AllocGlobal, R: Read, W: Write, E: Write>
     ensures misused { result ≡ 2 → Keeps (W.contents out.old) (W.contents out.new) }
     ensures told { result ≡ 2 → AppendsFront (E.contents err.old) (E.contents err.new) usage }
 {
-    let mut lines = TextLines::new(system.alloc());
-    run_program(system, &mut lines, input, out, err)
+    let mut lines = TableLines::new(system.alloc());
+    run_program::<S, Texts, R, W, E>(system, &mut lines, input, out, err)
 }
 
 /// Runs what the words ask for, and returns the program's status.
@@ -129,5 +135,5 @@ pub fn program<R: Read, W: Write, E: Write>(
     ensures reads_first { AskToRun (map (λ word. word.now) words.now)
         → Keeps (W.contents out.old) (W.contents out.new) ⊎ IsAtEnd (R.remaining input.new) }
 {
-    run_words(alloc, &mut TextLines::new(alloc), words, input, out, err)
+    run_words::<Texts, R, W, E>(alloc, &mut TableLines::new(alloc), words, input, out, err)
 }

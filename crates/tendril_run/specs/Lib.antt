@@ -8,4 +8,5 @@ pub mod OneCell
 pub mod Steps
 pub mod Chains
 pub mod Jobs
+pub mod TableAnswers
 pub mod WhiteSpace

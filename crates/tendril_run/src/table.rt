@@ -9,7 +9,6 @@ mod commands;
 use crate::classifier::Classifier;
 use crate::slot::Slot;
 pub use chain::run;
-pub(crate) use chain::run_behind;
 use std::alloc::Global;
 use std::marker::Model;
 use tendril_lines::{Command, Reply};

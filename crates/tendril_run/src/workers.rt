@@ -1,11 +1,14 @@
 //! A thread for each table.
 ghost use Rattle.std.specs.Prelude.{◌≡◌, ◌≤◌, ◌+◌, [], IfOk, IfErr, IfSome, MatchOption, vec_len, vec_capacity};
 ghost use Rattle.std.specs.List.{AllZip};
-ghost use Rattle.tendril_run.specs.Jobs.{Worked, JobEnds, IsBegun};
+ghost use Rattle.tendril_run.specs.Chains.{Worked};
+ghost use Rattle.tendril_run.specs.Jobs.{JobEnds, IsBegun};
+ghost use Rattle.tendril_run.specs.Steps.{Step};
 
 use crate::classifier::Classifier;
+use crate::command_table::run_behind;
 use crate::gate::Gate;
-use crate::table::{Table, run_behind};
+use crate::table::Table;
 use std::alloc::Global;
 use std::marker::Send;
 use std::snapshot::Snapshot;
@@ -44,7 +47,7 @@ struct EndingOf<C, G>(Snapshot<Job<C, G>>);
 
 impl<C: Classifier, G> Promise<Ending> for EndingOf<C, G> {
     ghost kept_by = { λ p r. let job = p.0.value in
-        Worked (λ v. v.items) (C.class job.class) job.table.cells job.commands.items r.0.cells r.1 };
+        Worked (Step (C.class job.class)) (λ v. v.items) job.table.cells job.commands.items r.0.cells r.1 };
 }
 
 // None if no thread could be started.
@@ -103,7 +106,7 @@ fn start<R: Threads, C: Classifier + Send + Drop + 'static, G: Gate + Send + Dro
 
 // Runs in the worker's thread.
 fn work<C: Classifier + Drop, G: Gate + Drop>(job: Job<C, G>) -> Ending
-    ensures { Worked (λ v. v.items) (C.class job.class) job.table.cells job.commands.items result.0.cells result.1 }
+    ensures { Worked (Step (C.class job.class)) (λ v. v.items) job.table.cells job.commands.items result.0.cells result.1 }
 {
     let Job {
         mut table,

@@ -20,10 +20,13 @@ const DONE: u8 = 0;
 
 const MISUSED: u8 = 2;
 
-/// A program: its name, its usage, what it does for words of its own, and how it carries out the lines of a script.
-pub trait Program: Lines {
+/// A program: its name, its usage, what it does for words of its own, and what carries out the lines of a script.
+pub trait Program {
     ghost use Rattle.std.specs.Prelude.{◌≡◌, ℕ, List, Option, None, IfSome, IfErr, OnOk, map};
     ghost use Rattle.tendril_block.specs.declared.refusal.Refusal.{Refusal};
+
+    /// Carries out the lines of a script.
+    type Runner: Lines;
 
     /// The program's name.
     ghost name: { List ℕ };
@@ -71,17 +74,18 @@ pub trait Program: Lines {
 #[tactic(auto, using(crate::proofs::EndingLemmas::refused_first))]
 pub fn run_program<S: Env + AllocGlobal, P: Program, R: Read, W: Write, E: Write>(
     system: &S,
-    program: &mut P,
+    runner: &mut P::Runner,
     input: &mut R,
     out: &mut W,
     err: &mut E,
 ) -> u8
     ensures status { result ≤ 2 }
     ensures ran { result ≡ 0
-        → RanFrom P.answers (P.state program.old) (R.remaining input.old) (W.contents out.old) (W.contents out.new)
+        → RanFrom P.Runner.answers (P.Runner.state runner.old)
+        (R.remaining input.old) (W.contents out.old) (W.contents out.new)
         ⊎ P.serves (R.remaining input.old) (W.contents out.old) (W.contents out.new) }
     ensures silent { result ≡ 0 → Keeps (E.contents err.old) (E.contents err.new) }
-    ensures refused { result ≡ 1 → RunEnded P.answers P.name (P.state program.old) (R.remaining input.old)
+    ensures refused { result ≡ 1 → RunEnded P.Runner.answers P.name (P.Runner.state runner.old) (R.remaining input.old)
         (W.contents out.old) (W.contents out.new) (E.contents err.old) (E.contents err.new)
         ⊎ EndedBy (P.stops (R.remaining input.old) (W.contents out.old) (W.contents out.new)) P.name
         (E.contents err.old) (E.contents err.new) }
@@ -102,7 +106,7 @@ pub fn run_program<S: Env + AllocGlobal, P: Program, R: Read, W: Write, E: Write
     else {
         return refuse(P::name(), Refusal::Memory, err);
     };
-    run_words(alloc, program, words.as_slice(), input, out, err)
+    run_words::<P, R, W, E>(alloc, runner, words.as_slice(), input, out, err)
 }
 
 /// Runs what the words ask a program for, and returns its status.
@@ -113,7 +117,7 @@ pub fn run_program<S: Env + AllocGlobal, P: Program, R: Read, W: Write, E: Write
 /// other words print the usage to `err`, and the status is 2.
 pub fn run_words<P: Program, R: Read, W: Write, E: Write>(
     alloc: Global,
-    program: &mut P,
+    runner: &mut P::Runner,
     words: &[&str],
     input: &mut R,
     out: &mut W,
@@ -127,14 +131,15 @@ pub fn run_words<P: Program, R: Read, W: Write, E: Write>(
 
     // What the words ask for is done.
     ensures ran { (P.asks (map (λ word. word.now) words.now) → ⊥) → result ≡ 0
-        → RanFrom P.answers (P.state program.old) (R.remaining input.old) (W.contents out.old) (W.contents out.new) }
+        → RanFrom P.Runner.answers (P.Runner.state runner.old)
+        (R.remaining input.old) (W.contents out.old) (W.contents out.new) }
     ensures served { P.asks (map (λ word. word.now) words.now) → result ≡ 0
         → P.serves (R.remaining input.old) (W.contents out.old) (W.contents out.new) }
     ensures silent { result ≡ 0 → Keeps (E.contents err.old) (E.contents err.new) }
 
     // Or an error is printed.
     ensures refused { (P.asks (map (λ word. word.now) words.now) → ⊥) → result ≡ 1
-        → RunEnded P.answers P.name (P.state program.old) (R.remaining input.old)
+        → RunEnded P.Runner.answers P.name (P.Runner.state runner.old) (R.remaining input.old)
         (W.contents out.old) (W.contents out.new) (E.contents err.old) (E.contents err.new) }
     ensures stopped { P.asks (map (λ word. word.now) words.now) → result ≡ 1
         → EndedBy (P.stops (R.remaining input.old) (W.contents out.old) (W.contents out.new)) P.name
@@ -152,7 +157,7 @@ pub fn run_words<P: Program, R: Read, W: Write, E: Write>(
         return status_of(P::name(), served, err);
     }
     if asks_to_run(words) {
-        return status_of(P::name(), run_input(alloc, program, input, out), err);
+        return status_of(P::name(), run_input(alloc, runner, input, out), err);
     }
     misuse(P::usage(), err)
 }

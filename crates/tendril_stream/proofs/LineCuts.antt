@@ -80,7 +80,8 @@ pub join_stops : (kept text slice : List ℕ) (count : ℕ) (r : Refusal) → sl
 join_stops kept text slice count r same cut lacks some h = record {
   line = kept ++ take count slice;
   is = inl (
-    line-append kept (take count slice) lacks (subst (λ b. IsWholeLine (take count b)) (sym same) (whole_line text count cut)),
+    line-append kept (take count slice) lacks
+        (subst (λ b. IsWholeLine (take count b)) (sym same) (whole_line text count cut)),
     (
       drop count slice,
       ap (λ b. kept ++ b) (sym same ∙ sym (take-append-drop count slice))

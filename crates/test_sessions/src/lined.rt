@@ -1,35 +1,14 @@
-//! Tables whose commands and replies are lines.
+//! Tables that sessions are played on.
 
 use crate::class::Counting;
 use std::alloc::{AllocError, Global};
 use tendril_block::Refusal;
+use tendril_run::{CommandTable, run_commands};
 
 /// A kind of table that sessions are played on.
-pub trait Lined: Drop {
-    type Command: Drop;
-
-    type Reply: Drop;
-
-    /// A table without slots.
-    fn empty(alloc: Global) -> Self;
-
-    /// The command of a line, None if it spells no command.
-    fn read(alloc: Global, line: &[u8]) -> Result<Option<Self::Command>, Refusal>;
-
-    /// The line of a reply.
-    fn print(alloc: Global, reply: &Self::Reply) -> Result<String, Refusal>;
-
-    /// Reserves a slot and carries out one command.
-    fn step(&mut self, command: &Self::Command) -> Result<Self::Reply, Refusal>;
-
-    /// Carries out all commands in one call.
-    fn run(&mut self, commands: &[Self::Command]) -> Result<Vec<Self::Reply>, Refusal>;
-
+pub trait Lined: CommandTable {
     /// Whether a reply says that its command got no memory.
     fn got_no_memory(reply: &Self::Reply) -> bool;
-
-    /// The number of slots, dropped ones too.
-    fn len(&self) -> usize;
 
     /// The reply to a line of the player's own that reads texts or creates one, None for another line.
     fn reply_by_texts(
@@ -39,14 +18,48 @@ pub trait Lined: Drop {
         words: &str,
     ) -> Result<Option<String>, Refusal>;
 
-    /// Reserves slots. After that no command but `text` may allocate.
-    fn silence(&mut self, slots: usize) -> Result<(), Refusal>;
-
-    fn is_silent(&self) -> bool;
-
-    /// The classifier of the characters of a run.
-    fn class(&self) -> &Counting;
-
     /// Appends everything that the table holds, so that two tables that hold the same append the same bytes.
     fn write_to(&self, notes: &mut Vec<u8>) -> Result<(), AllocError>;
+}
+
+/// Plays a session on a table of its own.
+#[derive(Drop)]
+pub struct Player<T> {
+    pub table: T,
+    /// The classifier of the characters of a run.
+    pub class: Counting,
+    silent: bool,
+}
+
+impl<T: Lined> Player<T> {
+    /// Begins a session, with an empty table.
+    pub fn new(alloc: Global) -> Self {
+        Player {
+            table: T::empty(alloc),
+            class: Counting::new(),
+            silent: false,
+        }
+    }
+
+    /// Reserves capacity and carries out one command.
+    pub fn step(&mut self, command: &T::Command) -> Result<T::Reply, Refusal> {
+        self.table.reserve(1)?;
+        Ok(self.table.step(command, &self.class))
+    }
+
+    /// Carries out all commands in one call.
+    pub fn run(&mut self, commands: &[T::Command]) -> Result<Vec<T::Reply>, Refusal> {
+        run_commands(&mut self.table, commands, &self.class)
+    }
+
+    /// Reserves capacity for these many commands. After that none but `text` may allocate.
+    pub fn silence(&mut self, commands: usize) -> Result<(), Refusal> {
+        self.table.reserve(commands)?;
+        self.silent = true;
+        Ok(())
+    }
+
+    pub fn is_silent(&self) -> bool {
+        self.silent
+    }
 }

@@ -8,24 +8,21 @@
 
 mod calls;
 mod class;
+mod kinds;
 mod lined;
 mod notes;
 mod once;
 mod own;
 mod place;
 mod rope_lines;
-mod rope_workers;
-mod ropes;
 mod rows;
 mod slots;
-mod texts;
 mod worker;
 mod workers;
 
 use lined::Lined;
 use once::play_at_once;
-use rope_workers::play_ropes_in_threads;
-use ropes::Ropes;
+use rope::RopeTable;
 use rows::play_twice;
 use std::alloc::{AllocError, Global};
 use std::fs::Files;
@@ -34,8 +31,8 @@ use std::rt::Env;
 use std::thread::Threads;
 use std::{env, fs, io};
 use tendril_block::AtomicUpTo;
+use tendril_run::Table;
 use tendril_text::{Atomic, NonAtomic};
-use texts::Texts;
 use worker::play_in_worker;
 use workers::play_in_threads;
 
@@ -103,18 +100,18 @@ fn play(rt: &(impl Files + Print + AllocGlobal + Threads), file: &str) -> io::Re
     match Tables::of_file(text) {
         Tables::Texts => {
             Ok(
-                play_all::<Texts<NonAtomic>, Texts<Atomic>>(rt, file, text)?
-                    && play_in_threads(rt, file, text)?,
+                play_all::<Table<NonAtomic>, Table<Atomic>>(rt, file, text)?
+                    && play_in_threads::<Table<Atomic>>(rt, file, text)?,
             )
         }
-        Tables::TextsOverThree => play_all::<Texts<Three>, Texts<Three>>(rt, file, text),
+        Tables::TextsOverThree => play_all::<Table<Three>, Table<Three>>(rt, file, text),
         Tables::Ropes => {
             Ok(
-                play_all::<Ropes<NonAtomic>, Ropes<Atomic>>(rt, file, text)?
-                    && play_ropes_in_threads(rt, file, text)?,
+                play_all::<RopeTable<NonAtomic>, RopeTable<Atomic>>(rt, file, text)?
+                    && play_in_threads::<RopeTable<Atomic>>(rt, file, text)?,
             )
         }
-        Tables::RopesOverThree => play_all::<Ropes<Three>, Ropes<Three>>(rt, file, text),
+        Tables::RopesOverThree => play_all::<RopeTable<Three>, RopeTable<Three>>(rt, file, text),
     }
 }
 
@@ -140,10 +137,10 @@ fn refuse(rt: &(impl Files + Print + AllocGlobal), file: &str, count: &str) -> i
     let text = text.as_str();
     make_requests(rt.alloc(), count.parse::<u32>().unwrap_or(0))?;
     let counts = match Tables::of_file(text) {
-        Tables::Texts => play_twice::<Texts<NonAtomic>, Texts<Atomic>>(rt, file, text)?,
-        Tables::TextsOverThree => play_twice::<Texts<Three>, Texts<Three>>(rt, file, text)?,
-        Tables::Ropes => play_twice::<Ropes<NonAtomic>, Ropes<Atomic>>(rt, file, text)?,
-        Tables::RopesOverThree => play_twice::<Ropes<Three>, Ropes<Three>>(rt, file, text)?,
+        Tables::Texts => play_twice::<Table<NonAtomic>, Table<Atomic>>(rt, file, text)?,
+        Tables::TextsOverThree => play_twice::<Table<Three>, Table<Three>>(rt, file, text)?,
+        Tables::Ropes => play_twice::<RopeTable<NonAtomic>, RopeTable<Atomic>>(rt, file, text)?,
+        Tables::RopesOverThree => play_twice::<RopeTable<Three>, RopeTable<Three>>(rt, file, text)?,
     };
     counts.print_refused(rt, file)?;
     Ok(counts.all_right())

@@ -1,12 +1,13 @@
 //! Sessions whose commands are carried out in one call. A line that is no command ends the call, and the next one
 //! begins after it.
 
-use crate::lined::Lined;
+use crate::lined::{Lined, Player};
 use crate::own::own_reply;
 use crate::place::{Place, Row, compare, wrong};
 use std::alloc::Global;
 use std::io;
 use tendril_block::Refusal;
+use tendril_lines::parse;
 
 const WAY: &str = "in one call";
 
@@ -34,18 +35,18 @@ fn play_session<T: Lined>(
     session: &str,
 ) -> io::Result<bool> {
     let mut right = true;
-    let mut table = T::empty(rt.alloc());
+    let mut player = Player::<T>::new(rt.alloc());
     let mut rows: Rows = Vec::new(rt.alloc());
     let mut commands: Vec<T::Command> = Vec::new(rt.alloc());
     for (index, line) in session.lines().enumerate() {
         if let Some(row) = Row::read(line) {
             if !add::<T>(rt.alloc(), index, row, &mut rows, &mut commands)? {
-                right = run_all(rt, &mut table, place, &mut rows, &mut commands)? && right;
-                right = play_own(rt, &mut table, place.down(index), row)? && right;
+                right = run_all(rt, &mut player, place, &mut rows, &mut commands)? && right;
+                right = play_own(rt, &mut player, place.down(index), row)? && right;
             }
         }
     }
-    Ok(run_all(rt, &mut table, place, &mut rows, &mut commands)? && right)
+    Ok(run_all(rt, &mut player, place, &mut rows, &mut commands)? && right)
 }
 
 /// Adds the command of a row, as often as it is played. Returns whether it has one.
@@ -57,7 +58,7 @@ pub fn add<'a, T: Lined>(
     commands: &mut Vec<T::Command>,
 ) -> io::Result<bool> {
     for _ in 0..row.times {
-        match T::read(alloc, row.line.as_bytes()).map_err(failed)? {
+        match parse::<T::Command>(alloc, row.line.as_bytes()).map_err(failed)? {
             Some(command) => commands.push(command)?,
             None => return Ok(false),
         }
@@ -73,13 +74,13 @@ pub fn failed(_refusal: Refusal) -> io::Error {
 
 fn play_own<T: Lined>(
     rt: &(impl Print + AllocGlobal),
-    table: &mut T,
+    player: &mut Player<T>,
     place: Place,
     row: Row,
 ) -> io::Result<bool> {
     let mut right = true;
     for _ in 0..row.times {
-        right = match own_reply(rt.alloc(), table, row.line).map_err(failed)? {
+        right = match own_reply(rt.alloc(), player, row.line).map_err(failed)? {
             Some(reply) => compare(rt, place, row, reply.as_str())?,
             None => compare(rt, place, row, "malformed")?,
         } && right;
@@ -90,12 +91,12 @@ fn play_own<T: Lined>(
 // Carries out the commands that were added, and clears the list.
 fn run_all<T: Lined>(
     rt: &(impl Print + AllocGlobal),
-    table: &mut T,
+    player: &mut Player<T>,
     place: Place,
     rows: &mut Rows,
     commands: &mut Vec<T::Command>,
 ) -> io::Result<bool> {
-    let replies = table.run(commands.as_slice()).map_err(failed)?;
+    let replies = player.run(commands.as_slice()).map_err(failed)?;
     let right = compare_all::<T>(rt, place, rows.as_slice(), replies.as_slice())?;
     rows.clear();
     commands.clear();

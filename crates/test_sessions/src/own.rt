@@ -12,27 +12,27 @@
 //! | `silent N` | reserves N slots; after that no command but `text` may allocate | `ok` |
 
 use crate::calls;
-use crate::lined::Lined;
+use crate::lined::{Lined, Player};
 use crate::slots::{equal_clones, filled, is_shared, text_of};
 use std::alloc::Global;
 use std::fmt::Write;
 use tendril_block::{Atomicity, Refusal};
-use tendril_lines::bytes;
+use tendril_lines::{bytes, parse};
 use tendril_run::{Slot, Table};
 use tendril_text::Tendril;
 
 /// The reply to a line of the player's own, None for another line.
 pub fn own_reply<T: Lined>(
     alloc: Global,
-    table: &mut T,
+    player: &mut Player<T>,
     line: &str,
 ) -> Result<Option<String>, Refusal> {
     let (verb, words) = line.split_once(' ').unwrap_or((line, ""));
     let reply = match verb {
-        "asked" => asked(alloc, table)?,
+        "asked" => asked(alloc, player)?,
         "line" => line_of::<T>(alloc, words)?,
-        "silent" => silent(alloc, table, words)?,
-        _ => return table.reply_by_texts(alloc, verb, words),
+        "silent" => silent(alloc, player, words)?,
+        _ => return player.table.reply_by_texts(alloc, verb, words),
     };
     Ok(Some(reply))
 }
@@ -110,9 +110,9 @@ fn write_run(reply: &mut String, index: usize, run: &[u8]) -> Result<(), Refusal
     written.map_err(|_| Refusal::Memory)
 }
 
-fn asked<T: Lined>(alloc: Global, table: &T) -> Result<String, Refusal> {
+fn asked<T: Lined>(alloc: Global, player: &Player<T>) -> Result<String, Refusal> {
     let mut reply = String::with_capacity(alloc, 10)?;
-    write!(reply, "{}", table.class().take_calls()).map_err(|_| Refusal::Memory)?;
+    write!(reply, "{}", player.class.take_calls()).map_err(|_| Refusal::Memory)?;
     Ok(reply)
 }
 
@@ -139,15 +139,15 @@ fn clones<A: Atomicity>(alloc: Global, table: &Table<A>, words: &str) -> Result<
 
 fn line_of<T: Lined>(alloc: Global, digits: &str) -> Result<String, Refusal> {
     let line = bytes(alloc, digits.as_bytes())?.ok_or(Refusal::Invalid)?;
-    let reply = match T::read(alloc, line.as_slice())? {
+    let reply = match parse::<T::Command>(alloc, line.as_slice())? {
         Some(_) => "a command",
         None => "malformed",
     };
     Ok(String::from_str(alloc, reply)?)
 }
 
-fn silent<T: Lined>(alloc: Global, table: &mut T, word: &str) -> Result<String, Refusal> {
+fn silent<T: Lined>(alloc: Global, player: &mut Player<T>, word: &str) -> Result<String, Refusal> {
     let reply = String::from_str(alloc, "ok")?;
-    table.silence(number(word)? as usize)?;
+    player.silence(number(word)? as usize)?;
     Ok(reply)
 }

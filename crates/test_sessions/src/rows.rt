@@ -1,12 +1,13 @@
 //! Sessions row by row. A row that gets no memory must leave the table as it was, and is played again.
 
-use crate::lined::Lined;
+use crate::lined::{Lined, Player};
 use crate::notes::Notes;
 use crate::own::own_reply;
 use crate::place::{Counts, Place, Row, compare, wrong};
 use std::alloc::Global;
 use std::{io, slice};
 use tendril_block::Refusal;
+use tendril_lines::parse;
 
 const WAY: &str = "row by row";
 
@@ -60,12 +61,20 @@ fn play_session<T: Lined>(
     notes: &mut Notes,
     counts: &mut Counts,
 ) -> io::Result<()> {
-    let mut table = T::empty(rt.alloc());
-    notes.add(&table)?;
+    let mut player = Player::<T>::new(rt.alloc());
+    notes.add(&player.table)?;
     for (index, line) in session.lines().enumerate() {
         if !line.starts_with('#') {
             counts.add_row();
-            if !play_row(rt, &mut table, place.down(index), line, call, notes, counts)? {
+            if !play_row(
+                rt,
+                &mut player,
+                place.down(index),
+                line,
+                call,
+                notes,
+                counts,
+            )? {
                 counts.add_wrong();
             }
         }
@@ -77,7 +86,7 @@ fn play_session<T: Lined>(
 // Plays one row, as often as it says. Returns whether all is as expected.
 fn play_row<T: Lined>(
     rt: &(impl Print + AllocGlobal),
-    table: &mut T,
+    player: &mut Player<T>,
     place: Place,
     line: &str,
     call: Call,
@@ -88,10 +97,10 @@ fn play_row<T: Lined>(
         return wrong(rt, place, line, "no reply");
     };
     for _ in 0..row.times {
-        if !play_once(rt, table, place, row, call, notes, counts)? {
+        if !play_once(rt, player, place, row, call, notes, counts)? {
             return Ok(false);
         }
-        if !notes.add(table)? {
+        if !notes.add(&player.table)? {
             return wrong(
                 rt,
                 place,
@@ -105,19 +114,19 @@ fn play_row<T: Lined>(
 
 fn play_once<T: Lined>(
     rt: &(impl Print + AllocGlobal),
-    table: &mut T,
+    player: &mut Player<T>,
     place: Place,
     row: Row,
     call: Call,
     notes: &mut Notes,
     counts: &mut Counts,
 ) -> io::Result<bool> {
-    match reply_to(rt.alloc(), table, row.line, call, counts) {
+    match reply_to(rt.alloc(), player, row.line, call, counts) {
         Ok(reply) => return compare(rt, place, row, reply.as_str()),
         Err(Unplayed::NoMemory) => counts.add_refused(),
         Err(why) => return wrong(rt, place, row.line, why.words()),
     }
-    if !notes.is_last(table)? {
+    if !notes.is_last(&player.table)? {
         return wrong(
             rt,
             place,
@@ -125,7 +134,7 @@ fn play_once<T: Lined>(
             "it got no memory, and the table has changed",
         );
     }
-    match reply_to(rt.alloc(), table, row.line, call, counts) {
+    match reply_to(rt.alloc(), player, row.line, call, counts) {
         Ok(reply) => compare(rt, place, row, reply.as_str()),
         Err(why) => wrong(rt, place, row.line, why.words()),
     }
@@ -161,21 +170,21 @@ fn why_unplayed(refusal: Refusal) -> Unplayed {
 // The reply to a line. If the reply's text gets no memory, it is printed again.
 fn reply_to<T: Lined>(
     alloc: Global,
-    table: &mut T,
+    player: &mut Player<T>,
     line: &str,
     call: Call,
     counts: &mut Counts,
 ) -> Result<String, Unplayed> {
-    let Some(command) = T::read(alloc, line.as_bytes()).map_err(why_unplayed)? else {
-        return reply_to_other(alloc, table, line);
+    let Some(command) = parse::<T::Command>(alloc, line.as_bytes()).map_err(why_unplayed)? else {
+        return reply_to_other(alloc, player, line);
     };
     let mut commands = Vec::new(alloc);
     if commands.push(command).is_err() {
         return Err(Unplayed::NoMemory);
     }
-    let reply = match carry_out(table, commands.as_slice(), call) {
+    let reply = match carry_out(player, commands.as_slice(), call) {
         Ok(reply) => reply,
-        Err(_) if table.is_silent() && !line.starts_with("text ") => {
+        Err(_) if player.is_silent() && !line.starts_with("text ") => {
             return Err(Unplayed::Allocated);
         }
         Err(refusal) => return Err(why_unplayed(refusal)),
@@ -191,14 +200,14 @@ fn reply_to<T: Lined>(
 
 // The reply to one command. A reply that it got no memory is returned as the error Memory.
 fn carry_out<T: Lined>(
-    table: &mut T,
+    player: &mut Player<T>,
     commands: &[T::Command],
     call: Call,
 ) -> Result<T::Reply, Refusal> {
     let reply = match (call, commands) {
-        (Call::Step, [command]) => table.step(command)?,
-        (Call::Run, [command]) if table.is_silent() => table.step(command)?,
-        _ => table.run(commands)?.pop().ok_or(Refusal::Invalid)?,
+        (Call::Step, [command]) => player.step(command)?,
+        (Call::Run, [command]) if player.is_silent() => player.step(command)?,
+        _ => player.run(commands)?.pop().ok_or(Refusal::Invalid)?,
     };
     if T::got_no_memory(&reply) {
         return Err(Refusal::Memory);
@@ -207,8 +216,12 @@ fn carry_out<T: Lined>(
 }
 
 // The reply to a line that is no command.
-fn reply_to_other<T: Lined>(alloc: Global, table: &mut T, line: &str) -> Result<String, Unplayed> {
-    match own_reply(alloc, table, line).map_err(why_unplayed)? {
+fn reply_to_other<T: Lined>(
+    alloc: Global,
+    player: &mut Player<T>,
+    line: &str,
+) -> Result<String, Unplayed> {
+    match own_reply(alloc, player, line).map_err(why_unplayed)? {
         Some(text) => Ok(text),
         None => String::from_str(alloc, "malformed").map_err(|_| Unplayed::NoMemory),
     }

@@ -5,7 +5,6 @@ use crate::lined::Lined;
 use crate::once::{Rows, add, compare_all, failed};
 use crate::place::{Place, Row, wrong};
 use crate::slots::write_slots;
-use crate::texts::Texts;
 use std::alloc::Global;
 use std::fs::Files;
 use std::sync::Arc;
@@ -94,11 +93,11 @@ fn add_row<'a>(
     rows: &mut Rows<'a>,
 ) -> io::Result<()> {
     if job.table.len() > 0 {
-        add::<Texts<Atomic>>(alloc, index, row, rows, &mut job.commands)?;
+        add::<Table<Atomic>>(alloc, index, row, rows, &mut job.commands)?;
         return Ok(());
     }
     let mut commands = Vec::new(alloc);
-    add::<Texts<Atomic>>(alloc, index, row, rows, &mut commands)?;
+    add::<Table<Atomic>>(alloc, index, row, rows, &mut commands)?;
     rows.clear();
     match run(&mut job.table, commands.as_slice(), &job.class) {
         Ok(_) if job.table.len() == 1 => Ok(()),
@@ -181,7 +180,7 @@ fn done(
     let refused = replies.iter().position(got_no_memory);
     let count = refused.unwrap_or(replies.len());
     let right = replies.len() == rows.len()
-        && compare_all::<Texts<Atomic>>(
+        && compare_all::<Table<Atomic>>(
             rt,
             place,
             rows.get(..count).unwrap_or(&[]),
@@ -195,5 +194,5 @@ fn done(
 }
 
 fn got_no_memory(reply: &Reply) -> bool {
-    Texts::<Atomic>::got_no_memory(reply)
+    Table::<Atomic>::got_no_memory(reply)
 }

@@ -1,6 +1,5 @@
 use Rattle.std.proofs.Common.{◌≡◌, [], ap₂}
-use Rattle.rope_run.specs.RopeCells.{Cells}
-use Rattle.rope_cli.specs.RopeSessions.{no_cells}
+use Rattle.rope_run.specs.RopeCells.{Cells, no_cells}
 
 -- a table without slots and ropes
 pub none_of_both : (cells : Cells) → cells.slots ≡ [] → cells.ropes ≡ [] → cells ≡ no_cells

@@ -8,7 +8,7 @@ use Rattle.tendril_transcode.proofs.DecodingEnds.{all_decoded}
 use Rattle.tendril_transcode.specs.Transcodings.{BeginsStream, TranscodeStops, Transcoded, most_reads}
 use Rattle.tendril_cli.specs.Decodings.{DecodingHalts}
 use Rattle.tendril_cli.proofs.Utf8Texts.{decode_stops, decodes_all}
-use Rattle.tendril_cli.proofs.program.TextLinesProgram.serve.Goals as goal
+use Rattle.tendril_cli.proofs.program.TextsProgram.serve.Goals as goal
 
 pub transcode-requires : goal.transcode-requires
 transcode-requires g c = record {
