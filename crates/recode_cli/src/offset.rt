@@ -34,8 +34,8 @@ impl TendrilSink<StrTendril> for Faults {
     }
 }
 
-/// Returns the largest number of leading bytes of the piece after which a decoder that began it with `kept` keeps nothing,
-/// before the first malformed sequence. None: there is no such number.
+/// Returns the largest number of leading bytes of the piece after which a decoder that began it with `kept` keeps
+/// nothing, before the first malformed sequence. None: there is no such number.
 pub fn last_settled(alloc: Global, mut kept: Kept, piece: &[u8]) -> Result<Option<usize>, Refusal>
     ensures { IfOk result (λ last. IfSome last (λ count. count ≤ length piece.now)) }
 {

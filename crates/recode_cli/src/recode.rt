@@ -24,7 +24,8 @@ pub struct Recoding {
     pub strict: bool,
 }
 
-/// Decodes the input and writes UTF-8, and returns the program's status: 0, or 1 after an error, which is printed to `err`.
+/// Decodes the input and writes UTF-8, and returns the program's status: 0, or 1 after an error, which is printed to
+/// `err`.
 pub fn recode<R: Read, W: Write, E: Write>(
     alloc: Global,
     how: Recoding,

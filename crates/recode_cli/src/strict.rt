@@ -54,8 +54,8 @@ struct StrictDecoder {
     front: Front,
     // How many bytes came in the pieces so far.
     read: u64,
-    // After the first `settled` of them the decoder last kept nothing: the next character, or malformed sequence, begins
-    // there.
+    // After the first `settled` of them the decoder last kept nothing: the next character, or malformed sequence,
+    // begins there.
     settled: u64,
 }
 
@@ -73,8 +73,8 @@ impl StrictDecoder {
         }
     }
 
-    // Notes the last place of a piece after which nothing was kept. `before` is what was kept before the piece, which is
-    // decoded already.
+    // Notes the last place of a piece after which nothing was kept. `before` is what was kept before the piece, which
+    // is decoded already.
     fn settle(&mut self, before: Kept, piece: &[u8]) -> Result<(), Refusal> {
         let last = if self.front.ended {
             last_settled(self.alloc, before, piece)?

@@ -2,7 +2,8 @@
 ghost use Rattle.std.specs.Prelude.{◌≡◌, IfErr, OnOk};
 ghost use Rattle.rope_run.specs.RopeCells.{IsRopeCell, gone as gone_cell, rope as rope_cell};
 ghost use Rattle.rope_run.specs.RopeOf.{rope_cell_of};
-ghost use Rattle.rope_run.specs.RopeRows.{append_rule, rope_push_rule, rope_pop_rule, rope_drop_rule, rope_char, share_rule};
+ghost use Rattle.rope_run.specs.RopeRows.{append_rule, rope_push_rule, rope_pop_rule, rope_drop_rule, rope_char};
+ghost use Rattle.rope_run.specs.RopeRows.{share_rule};
 ghost use Rattle.tendril_run.specs.Cells.{cell_of};
 ghost use Rattle.rope_run.specs.RopeRules.{Answered, Changed};
 ghost use Rattle.tendril_run.specs.Rules.{Changes};

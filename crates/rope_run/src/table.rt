@@ -36,7 +36,11 @@ impl<A: Atomicity> Model for RopeTable<A> {
 
     ghost Value = { RopeBoard };
 
-    ghost view = { λ t. record { cells = record { slots = t.table.cells; ropes = map rope_cell_of t.ropes.items }; slot_room = t.table.room; rope_room = vec_capacity t.ropes - vec_len t.ropes } };
+    ghost view = { λ t. record {
+      cells = record { slots = t.table.cells; ropes = map rope_cell_of t.ropes.items };
+      slot_room = t.table.room;
+      rope_room = vec_capacity t.ropes - vec_len t.ropes;
+    } };
 
     ghost invariant = { λ t. All IsRopeCell (map rope_cell_of t.ropes.items) };
 }
@@ -174,7 +178,8 @@ impl<A: Atomicity> RopeTable<A> {
 
     // A slice of a rope, which shares its pieces.
     fn part(&self, rope: usize, offset: u64, count: u64) -> Result<Rope<A>, Refusal>
-        ensures { GivesBy (rope_part_rule offset count (rope_at self.now.cells.ropes rope)) (λ r. rope_cell r.bytes) result }
+        ensures { GivesBy (rope_part_rule offset count (rope_at self.now.cells.ropes rope))
+            (λ r. rope_cell r.bytes) result }
     {
         match self.rope(rope) {
             Some(rope) => rope.sub_rope(offset, count),
@@ -184,7 +189,8 @@ impl<A: Atomicity> RopeTable<A> {
 
     // A copy of a rope's bytes, as one text.
     fn whole(&self, rope: usize) -> Result<Tendril<UTF8, A>, Refusal>
-        ensures { GivesBy (rope_take_rule (rope_at self.now.cells.ropes rope)) (λ t. text_cell kind.Utf8 t.bytes) result }
+        ensures { GivesBy (rope_take_rule (rope_at self.now.cells.ropes rope))
+            (λ t. text_cell kind.Utf8 t.bytes) result }
     {
         match self.rope(rope) {
             Some(rope) => rope.to_tendril(),
@@ -210,7 +216,8 @@ impl<A: Atomicity> RopeTable<A> {
     }
 
     fn push(&mut self, rope: usize, slot: usize) -> RopeReply
-        ensures step { (class : _) → RopeStep class self.old.cells (RopeCommand.RopePush rope slot) result self.new.cells }
+        ensures step { (class : _) → RopeStep class self.old.cells
+            (RopeCommand.RopePush rope slot) result self.new.cells }
         ensures slots { self.old.slot_room ≡ self.new.slot_room }
         ensures ropes { self.old.rope_room ≡ self.new.rope_room }
     {
@@ -225,7 +232,8 @@ impl<A: Atomicity> RopeTable<A> {
 
     // Appends a clone of the second rope, so that a rope may be appended to itself.
     fn append(&mut self, to: usize, from: usize) -> RopeReply
-        ensures step { (class : _) → RopeStep class self.old.cells (RopeCommand.RopeAppend to from) result self.new.cells }
+        ensures step { (class : _) → RopeStep class self.old.cells
+            (RopeCommand.RopeAppend to from) result self.new.cells }
         ensures slots { self.old.slot_room ≡ self.new.slot_room }
         ensures ropes { self.old.rope_room ≡ self.new.rope_room }
     {
@@ -239,7 +247,8 @@ impl<A: Atomicity> RopeTable<A> {
     }
 
     fn pop_char(&mut self, rope: usize) -> RopeReply
-        ensures step { (class : _) → RopeStep class self.old.cells (RopeCommand.RopePopChar rope) result self.new.cells }
+        ensures step { (class : _) → RopeStep class self.old.cells
+            (RopeCommand.RopePopChar rope) result self.new.cells }
         ensures slots { self.old.slot_room ≡ self.new.slot_room }
         ensures ropes { self.old.rope_room ≡ self.new.rope_room }
     {

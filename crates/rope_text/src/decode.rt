@@ -1,5 +1,6 @@
 //! Decoding of streams into ropes.
-ghost use Rattle.std.specs.Prelude.{◌≡◌, ◌≤◌, ◌⊎◌, List, [], None, Some, false, flat_map, length, chars, All, IfOk, IfErr};
+ghost use Rattle.std.specs.Prelude.{◌≡◌, ◌≤◌, ◌⊎◌, List, [], None, Some, false, flat_map, length, chars, All, IfOk};
+ghost use Rattle.std.specs.Prelude.{IfErr};
 ghost use Rattle.std.specs.Io.KnownBytes.{IsAtEnd};
 ghost use Rattle.std.specs.Iterator.{IsFiniteIterable, YieldsThen};
 ghost use Rattle.rope_text.specs.Sink.{HasCharacters};
@@ -67,12 +68,14 @@ pub fn read_rope<A: Atomicity, R: CountedRead>(
     reader: &mut R,
     max_reads: u64,
 ) -> Result<Rope<A>, Stopped<Utf8LossyDecoder<Rope<A>, A>>>
-    ensures ok { IfOk result (λ rope. (these : List OneRead) × MakesReads R.history R.remaining reader.old these reader.new
+    ensures ok { IfOk result (λ rope. (these : List OneRead)
+        × MakesReads R.history R.remaining reader.old these reader.new
         × IsAtEnd (R.remaining reader.new) × (chars rope.bytes ≡ characters (due (given these)))
         × StopsWith CameToEnd these × (length these ≤ max_reads)
         × ((pieces : List Text) × AreReadPieces these pieces
         × All (λ t. IsSentOfOne utf8 pieces (Piece t)) rope.pieces)) }
-    ensures stopped { IfErr result (λ s. (these : List OneRead) × MakesReads R.history R.remaining reader.old these reader.new
+    ensures stopped { IfErr result (λ s. (these : List OneRead)
+        × MakesReads R.history R.remaining reader.old these reader.new
         × (IsOfReading s.refusal → StopsBetween max_reads these s.refusal
         × ((d : _) × (s.sink ≡ Some d) × (d.failed ≡ false)
         × StandsAt utf8 HasCharacters d.inner_sink d.kept (given these)))

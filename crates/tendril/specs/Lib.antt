@@ -19,6 +19,7 @@ pub use Rattle.tendril_text.specs.Iterators
 pub use Rattle.tendril_stream.specs.Sinks
 pub use Rattle.tendril_stream.specs.SentBytes
 pub use Rattle.tendril_stream.specs.Events
+pub use Rattle.tendril_stream.specs.declared.accumulate.Event
 pub use Rattle.tendril_stream.specs.Decodings
 pub use Rattle.tendril_stream.specs.Utf8Laws
 pub use Rattle.tendril_stream.specs.Decoders

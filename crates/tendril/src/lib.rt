@@ -1,5 +1,5 @@
-//! Compact shared text: up to 8 bytes are stored inline, longer text is shared with its clones and slices and copied only
-//! when one of them is changed.
+//! Compact shared text: up to 8 bytes are stored inline, longer text is shared with its clones and slices and copied
+//! only when one of them is changed.
 //!
 //! This crate has a macro and no function of its own. It re-exports the texts of `tendril_text`, the streams of
 //! `tendril_stream` and the crates below them under the names of the Rust crate.

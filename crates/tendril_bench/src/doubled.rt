@@ -39,7 +39,8 @@ impl Format for Doubled {
 impl CharFormat for Doubled {
     ghost use Rattle.std.specs.Prelude.{◌<◌, refl};
     ghost use Rattle.std.proofs.Common.{lit≤};
-    ghost use Rattle.tendril_bench.specs.Doubled.{twice, firsts, firsts-spell, All-doubled, AreTextsOf-doubled, IsDoubled-twice};
+    ghost use Rattle.tendril_bench.specs.Doubled.{twice, firsts, firsts-spell, All-doubled, AreTextsOf-doubled};
+    ghost use Rattle.tendril_bench.specs.Doubled.{IsDoubled-twice};
 
     ghost chars = { firsts };
 

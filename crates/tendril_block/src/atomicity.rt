@@ -1,5 +1,6 @@
 //! The trait of all kinds of blocks, however their references are counted.
-ghost use Rattle.std.specs.Prelude.{◌≡◌, ℕ, ◌+◌, ◌-◌, ◌≤◌, ◌++◌, List, length, take, drop, true, false, IfOk, IfErr, IfSome, ◌⊎◌};
+ghost use Rattle.std.specs.Prelude.{◌≡◌, ℕ, ◌+◌, ◌-◌, ◌≤◌, ◌++◌, List, length, take, drop, true, false, IfOk, IfErr};
+ghost use Rattle.std.specs.Prelude.{IfSome, ◌⊎◌};
 ghost use Rattle.std.specs.Borrow.{LendsSo, LendsSoOk, sem};
 ghost use Rattle.tendril_block.specs.contracts.body.Body.{the_row as body_row};
 ghost use Rattle.tendril_block.specs.Tail.{tail_bytes};

@@ -1,5 +1,6 @@
 //! The bytes of a block, which its only reference may change.
-ghost use Rattle.std.specs.Prelude.{◌≡◌, ◌+◌, ◌<◌, ◌≤◌, ◌++◌, [], length, take, drop, replicate, slice_set, true, false, IfOk, IfErr, OnOk, OnErr};
+ghost use Rattle.std.specs.Prelude.{◌≡◌, ◌+◌, ◌<◌, ◌≤◌, ◌++◌, [], length, take, drop, replicate, slice_set, true};
+ghost use Rattle.std.specs.Prelude.{false, IfOk, IfErr, OnOk, OnErr};
 ghost use Rattle.tendril_block.specs.Tail.{tail_bytes};
 
 use crate::copied::Copied;

@@ -5,10 +5,10 @@
 
 pub(crate) mod any_thread;
 pub(crate) mod handle;
+pub(crate) mod one_thread;
+pub(crate) mod raw_box;
 pub(crate) mod threading;
 pub(crate) mod unfreed_node;
-pub(crate) mod raw_box;
-pub(crate) mod one_thread;
 
 ghost use Rattle.std.specs.Prelude.{◌≡◌, length, IfOk, IfErr};
 

@@ -1,5 +1,6 @@
 //! Where the bytes of a block are stored: few in the counted node itself, more in a vector.
-ghost use Rattle.std.specs.Prelude.{◌≡◌, ◌+◌, ◌≤◌, ◌++◌, length, take, drop, min, true, false, IfOk, IfErr, OnOk, OnErr, vec_len, vec_capacity};
+ghost use Rattle.std.specs.Prelude.{◌≡◌, ◌+◌, ◌≤◌, ◌++◌, length, take, drop, min, true, false, IfOk, IfErr, OnOk};
+ghost use Rattle.std.specs.Prelude.{OnErr, vec_len, vec_capacity};
 ghost use Rattle.tendril_block.specs.Tail.{tail_bytes, tail_room};
 ghost use Rattle.tendril_block.specs.Stored.{stored_bytes, HasRoom};
 
@@ -138,8 +139,8 @@ impl Stored {
         }
     }
 
-    /// Moves the `len` bytes from `start` on to the front and drops the others, if they don't overlap the place that they
-    /// are moved to and the capacity is at least `room`; returns whether it did.
+    /// Moves the `len` bytes from `start` on to the front and drops the others, if they don't overlap the place that
+    /// they are moved to and the capacity is at least `room`; returns whether it did.
     pub(crate) fn keep_part(&mut self, start: usize, len: usize, room: usize) -> bool
         requires { start + len ≤ length (stored_bytes self.old) }
         ensures bytes { result ≡ true → stored_bytes self.new ≡ take len (drop start (stored_bytes self.old)) }

@@ -124,7 +124,8 @@ pub fn program<R: Read, W: Write, E: Write>(
     // `decode`, a prefix of the decoding.
     ensures refused { AskToRun (map (λ word. word.now) words.now) → result ≡ 1 → Ended (R.remaining input.old)
         (W.contents out.old) (W.contents out.new) (E.contents err.old) (E.contents err.new) }
-    ensures stopped { AskToDecode (map (λ word. word.now) words.now) → result ≡ 1 → DecodingEnded most_reads (R.remaining input.old)
+    ensures stopped { AskToDecode (map (λ word. word.now) words.now) → result ≡ 1
+        → DecodingEnded most_reads (R.remaining input.old)
         (W.contents out.old) (W.contents out.new) (E.contents err.old) (E.contents err.new) }
 
     // Or the words ask for nothing.

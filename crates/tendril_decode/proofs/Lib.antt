@@ -6,11 +6,8 @@ pub mod ByteSteps
 pub mod Lengths
 pub mod SingleSteps
 pub mod Lanes
-pub mod Written
 pub mod ReplacementSteps
-pub mod Utf16Lanes
 pub mod Utf16Runs
-pub mod Utf16Shuffles
 pub mod Utf16Steps
 pub mod Entries
 pub mod PackedSteps

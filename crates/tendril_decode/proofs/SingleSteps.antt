@@ -11,7 +11,7 @@ use Rattle.tendril_decode.specs.declared.single_byte.SingleByte.{SingleByte}
 use Rattle.tendril_decode.specs.Single.{DecodesIn, single_byte, table_of, tells_byte}
 use Rattle.tendril_decode.proofs.CharacterSteps.{ascii_done}
 use Rattle.tendril_decode.proofs.Lanes.{ascii_front, front_of}
-use Rattle.tendril_decode.proofs.Written.{front_written}
+use Rattle.tendril_fmt.proofs.Written.{front_written}
 
 ascii_told : (table : List ℕ) (b : ℕ) → b < 0x80 → tells_byte table b ≡ Char b ∷ []
 ascii_told table b h = let low : nat_lt b 0x80 ≡ true = grind (arith, nat_tests) in cond-true _ _ _ low

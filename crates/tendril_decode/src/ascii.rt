@@ -1,12 +1,9 @@
 //! Blocks of bytes that are read and written at once.
 ghost use Rattle.std.specs.Prelude.{◌≡◌, ◌+◌, ◌-◌, ◌<◌, ◌≤◌, ◌++◌, ℕ, length, take, slice_index, slice_range, true};
 ghost use Rattle.std.specs.List.{AllByRecursion};
-ghost use Rattle.tendril_decode.specs.Utf16Runs.{first_set};
 
 use std::simd::prelude::*;
-
-// The number of bytes of a block.
-pub(crate) const BLOCK: usize = 16;
+use tendril_fmt::blocks::{BLOCK, first_set, is_ascii};
 
 // The block at an offset.
 #[inline(always)]
@@ -15,14 +12,6 @@ pub(crate) fn block_at(bytes: &[u8], at: usize) -> u8x16
     ensures { result ≡ slice_range bytes.now at (at + BLOCK) }
 {
     u8x16::from_slice(&bytes[at..])
-}
-
-// Whether the bytes of a block are all ASCII.
-#[inline(always)]
-pub(crate) fn is_ascii(block: u8x16) -> bool
-    ensures { result ≡ true → AllByRecursion (λ b. b < 0x80) block }
-{
-    block.simd_ge(u8x16::splat(0x80)).to_bitmask() == 0
 }
 
 // Writes a block at an offset, and returns the offset after it.
@@ -49,18 +38,6 @@ pub(crate) fn leading_ascii(block: u8x16) -> usize
     ensures ascii { (k : ℕ) → k < result → slice_index block k < 0x80 }
 {
     first_set(block.simd_ge(u8x16::splat(0x80)).to_bitmask())
-}
-
-// The place of the lowest bit that is set, or `BLOCK` if none is.
-#[inline(always)]
-pub(crate) fn first_set(mask: u64) -> usize
-    ensures { result ≡ first_set BLOCK mask }
-{
-    if mask == 0 {
-        BLOCK
-    } else {
-        mask.trailing_zeros() as usize
-    }
 }
 
 // Copies the ASCII byte at an offset to another offset, or the block there if all its bytes are ASCII. Returns how many

@@ -22,8 +22,8 @@ pub trait Decode: Drop {
     fn is_complete(&self) -> bool
         ensures { result ≡ tells_nothing ((machine).ends self.now) };
 
-    /// Decodes the end of the stream up to its first malformed sequence, and writes the UTF-8 of what is before that. After
-    /// a malformed sequence, the end is still to be decoded.
+    /// Decodes the end of the stream up to its first malformed sequence, and writes the UTF-8 of what is before that.
+    /// After a malformed sequence, the end is still to be decoded.
     fn end(&mut self, out: &mut [u8]) -> Part
         requires fits { fits self.old ≡ true }
         requires room { 4 ≤ length out.old }
@@ -38,7 +38,8 @@ pub trait Decode: Drop {
         ensures fits { fits self.new ≡ true }
         ensures read { result.read ≤ length input.now }
         ensures written { result.written ≤ length out.new }
-        ensures decodes { DecodesTo machine self.old input.now (take result.written out.new) (broken_marks result.broken)
+        ensures decodes { DecodesTo machine self.old input.now (take result.written out.new)
+            (broken_marks result.broken)
             self.new (drop result.read input.now) }
         ensures less { 0 < length input.now → (0 < result.read) ⊎ (weight self.new < weight self.old) };
 }

@@ -13,7 +13,6 @@ mod indexes;
 mod iso_2022_jp;
 mod packed;
 mod part;
-mod put;
 mod replacement;
 #[cfg(test)]
 mod sequences;

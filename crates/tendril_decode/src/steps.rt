@@ -34,8 +34,8 @@ pub trait Steps: Drop {
     /// The states that occur.
     ghost fits: { Self → Bool };
 
-    /// How many steps may be made in a state without reading a byte, and how many bytes may be written there beyond three
-    /// for each byte that is read: at most 4.
+    /// How many steps may be made in a state without reading a byte, and how many bytes may be written there beyond
+    /// three for each byte that is read: at most 4.
     ghost weight: { Self → ℕ };
 
     ghost few: { (s : Self) → weight s ≤ 4 };

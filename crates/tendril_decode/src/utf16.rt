@@ -6,14 +6,14 @@ ghost use Rattle.tendril_decode.specs.declared.utf16.Utf16.{Utf16};
 ghost use Rattle.tendril_decode.specs.Machines.{DecodesTo, broken_marks};
 ghost use Rattle.tendril_decode.specs.Utf16.{unit_of, utf16};
 
-mod runs;
+mod blocks;
 #[cfg(test)]
 mod tests;
 
 use crate::decode::Decode;
 use crate::part::Part;
 use crate::steps::{Step, Steps, decode_steps};
-use runs::decode_run;
+use blocks::decode_block;
 use tendril_fmt::fmt::put_code_point;
 
 /// The state between two slices of UTF-16. `BIG` says whether the high byte of a unit comes first.
@@ -152,7 +152,7 @@ fn decode_units(big: bool, input: &[u8], out: &mut [u8], from: usize, start: usi
                 broken: true,
             };
         } else {
-            let run = decode_run(big, unit, &input[read..], out, at);
+            let run = decode_block(big, &input[read..], out, at);
             if run.count == 0 {
                 at = put_code_point(out, run.end, unit as u32);
                 read += 2;

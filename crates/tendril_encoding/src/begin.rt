@@ -32,7 +32,8 @@ pub(crate) fn begin<S: TendrilSink<Tendril<UTF8, A>>, A: Atomicity>(
     requires buffer { length buffer.old.items ≤ MAX_LEN }
     ensures fits { FitsKnown known.new.chosen }
     ensures buffer { length buffer.new.items ≤ MAX_LEN }
-    ensures ok { IfOk result (λ left. Begins S.takes sink.old known.old sniffing piece.old left sink.new known.new piece.new) }
+    ensures ok { IfOk result (λ left. Begins S.takes sink.old known.old sniffing piece.old left sink.new known.new
+        piece.new) }
     ensures err { IfErr result (λ r. NewStops S.takes S.refuses sink.old
         (out_sniff sniffing.marks known.old sniffing.seen piece.old.bytes) r sink.new) }
     ensures ascii { sniffing.seen ≡ Seen.Nothing → IsAscii piece.old.bytes → IsOk result }
@@ -71,7 +72,8 @@ pub(crate) fn decode_seen<S: TendrilSink<Tendril<UTF8, A>>, A: Atomicity>(
     ensures ok { OnOk result (FeedsNew S.takes sink.old (out_known chosen.old (seen_bytes seen)) sink.new
         × (chosen.new ≡ after_known chosen.old (seen_bytes seen))) }
     ensures nothing { seen ≡ Seen.Nothing → IsOk result }
-    ensures err { IfErr result (λ r. NewStops S.takes S.refuses sink.old (out_known chosen.old (seen_bytes seen)) r sink.new) }
+    ensures err { IfErr result (λ r. NewStops S.takes S.refuses sink.old
+        (out_known chosen.old (seen_bytes seen)) r sink.new) }
 {
     if let Seen::Nothing = seen {
         return Ok(());

@@ -30,8 +30,8 @@ pub struct State {
 #[derive(Drop)]
 pub struct Kept {
     state: State,
-    // Slices are decoded to it, and their texts copied from it to blocks of their size: decoded in place, each text would
-    // keep a block of three bytes for each byte of the slice.
+    // Slices are decoded to it, and their texts copied from it to blocks of their size: decoded in place, each text
+    // would keep a block of three bytes for each byte of the slice.
     buffer: Vec<u8>,
 }
 
@@ -73,8 +73,8 @@ impl Kept {
         }
     }
 
-    /// Returns what `LossyDecoder::new_encoding` keeps at the start of a stream: a byte order mark decides the encoding,
-    /// but for UTF-8, whose own mark is kept. Allocates nothing.
+    /// Returns what `LossyDecoder::new_encoding` keeps at the start of a stream: a byte order mark decides the
+    /// encoding, but for UTF-8, whose own mark is kept. Allocates nothing.
     ///
     /// ```
     /// let kept = Kept::new_encoding(alloc, Encoding::KOI8_R);

@@ -2,7 +2,8 @@
 ghost use Rattle.std.specs.Prelude.{◌≡◌, ◌+◌, ◌*◌, ◌≤◌, true, false, ℕ, length, IsAscii, OnOk, IfErr};
 ghost use Rattle.tendril_block.specs.declared.atomicity.TheConstants.{MAX_LEN};
 ghost use Rattle.tendril_decode.specs.Any.{is_fit};
-ghost use Rattle.tendril_encoding.specs.Known.{EndsKnown, FeedsKnown, FitsKnown, StopsInKnown, StopsInEndKnown, after_known, keeps_nothing_known, passes_known, slices};
+ghost use Rattle.tendril_encoding.specs.Known.{EndsKnown, FeedsKnown, FitsKnown, StopsInKnown, StopsInEndKnown};
+ghost use Rattle.tendril_encoding.specs.Known.{after_known, keeps_nothing_known, passes_known, slices};
 ghost use Rattle.tendril_encoding.specs.Sends.{FeedsNew, NewStops};
 ghost use Rattle.tendril_decode.specs.Machines.{state_after, told_from};
 ghost use Rattle.tendril_encoding.specs.First.{after_mark, first_chosen};

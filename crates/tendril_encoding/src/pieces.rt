@@ -36,7 +36,8 @@ pub fn decode_pieces<A: Atomicity, I: IntoIterator<Item = Tendril<Bytes, A>>>(
     requires { IsFiniteIterable I.into_iter_gives I.IntoIter.can_next I.IntoIter.remaining pieces }
     ensures ok { IfOk result (λ events. (it : I.IntoIter) × (end : I.IntoIter) × (read : List Text)
         × I.into_iter_gives pieces it × YieldsThen I.IntoIter.next_gives it read None end
-        × (told (sent events.items) ≡ (decoding_from (start_encoding encoding)).decoded (flat_map (λ p. p.bytes) read))) }
+        × (told (sent events.items) ≡ (decoding_from (start_encoding encoding)).decoded
+        (flat_map (λ p. p.bytes) read))) }
     ensures refusal { IfErr result (λ r. PiecesStop (decoding_from (start_encoding encoding))
         I.into_iter_gives I.IntoIter.next_gives
         ⟦<Accumulate<A> as TendrilSink<Tendril<UTF8, A>>>⟧.takes

@@ -33,7 +33,8 @@ impl TendrilSink<StrTendril> for Whole {
 
     type Output = (StrTendril, bool);
 
-    ghost takes = { λ a e b. (b.text.bytes ≡ a.text.bytes ++ sent_bytes e) × (b.malformed ≡ (a.malformed || is_error e)) };
+    ghost takes = { λ a e b. (b.text.bytes ≡ a.text.bytes ++ sent_bytes e)
+        × (b.malformed ≡ (a.malformed || is_error e)) };
 
     ghost finishes = { λ a out. (out.0.bytes ≡ a.text.bytes) × (out.1 ≡ a.malformed) };
 

@@ -1,5 +1,5 @@
 -- Blocks of ASCII, tested and written by vectors.
-use Rattle.std.proofs.Common.{◌≡◌, ℕ, ◌+◌, ◌-◌, ◌*◌, ◌/◌, ◌%◌, ◌^◌, ◌<◌, ◌≤◌, Bool, true, false, cond, eqb, leb}
+use Rattle.std.proofs.Common.{◌≡◌, ℕ, ◌+◌, ◌-◌, ◌%◌, ◌^◌, ◌<◌, ◌≤◌, Bool, true, false, cond, eqb, leb}
 use Rattle.std.proofs.Common.{List, [], ◌∷◌, ◌++◌, length, take, drop, map, replicate, refl, sym, ap, ap₂, subst, ◌∙◌}
 use Rattle.std.proofs.Common.{arith, eqb-true, leb-false, Fits, w8}
 use Rattle.std.specs.List.{AllByRecursion}
@@ -23,7 +23,8 @@ none_high (x ∷ xs) e = (go (leb 128 x) refl (omega arith), none_high xs (omega
 
 -- the test that no lane is 128 or more
 pub all_ascii : (w : Width) (xs : List ℕ) → length xs ≡ 16
-    → eqb (mask_l (map (top (hbits w)) (zip2 (λ a b. cond (leb a b) (2 ^ bits w - 1) 0) (replicate 16 128) xs)) % 2 ^ 64) 0
+    → eqb
+    (mask_l (map (top (hbits w)) (zip2 (λ a b. cond (leb a b) (2 ^ bits w - 1) 0) (replicate 16 128) xs)) % 2 ^ 64) 0
     ≡ true
     → AllByRecursion (λ b. b < 128) xs
 all_ascii w xs long e =
@@ -40,11 +41,14 @@ fits (x ∷ xs) h = (record { fits = omega (arith, h.0) }, fits xs h.1)
 pub block_fits : (xs : List ℕ) → AllByRecursion (λ u. u < 128) xs → Each1 (Fits w8) (chunk 0 16 xs)
 block_fits xs h = Each1-chunk (Fits w8) 0 16 xs (fits xs h)
 
+pub block_whole : (block : List ℕ) → length block ≡ 16 → chunk 0 16 block ≡ block
+block_whole block long = take_all 16 block (omega arith)
+
 -- a block is written
 pub block_written : (old block : List ℕ) (at : ℕ) → length block ≡ 16 → at + 16 ≤ length old
     → take (at + 16) (put_chunk at old (chunk 0 16 block)) ≡ take at old ++ block
 block_written old block at long room =
-    let whole : chunk 0 16 block ≡ block = take_all 16 block (omega arith) in
+    let whole = block_whole block long in
     take_more_put_chunk at old (chunk 0 16 block) (at + 16) (omega (arith, long, ap length whole)) room
     ∙ ap (λ l. take at old ++ l) whole
 

@@ -6,6 +6,7 @@ pub mod Cuts
 pub mod Decodings
 pub mod FourBytes
 pub mod Fronts
+pub mod Lanes
 pub mod LocalTests
 pub mod Parts
 pub mod Rests
@@ -15,4 +16,6 @@ pub mod Splits
 pub mod Unique
 pub mod UnitCounts
 pub mod UnitSplits
+pub mod Words
+pub mod Written
 pub mod Wtf8Joins

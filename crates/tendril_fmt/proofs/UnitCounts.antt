@@ -1,12 +1,14 @@
 -- How many bytes units add after another unit, and how many units and bytes a code point has.
-use Rattle.std.proofs.Common.{◌≡◌, ℕ, ◌+◌, ◌<◌, ◌≤◌, true, if◌then◌else◌, List, [], ◌∷◌, ◌++◌, length, refl, ap, ◌∙◌}
-use Rattle.std.proofs.Common.{arith, ⊎_elim, length-append}
+use Rattle.std.proofs.Common.{◌≡◌, ℕ, ◌+◌, ◌<◌, ◌≤◌, true, false, ◌&&◌, if◌then◌else◌, List, [], ◌∷◌}
+use Rattle.std.proofs.Common.{◌++◌, length, refl, sym, ap, ◌∙◌}
+use Rattle.std.proofs.Common.{arith, ⊎_elim, append_assoc, length-append}
 use Rattle.std.specs.List.{AllByRecursion}
-use Rattle.std.specs.Char.{encode_utf8}
-use Rattle.std.specs.Str.{encode_utf8_all}
-use Rattle.std.specs.Char.Utf16.{surrogate_pair_char}
+use Rattle.std.specs.Char.{IsScalar, encode_utf8}
+use Rattle.std.specs.Str.{all_scalars, encode_utf8_all}
+use lib.Utf8.{scalar}
+use Rattle.std.specs.Char.Utf16.{is_high_surrogate, is_low_surrogate, surrogate_pair_char}
 use Rattle.std.specs.Char.Escape.{encode_utf16}
-use Rattle.std.proofs.lemmas.Bool.{cases_Bool, cases_lt, cond-true, cond-false}
+use Rattle.std.proofs.lemmas.Bool.{and_parts, cases_Bool, cases_lt, cond-true, cond-false}
 use Rattle.std.proofs.lemmas.Bool.Decides.{nat_tests}
 use Rattle.std.proofs.lemmas.Str.{length-encode, len_utf8_bounds}
 use Rattle.tendril_fmt.specs.Units.{bytes_behind}
@@ -99,3 +101,38 @@ wtf8-ascii (u ∷ front) rest h =
     alone : (us : List ℕ) → IsAlone u us
     alone [] = tt
     alone (v ∷ us) = grind (arith, nat_tests, low)
+
+not_high : (u : ℕ) → IsScalar u → is_high_surrogate u ≡ false
+not_high u e = grind (arith, nat_tests)
+
+-- the WTF-8 of characters is their UTF-8, whatever follows
+pub wtf8-scalars : (front rest : List ℕ) → all_scalars front ≡ true → wtf8 (front ++ rest)
+    ≡ encode_utf8_all front ++ wtf8 rest
+wtf8-scalars [] rest h = refl
+wtf8-scalars (u ∷ front) rest h =
+    let both = and_parts (scalar u) (all_scalars front) h in
+    wtf8-alone u (front ++ rest) (alone (not_high u both.0) (front ++ rest))
+    ∙ ap (λ l. encode_utf8 u ++ l) (wtf8-scalars front rest both.1)
+    ∙ sym (append_assoc (encode_utf8 u) (encode_utf8_all front) (wtf8 rest))
+  where
+    alone : is_high_surrogate u ≡ false → (us : List ℕ) → IsAlone u us
+    alone e [] = tt
+    alone e (v ∷ us) = ap (λ b. b && is_low_surrogate v) e
+
+-- a block of ASCII adds a byte for each of its units, whatever is before it
+pub bytes_behind-ascii : (last : ℕ) (all front rest : List ℕ) → AllByRecursion (λ u. u < 0x80) front
+    → length front ≡ 16 → all ≡ front ++ rest → bytes_behind last all ≡ 16 + bytes_behind 0 rest
+bytes_behind-ascii last all [] rest h long is = absurd (omega arith)
+bytes_behind-ascii last all (u ∷ front) rest h long is =
+    let low : u < 0x80 = h.0 in
+    let apart : pairs last u ≡ false = grind (arith, nat_tests) in
+    ap (bytes_behind last) is
+    ∙ omega (
+      arith,
+      length-alone last (u ∷ (front ++ rest)) apart,
+      length-one last,
+      ap length (wtf8-ascii (u ∷ front) rest h),
+      length-append (u ∷ front) (wtf8 rest),
+      bytes_behind-zero rest,
+      long,
+    )

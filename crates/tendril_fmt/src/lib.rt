@@ -5,5 +5,6 @@
 //! allocates. A call that accepts only valid bytes says so in `requires`.
 #![tactic(auto)]
 
+pub mod blocks;
 pub mod fmt;
 pub mod futf;

@@ -2,7 +2,8 @@
 ghost use Rattle.std.specs.Prelude.{◌≡◌, ◌↔◌, Some, IfOk, IfErr, IsSomeAnd};
 ghost use Rattle.tendril_lines.specs.Lines.{IsLine, words_of};
 ghost use Rattle.tendril_lines.specs.Shapes.{Spells, shape_of};
-ghost use Rattle.tendril_lines.specs.declared.shape.Value.TheVariants.{Byte, Bytes, Character, Format, Number, Slot, Units16};
+ghost use Rattle.tendril_lines.specs.declared.shape.Value.TheVariants.{Byte, Bytes, Character, Format, Number, Slot};
+ghost use Rattle.tendril_lines.specs.declared.shape.Value.TheVariants.{Units16};
 ghost use Rattle.tendril_lines.specs.declared.shape.Values.TheVariants.{One, Two, Three};
 
 use crate::byte_list::ByteList;

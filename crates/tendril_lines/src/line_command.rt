@@ -19,7 +19,8 @@ pub trait LineCommand: Sized + Drop {
 
     /// Returns the kinds of the words after a verb, if a command has the verb.
     fn shape(verb: &[u8]) -> Option<&'static [Word]>
-        ensures { (c : Self) → verb.now ≡ (spelling c).0 → IsSomeAnd result (λ shape. shape.now ≡ shape_of (spelling c).1) };
+        ensures { (c : Self) → verb.now ≡ (spelling c).0
+            → IsSomeAnd result (λ shape. shape.now ≡ shape_of (spelling c).1) };
 
     /// Returns the command of a verb and the values of the words after it, if there is one.
     fn from_values(verb: &[u8], values: Values) -> Option<Self>
@@ -31,7 +32,8 @@ pub trait LineCommand: Sized + Drop {
 /// The words of a line are separated by one space each. Allocates the list of words, once, and the bytes or units of
 /// the command. The only error is `Memory`.
 pub fn parse<C: LineCommand>(alloc: Global, line: &[u8]) -> Result<Option<C>, Refusal>
-    ensures found { IfOk result (λ found. (c : C) → (found ≡ Some c) ↔ AreVerbAndWords (C.spelling c) (words line.now)) }
+    ensures found { IfOk result (λ found. (c : C) → (found ≡ Some c)
+        ↔ AreVerbAndWords (C.spelling c) (words line.now)) }
     ensures refusal { IfErr result (λ r. r ≡ Refusal.Memory) }
 {
     let words = split_words(alloc, line)?;

@@ -1,5 +1,6 @@
 //! The search for broken sequences in a stream of UTF-8.
-ghost use Rattle.std.specs.Prelude.{◌≡◌, ℕ, ◌+◌, ◌<◌, ◌≤◌, ◌++◌, ◌&&◌, length, map, take, slice_index, chars, IsUtf8, IfSome, IfOk, IfErr, OnErr};
+ghost use Rattle.std.specs.Prelude.{◌≡◌, ℕ, ◌+◌, ◌<◌, ◌≤◌, ◌++◌, ◌&&◌, length, map, take, slice_index, chars, IsUtf8};
+ghost use Rattle.std.specs.Prelude.{IfSome, IfOk, IfErr, OnErr};
 ghost use Rattle.std.specs.Int.{is_in_range, from_le_bytes, w64};
 ghost use Rattle.std.specs.Str.{StartsWithNoChar};
 ghost use Rattle.std.specs.Str.Lossy.{second_byte_min, second_byte_max, utf8_error_len};
@@ -23,7 +24,8 @@ const NEAR: usize = 64;
 /// The longest valid prefix, and what follows it.
 pub fn first_part(bytes: &[u8]) -> (&str, Ending)
     ensures front { result.0.now ≡ take (length result.0.now) bytes.now }
-    ensures items { lossy bytes.now ≡ map Keep (chars result.0.now) ++ items_after bytes.now (length result.0.now) result.1 }
+    ensures items { lossy bytes.now ≡ map Keep (chars result.0.now)
+        ++ items_after bytes.now (length result.0.now) result.1 }
     ensures within { EndsWithin bytes.now (length result.0.now) result.1 }
 {
     first_part_by(bytes, WINDOW)
@@ -34,7 +36,8 @@ pub fn first_part(bytes: &[u8]) -> (&str, Ending)
 pub fn first_part_by(bytes: &[u8], first: usize) -> (&str, Ending)
     requires { 4 ≤ first }
     ensures front { result.0.now ≡ take (length result.0.now) bytes.now }
-    ensures items { lossy bytes.now ≡ map Keep (chars result.0.now) ++ items_after bytes.now (length result.0.now) result.1 }
+    ensures items { lossy bytes.now ≡ map Keep (chars result.0.now)
+        ++ items_after bytes.now (length result.0.now) result.1 }
     ensures within { EndsWithin bytes.now (length result.0.now) result.1 }
 {
     if NEAR <= first {
@@ -57,7 +60,8 @@ fn by_windows(bytes: &[u8], mut at: usize, mut window: usize) -> (&str, Ending)
     requires text { IsUtf8 (take at bytes.now) }
     requires some { 4 ≤ window }
     ensures front { result.0.now ≡ take (length result.0.now) bytes.now }
-    ensures items { lossy bytes.now ≡ map Keep (chars result.0.now) ++ items_after bytes.now (length result.0.now) result.1 }
+    ensures items { lossy bytes.now ≡ map Keep (chars result.0.now)
+        ++ items_after bytes.now (length result.0.now) result.1 }
     ensures within { EndsWithin bytes.now (length result.0.now) result.1 }
 {
     while bytes.len() - at > window {
@@ -98,7 +102,8 @@ fn by_windows(bytes: &[u8], mut at: usize, mut window: usize) -> (&str, Ending)
 fn near(bytes: &[u8], count: usize) -> (usize, Option<Ending>)
     ensures within { result.0 ≤ length bytes.now }
     ensures text { IsUtf8 (take result.0 bytes.now) }
-    ensures items { IfSome result.1 (λ ending. lossy bytes.now ≡ map Keep (chars (take result.0 bytes.now)) ++ items_after bytes.now result.0 ending) }
+    ensures items { IfSome result.1 (λ ending. lossy bytes.now ≡ map Keep (chars (take result.0 bytes.now))
+        ++ items_after bytes.now result.0 ending) }
 {
     let mut at = 0;
     while at < count {
@@ -124,7 +129,8 @@ fn near_end(bytes: &[u8], at: usize) -> (usize, Ending)
     requires text { IsUtf8 (take at bytes.now) }
     ensures within { result.0 ≤ length bytes.now }
     ensures text { IsUtf8 (take result.0 bytes.now) }
-    ensures items { lossy bytes.now ≡ map Keep (chars (take result.0 bytes.now)) ++ items_after bytes.now result.0 result.1 }
+    ensures items { lossy bytes.now ≡ map Keep (chars (take result.0 bytes.now))
+        ++ items_after bytes.now result.0 result.1 }
 {
     match std::str::from_utf8(&bytes[at..]) {
         Ok(_text) => (bytes.len(), Ending::Whole),
@@ -196,7 +202,8 @@ fn first_char_len(bytes: &[u8]) -> Result<usize, usize>
 // counted, since joined by `&` each test becomes a branch, which random bytes make unpredictable.
 #[inline(always)]
 fn begin_char(first: u8, second: u8) -> bool
-    ensures { result ≡ (is_in_range 0xC2 0xF4 first && is_in_range (second_byte_min first) (second_byte_max first) second) }
+    ensures { result ≡ (is_in_range 0xC2 0xF4 first && is_in_range (second_byte_min first)
+        (second_byte_max first) second) }
 {
     let passed = u8::from(0xC2 <= first)
         + u8::from(first <= 0xF4)

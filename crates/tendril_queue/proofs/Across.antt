@@ -124,8 +124,8 @@ module _ (t : Text) (xs : List Text) (count : ℕ) (q : IsQueue t xs) (short : c
   pub left_loses : (left : Text) → left.bytes ≡ drop count t.bytes → Keeps t left
       → DropsFront (all_texts t xs) (all_texts left xs)
   left_loses left e keeps = loses (all_texts t xs) (all_texts left xs) t left
-      (leaves_first t left xs (all_texts left xs) (omega (arith, short)) refl) (take count t.bytes) (sym (take-append-drop count t.bytes)
-      ∙ ap (λ l. take count t.bytes ++ l) (sym e)) keeps
+      (leaves_first t left xs (all_texts left xs) (omega (arith, short)) refl) (take count t.bytes)
+      (sym (take-append-drop count t.bytes) ∙ ap (λ l. take count t.bytes ++ l) (sym e)) keeps
 
 -- all bytes of the first text were dropped, and some of the rest
 

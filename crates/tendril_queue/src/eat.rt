@@ -151,7 +151,8 @@ fn look_in<A: Atomicity>(
     }
 }
 
-// Removes the first `count` bytes, which are UTF-8, of a first text and those after it, and the texts that this empties.
+// Removes the first `count` bytes, which are UTF-8, of a first text and those after it, and the texts that this
+// empties.
 pub(crate) fn drop_front<A: Atomicity>(
     first: &mut Tendril<UTF8, A>,
     rest: &mut VecDeque<Tendril<UTF8, A>>,

@@ -1,5 +1,6 @@
 //! Texts in numbered slots.
-ghost use Rattle.std.specs.Prelude.{◌≡◌, ◌≤◌, ◌<◌, ◌+◌, ◌++◌, ◌∷◌, [], length, IfErr, OnOk, OnErr, IsOk, MatchOption, All};
+ghost use Rattle.std.specs.Prelude.{◌≡◌, ◌≤◌, ◌<◌, ◌+◌, ◌++◌, ◌∷◌, [], length, IfErr, OnOk, OnErr, IsOk, MatchOption};
+ghost use Rattle.std.specs.Prelude.{All};
 ghost use Rattle.tendril_run.specs.Cells.{cell_of, IsCell, cell_at};
 ghost use Rattle.tendril_run.specs.Steps.{Step};
 

@@ -127,7 +127,8 @@ pub(crate) fn equal<F: Format, A: Atomicity>(
     text: &Tendril<F, A>,
     other: &Tendril<F, A>,
 ) -> Comparison
-    ensures { result ≡ (if pointwise nat_eq text.now.bytes other.now.bytes then Comparison.Equal else Comparison.Differ) }
+    ensures { result ≡ (if pointwise nat_eq text.now.bytes other.now.bytes then Comparison.Equal else
+        Comparison.Differ) }
 {
     if text == other {
         Comparison::Equal

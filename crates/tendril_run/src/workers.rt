@@ -106,7 +106,8 @@ fn start<R: Threads, C: Classifier + Send + Drop + 'static, G: Gate + Send + Dro
 
 // Runs in the worker's thread.
 fn work<C: Classifier + Drop, G: Gate + Drop>(job: Job<C, G>) -> Ending
-    ensures { Worked (Step (C.class job.class)) (λ v. v.items) job.table.cells job.commands.items result.0.cells result.1 }
+    ensures { Worked (Step (C.class job.class)) (λ v. v.items) job.table.cells job.commands.items result.0.cells
+        result.1 }
 {
     let Job {
         mut table,
@@ -127,7 +128,8 @@ fn join_all<R: Threads, C: Classifier, G>(
     requires empty { outcomes.items ≡ [] }
     requires room { vec_len outcomes + vec_len workers ≤ vec_capacity outcomes }
     ensures { AllZip (λ w o. MatchOption w (o ≡ Outcome.NotStarted)
-        (λ h. let job = h.promise.0.value in JobEnds (C.class job.class) job.table.cells job.commands.items o × IsBegun o))
+        (λ h. let job = h.promise.0.value in JobEnds (C.class job.class) job.table.cells job.commands.items o
+        × IsBegun o))
         workers.items result.items }
 {
     for worker in workers {
@@ -139,7 +141,8 @@ fn join_all<R: Threads, C: Classifier, G>(
 
 fn join<R: Threads, C: Classifier, G>(rt: &R, worker: Worker<C, G>) -> Outcome
     ensures { MatchOption worker (result ≡ Outcome.NotStarted)
-        (λ h. let job = h.promise.0.value in JobEnds (C.class job.class) job.table.cells job.commands.items result × IsBegun result) }
+        (λ h. let job = h.promise.0.value in JobEnds (C.class job.class) job.table.cells job.commands.items result
+        × IsBegun result) }
 {
     match worker {
         Some(handle) => match handle.join(rt) {

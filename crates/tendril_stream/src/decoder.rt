@@ -16,9 +16,9 @@ use tendril_text::{Atomicity, NonAtomic, Tendril};
 // that no call reports.
 /// Decodes pieces of bytes to texts for a sink, with an error and U+FFFD for each broken sequence.
 ///
-/// A character that is cut by the end of a piece is completed from the next one; if the stream ends within it, it is one
-/// broken sequence. A call returns `SinkRefused` if the sink returns any error, or an error of the decoding. All calls
-/// after an error return `Failed`.
+/// A character that is cut by the end of a piece is completed from the next one; if the stream ends within it, it is
+/// one broken sequence. A call returns `SinkRefused` if the sink returns any error, or an error of the decoding. All
+/// calls after an error return `Failed`.
 #[derive(Drop)]
 pub struct Decoder<
     K: PieceDecoding<Tendril<Bytes, A>, Tendril<UTF8, A>>,
@@ -36,8 +36,8 @@ pub struct Decoder<
 /// A decoder of UTF-8.
 ///
 /// Each maximal subpart is one broken sequence (Unicode, chapter 3, 'U+FFFD Substitution of Maximal Subparts'). The
-/// decoder returns `Count` if the piece's block has as many references as it can have. Decoding allocates nothing: texts
-/// of more than 8 bytes share the piece's block.
+/// decoder returns `Count` if the piece's block has as many references as it can have. Decoding allocates nothing:
+/// texts of more than 8 bytes share the piece's block.
 pub type Utf8LossyDecoder<S, A = NonAtomic> = Decoder<KeptUtf8, S, A>;
 
 /// A decoder of any encoding that this crate supports, which is only UTF-8. `tendril_encoding` has one of all of them.
@@ -83,7 +83,8 @@ impl<
 > Decoder<K, S, A> {
     ghost use Rattle.tendril_stream.specs.contracts.decoder.Decoder.{the_row};
 
-    /// Returns a decoder that sends its texts to the sink, and begins with what `kept` has of a stream. Allocates nothing.
+    /// Returns a decoder that sends its texts to the sink, and begins with what `kept` has of a stream. Allocates
+    /// nothing.
     ///
     /// ```
     /// let decoder: Utf8LossyDecoder<Accumulate> = Decoder::over(alloc, KeptUtf8::new(), Accumulate::new(alloc));

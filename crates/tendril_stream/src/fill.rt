@@ -28,7 +28,8 @@ pub trait ReadExt: CountedRead {
     /// before a read, else `TooManyReads` after `max_reads` reads that didn't reach the end, `Memory` if an allocation
     /// fails, or `Io` if a read fails. After an error the text keeps the bytes that were read.
     ///
-    /// The first read has a buffer of 32 bytes. Whenever a buffer is full the next one is twice as large, up to 65536 bytes.
+    /// The first read has a buffer of 32 bytes. Whenever a buffer is full the next one is twice as large, up to 65536
+    /// bytes.
     ///
     /// ```
     /// let mut text = ByteTendril::from_slice(alloc, b"ab")?;

@@ -25,7 +25,8 @@ pub trait PieceDecoding<P: StreamText, T: StreamText>: Drop {
     ) -> Result<(), Refusal>
         ensures ok { OnOk result (FeedsPiece decoding S.takes sink.old self.old (P.text piece) sink.new
             × (self.new ≡ (decoding).after self.old (P.text piece).bytes)) }
-        ensures err { IfErr result (λ r. StopsInPiece decoding S.takes S.refuses sink.old self.old (P.text piece) r sink.new) };
+        ensures err { IfErr result (λ r. StopsInPiece decoding S.takes S.refuses sink.old self.old
+            (P.text piece) r sink.new) };
 
     /// Sends what the end of the stream adds to the sink. `SinkRefused`: the sink returned an error.
     fn decode_end<S: TendrilSink<T>>(&mut self, alloc: Global, sink: &mut S) -> Result<(), Refusal>

@@ -19,8 +19,8 @@ use tendril_text::{Atomicity, Tendril};
 
 /// Decodes pieces of bytes, and returns the list of texts and errors.
 ///
-/// The list is the lossy decoding of the joined bytes, however they are cut. Returns `SinkRefused` if an allocation fails,
-/// or `Count` if a piece's block has as many references as it can have. Copies no text of more than 8 bytes.
+/// The list is the lossy decoding of the joined bytes, however they are cut. Returns `SinkRefused` if an allocation
+/// fails, or `Count` if a piece's block has as many references as it can have. Copies no text of more than 8 bytes.
 ///
 /// ```
 /// let pieces = [ByteTendril::from_slice(alloc, b"a\xC3")?, ByteTendril::from_slice(alloc, b"\xA9")?];
@@ -39,15 +39,18 @@ pub fn decode_pieces<A: Atomicity, I: IntoIterator<Item = Tendril<Bytes, A>>>(
         × I.into_iter_gives pieces it × YieldsThen I.IntoIter.next_gives it read None end
         × All (IsSentOfOne utf8 read) (sent events.items)) }
     ensures refusal { IfErr result (λ r. PiecesStop utf8 I.into_iter_gives I.IntoIter.next_gives
-        ⟦<Accumulate<A> as TendrilSink<Tendril<UTF8, A>>>⟧.takes ⟦<Accumulate<A> as TendrilSink<Tendril<UTF8, A>>>⟧.refuses
-        ⟦<Accumulate<A> as TendrilSink<Tendril<UTF8, A>>>⟧.ends ⟦<Accumulate<A> as Tracks<Tendril<UTF8, A>>>⟧.after pieces r) }
+        ⟦<Accumulate<A> as TendrilSink<Tendril<UTF8, A>>>⟧.takes
+        ⟦<Accumulate<A> as TendrilSink<Tendril<UTF8, A>>>⟧.refuses
+        ⟦<Accumulate<A> as TendrilSink<Tendril<UTF8, A>>>⟧.ends ⟦<Accumulate<A> as Tracks<Tendril<UTF8, A>>>⟧.after
+        pieces r) }
 {
     decode_pieces_into(alloc, Accumulate::new(alloc), pieces)
 }
 
 /// Decodes pieces of bytes into a sink, ends the stream, and returns what the sink's `finish` returns.
 ///
-/// Returns `SinkRefused` if the sink returns an error, or `Count` if a piece's block has as many references as it can have.
+/// Returns `SinkRefused` if the sink returns an error, or `Count` if a piece's block has as many references as it can
+/// have.
 ///
 /// ```
 /// let pieces = [ByteTendril::from_slice(alloc, b"a\xFF")?];

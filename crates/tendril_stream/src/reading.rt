@@ -1,11 +1,13 @@
 //! Reading into a sink.
-ghost use Rattle.std.specs.Prelude.{◌≡◌, ◌≤◌, ◌+◌, ◌⊎◌, List, [], ◌∷◌, ◌++◌, length, take, drop, All, Some, false, IfOk, IfErr, OnErr};
+ghost use Rattle.std.specs.Prelude.{◌≡◌, ◌≤◌, ◌+◌, ◌⊎◌, List, [], ◌∷◌, ◌++◌, length, take, drop, All, Some, false};
+ghost use Rattle.std.specs.Prelude.{IfOk, IfErr, OnErr};
 ghost use Rattle.std.specs.Io.KnownBytes.{IsAtEnd, Keeps, ReadConsumes};
 ghost use Rattle.tendril_lossy.specs.Lossy.{due};
 ghost use Rattle.tendril_stream.specs.Compositions.{IsSentOfOne, StandsAt, StreamStops};
 ghost use Rattle.tendril_stream.specs.Decodings.{utf8};
 ghost use Rattle.tendril_stream.specs.Events.{sent};
-ghost use Rattle.tendril_stream.specs.Readings.{AreReadPieces, Halts, IsOfReading, IsReadPart, MakesReads, ReadStops, ReadsAll, ReadsOnce, StopsBetween, read_for};
+ghost use Rattle.tendril_stream.specs.Readings.{AreReadPieces, Halts, IsOfReading, IsReadPart, MakesReads, ReadStops};
+ghost use Rattle.tendril_stream.specs.Readings.{ReadsAll, ReadsOnce, StopsBetween, read_for};
 ghost use Rattle.tendril_stream.specs.Reads.{OneRead, CameToEnd, HasFailed, StopsWith, given, read_of};
 ghost use Rattle.tendril_stream.specs.Sinks.{told};
 ghost use Rattle.tendril_text.specs.Texts.{Text};
@@ -68,7 +70,8 @@ impl<S: Drop> From<Stopped<S>> for Refusal {
 }
 
 // The number of reads is bounded since a reader may be interrupted without end, and every call has to return.
-/// Reads to the end, sends the bytes to the sink in pieces of at most 4096, and returns what the sink's `finish` returns.
+/// Reads to the end, sends the bytes to the sink in pieces of at most 4096, and returns what the sink's `finish`
+/// returns.
 ///
 /// Makes at most `max_reads` reads, interrupted ones included. Returns `Io` if a read fails, `TooManyReads` if the end
 /// wasn't reached within `max_reads` reads, `Memory` if a piece can't be allocated, or the sink's own error. The sink
@@ -85,9 +88,11 @@ pub fn read_from<A: Atomicity, S: TendrilSink<Tendril<Bytes, A>>, R: CountedRead
     reader: &mut R,
     max_reads: u64,
 ) -> Result<S::Output, Stopped<S>>
-    ensures ok { IfOk result (λ out. (these : List OneRead) × MakesReads R.history R.remaining reader.old these reader.new
+    ensures ok { IfOk result (λ out. (these : List OneRead)
+        × MakesReads R.history R.remaining reader.old these reader.new
         × IsAtEnd (R.remaining reader.new) × ReadsAll S.takes S.finishes max_reads sink these out) }
-    ensures stopped { IfErr result (λ s. (these : List OneRead) × MakesReads R.history R.remaining reader.old these reader.new
+    ensures stopped { IfErr result (λ s. (these : List OneRead)
+        × MakesReads R.history R.remaining reader.old these reader.new
         × Halts S.takes S.refuses S.ends max_reads sink these s.refusal s.sink) }
 {
     let mut made = 0;
@@ -193,16 +198,19 @@ pub fn decode_reader<A: Atomicity, R: CountedRead>(
     reader: &mut R,
     max_reads: u64,
 ) -> Result<Vec<Event<A>>, Stopped<Utf8LossyDecoder<Accumulate<A>, A>>>
-    ensures ok { IfOk result (λ events. (these : List OneRead) × MakesReads R.history R.remaining reader.old these reader.new
+    ensures ok { IfOk result (λ events. (these : List OneRead)
+        × MakesReads R.history R.remaining reader.old these reader.new
         × IsAtEnd (R.remaining reader.new) × (told (sent events.items) ≡ due (given these))
         × StopsWith CameToEnd these × (length these ≤ max_reads)
         × ((pieces : List Text) × AreReadPieces these pieces × All (IsSentOfOne utf8 pieces) (sent events.items))) }
-    ensures stopped { IfErr result (λ s. (these : List OneRead) × MakesReads R.history R.remaining reader.old these reader.new
+    ensures stopped { IfErr result (λ s. (these : List OneRead)
+        × MakesReads R.history R.remaining reader.old these reader.new
         × (IsOfReading s.refusal → StopsBetween max_reads these s.refusal
         × ((d : _) × (s.sink ≡ Some d) × (d.failed ≡ false)
         × StandsAt utf8 (λ a t. told (sent a.events.items) ≡ t) d.inner_sink d.kept (given these)))
         × (IsOfReading s.refusal ⊎ StreamStops utf8 ⟦<Accumulate<A> as TendrilSink<Tendril<UTF8, A>>>⟧.takes
-        ⟦<Accumulate<A> as TendrilSink<Tendril<UTF8, A>>>⟧.refuses ⟦<Accumulate<A> as TendrilSink<Tendril<UTF8, A>>>⟧.ends
+        ⟦<Accumulate<A> as TendrilSink<Tendril<UTF8, A>>>⟧.refuses
+        ⟦<Accumulate<A> as TendrilSink<Tendril<UTF8, A>>>⟧.ends
         ⟦<Accumulate<A> as Tracks<Tendril<UTF8, A>>>⟧.after (λ d. d.inner_sink) (λ d. d.failed)
         max_reads these s.refusal s.sink)) }
 {
@@ -231,11 +239,13 @@ pub fn read_decoded<
     reader: &mut R,
     max_reads: u64,
 ) -> Result<S::Output, Stopped<Decoder<K, S, A>>>
-    ensures ok { IfOk result (λ out. (these : List OneRead) × MakesReads R.history R.remaining reader.old these reader.new
+    ensures ok { IfOk result (λ out. (these : List OneRead)
+        × MakesReads R.history R.remaining reader.old these reader.new
         × IsAtEnd (R.remaining reader.new)
         × ReadsAll ⟦<Decoder<K, S, A> as TendrilSink<Tendril<Bytes, A>>>⟧.takes
         ⟦<Decoder<K, S, A> as TendrilSink<Tendril<Bytes, A>>>⟧.finishes max_reads decoder these out) }
-    ensures stopped { IfErr result (λ s. (these : List OneRead) × MakesReads R.history R.remaining reader.old these reader.new
+    ensures stopped { IfErr result (λ s. (these : List OneRead)
+        × MakesReads R.history R.remaining reader.old these reader.new
         × Halts ⟦<Decoder<K, S, A> as TendrilSink<Tendril<Bytes, A>>>⟧.takes
         ⟦<Decoder<K, S, A> as TendrilSink<Tendril<Bytes, A>>>⟧.refuses
         ⟦<Decoder<K, S, A> as TendrilSink<Tendril<Bytes, A>>>⟧.ends max_reads decoder these s.refusal s.sink) }

@@ -123,9 +123,11 @@ fn resume<S: TendrilSink<Tendril<UTF8, A>>, A: Atomicity>(
     kept: &mut IncompleteUtf8,
     piece: &mut Tendril<Bytes, A>,
 ) -> Result<bool, Refusal>
-    ensures ok { IfOk result (λ done. ResumesPiece S.takes sink.old kept.old piece.old done sink.new kept.new piece.new) }
+    ensures ok { IfOk result (λ done. ResumesPiece S.takes sink.old kept.old piece.old done sink.new kept.new
+        piece.new) }
     ensures err { IfErr result (λ r.
-        Stops S.takes S.refuses (IsSentOf piece.old) (PieceMay piece.old) sink.old (due_open (kept.old ++ piece.old.bytes)) r sink.new) }
+        Stops S.takes S.refuses (IsSentOf piece.old) (PieceMay piece.old) sink.old
+        (due_open (kept.old ++ piece.old.bytes)) r sink.new) }
 {
     if kept.kept().is_empty() {
         return Ok(true);

@@ -1,5 +1,6 @@
 //! Characters at the start and the end of texts, and runs of characters.
-ghost use Rattle.std.specs.Prelude.{◌≡◌, ◌<◌, ◌≤◌, ◌+◌, ◌-◌, ◌++◌, ◌∷◌, [], ℕ, List, length, drop, encode_utf8, IfSome, IfNone, IfOk, IfErr, OnErr, OnSome, IsOk, MatchOption};
+ghost use Rattle.std.specs.Prelude.{◌≡◌, ◌<◌, ◌≤◌, ◌+◌, ◌-◌, ◌++◌, ◌∷◌, [], ℕ, List, length, drop, encode_utf8, IfSome};
+ghost use Rattle.std.specs.Prelude.{IfNone, IfOk, IfErr, OnErr, OnSome, IsOk, MatchOption};
 ghost use Rattle.tendril_text.specs.Characters.{AsksLongRun, AsksRun, EndsRun, HasLongParts, IsRun};
 ghost use Rattle.tendril_text.specs.Pushes.{Joins, JoinsChar};
 ghost use Rattle.tendril_storage.specs.Texts.{Keeps, Parts};
@@ -25,8 +26,8 @@ impl<F: CharFormat, A: Atomicity> Tendril<F, A> {
         Some(character)
     }
 
-    /// Removes the first character and returns it, or returns `None` if the text is empty. Takes constant time and allocates
-    /// nothing.
+    /// Removes the first character and returns it, or returns `None` if the text is empty. Takes constant time and
+    /// allocates nothing.
     ///
     /// ```
     /// let mut text = StrTendril::from_slice(alloc, "éa")?;
@@ -45,8 +46,8 @@ impl<F: CharFormat, A: Atomicity> Tendril<F, A> {
         Some(character)
     }
 
-    /// Removes the longest prefix whose characters are of one class and returns it with that class, or returns `None` if the text
-    /// is empty.
+    /// Removes the longest prefix whose characters are of one class and returns it with that class, or returns `None`
+    /// if the text is empty.
     ///
     /// `classify` is called once for each character of the run, in order, and once for the character after it. Returns
     /// `Count` if the run and the remainder both have more than 8 bytes and the block as many references as it can
@@ -79,8 +80,8 @@ impl<F: CharFormat, A: Atomicity> Tendril<F, A> {
     /// Removes a run of characters as `pop_front_char_run` does, with a borrowed classifier, whose final state
     /// contracts see.
     ///
-    /// Returns `Count` if the run and the remainder both have more than 8 bytes and the block as many references as it can have;
-    /// then the text hasn't changed.
+    /// Returns `Count` if the run and the remainder both have more than 8 bytes and the block as many references as it
+    /// can have; then the text hasn't changed.
     ///
     /// ```
     /// let mut text = StrTendril::from_slice(alloc, "42 apples")?;
@@ -115,8 +116,8 @@ impl<F: CharFormat, A: Atomicity> Tendril<F, A> {
 
     /// Appends a character, if the format can represent it.
     ///
-    /// Returns `NotInFormat` if it can't, else `TooLong` if the text would have more than 4294967295 bytes, else `Memory` if an
-    /// allocation fails; then nothing has changed. Costs what a push of its one to four bytes costs.
+    /// Returns `NotInFormat` if it can't, else `TooLong` if the text would have more than 4294967295 bytes, else
+    /// `Memory` if an allocation fails; then nothing has changed. Costs what a push of its one to four bytes costs.
     ///
     /// ```
     /// let mut text = Tendril::<Latin1>::new(alloc);
@@ -152,8 +153,8 @@ impl<A: Atomicity> Tendril<UTF8, A> {
 
     /// Appends a character.
     ///
-    /// Returns `TooLong` if the text would have more than 4294967295 bytes, else `Memory` if an allocation fails; then nothing
-    /// has changed. Costs what a push of its one to four bytes costs.
+    /// Returns `TooLong` if the text would have more than 4294967295 bytes, else `Memory` if an allocation fails; then
+    /// nothing has changed. Costs what a push of its one to four bytes costs.
     ///
     /// ```
     /// let mut text = StrTendril::from_slice(alloc, "caf")?;

@@ -105,7 +105,8 @@ impl<F: Format, A: Atomicity> Tendril<F, A> {
 impl<A: Atomicity> Tendril<UTF8, A> {
     /// Appends characters, up to the first whose push returns an error. The characters before it stay appended.
     ///
-    /// Returns `TooLong` if the text would have more than 4294967295 bytes with a character, or `Memory` if an allocation fails.
+    /// Returns `TooLong` if the text would have more than 4294967295 bytes with a character, or `Memory` if an
+    /// allocation fails.
     ///
     /// ```
     /// let mut text = StrTendril::from_slice(alloc, "a")?;
@@ -142,7 +143,8 @@ impl<A: Atomicity> Tendril<UTF8, A> {
 
     /// Appends strings, up to the first whose push returns an error. The strings before it stay appended.
     ///
-    /// Returns `TooLong` if the text would have more than 4294967295 bytes with a string, or `Memory` if an allocation fails.
+    /// Returns `TooLong` if the text would have more than 4294967295 bytes with a string, or `Memory` if an allocation
+    /// fails.
     ///
     /// ```
     /// let mut text = StrTendril::from_slice(alloc, "a")?;
@@ -181,8 +183,8 @@ impl<A: Atomicity> Tendril<UTF8, A> {
 impl<A: Atomicity> Tendril<Bytes, A> {
     /// Appends bytes from an iterator, up to the first whose push returns an error. The bytes before it stay appended.
     ///
-    /// Returns `TooLong` if the text would have more than 4294967295 bytes with a byte, or `Memory` if an allocation fails. n
-    /// bytes take O(n) time.
+    /// Returns `TooLong` if the text would have more than 4294967295 bytes with a byte, or `Memory` if an allocation
+    /// fails. n bytes take O(n) time.
     ///
     /// ```
     /// let mut text = ByteTendril::from_slice(alloc, b"a")?;
@@ -198,7 +200,8 @@ impl<A: Atomicity> Tendril<Bytes, A> {
 
     /// Returns a text of the bytes from an iterator.
     ///
-    /// Returns `TooLong` if it would have more than 4294967295 bytes, or `Memory` if an allocation fails. n bytes take O(n) time.
+    /// Returns `TooLong` if it would have more than 4294967295 bytes, or `Memory` if an allocation fails. n bytes take
+    /// O(n) time.
     ///
     /// ```
     /// assert_eq!(rt; ByteTendril::from_bytes(alloc, b'a'..b'd')?.as_byte_slice(), b"abc".as_slice());
@@ -212,8 +215,8 @@ impl<A: Atomicity> Tendril<Bytes, A> {
 
     /// Appends borrowed bytes, up to the first whose push returns an error. The bytes before it stay appended.
     ///
-    /// Returns `TooLong` if the text would have more than 4294967295 bytes with a byte, or `Memory` if an allocation fails. n
-    /// bytes take O(n) time.
+    /// Returns `TooLong` if the text would have more than 4294967295 bytes with a byte, or `Memory` if an allocation
+    /// fails. n bytes take O(n) time.
     ///
     /// ```
     /// let mut text = ByteTendril::from_slice(alloc, b"a")?;
@@ -233,7 +236,8 @@ impl<A: Atomicity> Tendril<Bytes, A> {
 
     /// Returns a text of borrowed bytes.
     ///
-    /// Returns `TooLong` if it would have more than 4294967295 bytes, or `Memory` if an allocation fails. n bytes take O(n) time.
+    /// Returns `TooLong` if it would have more than 4294967295 bytes, or `Memory` if an allocation fails. n bytes take
+    /// O(n) time.
     ///
     /// ```
     /// assert_eq!(rt; ByteTendril::from_byte_refs(alloc, b"abc".iter())?.as_byte_slice(), b"abc".as_slice());
@@ -251,7 +255,8 @@ impl<A: Atomicity> Tendril<Bytes, A> {
 
     /// Appends slices of bytes, up to the first whose push returns an error. The slices before it stay appended.
     ///
-    /// Returns `TooLong` if the text would have more than 4294967295 bytes with a slice, or `Memory` if an allocation fails.
+    /// Returns `TooLong` if the text would have more than 4294967295 bytes with a slice, or `Memory` if an allocation
+    /// fails.
     ///
     /// ```
     /// let mut text = ByteTendril::from_slice(alloc, b"a")?;

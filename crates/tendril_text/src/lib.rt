@@ -1,5 +1,5 @@
-//! Compact shared text: up to 8 bytes are stored inline, longer text is shared with its clones and slices and copied only
-//! when one of them is changed.
+//! Compact shared text: up to 8 bytes are stored inline, longer text is shared with its clones and slices and copied
+//! only when one of them is changed.
 #![tactic(auto)]
 
 mod byte_set;

@@ -1,12 +1,14 @@
 //! Searching for bytes in a text, and removing what is before them; testing for a prefix, and removing it.
 //!
 //! Make a `ByteSet` once: as a constant if it has one to four bytes, else outside the loop.
-ghost use Rattle.std.specs.Prelude.{◌≡◌, ◌<◌, ◌≤◌, ◌↔◌, ◌++◌, [], List, length, take, drop, IsUtf8, IfSome, IfNone, IfOk, OnErr, OnSome, IsTrue, IsFalse, IfErr};
+ghost use Rattle.std.specs.Prelude.{◌≡◌, ◌<◌, ◌≤◌, ◌↔◌, ◌++◌, [], List, length, take, drop, IsUtf8, IfSome, IfNone};
+ghost use Rattle.std.specs.Prelude.{IfOk, OnErr, OnSome, IsTrue, IsFalse, IfErr};
 ghost use Rattle.memchr.specs.Find.{IsFirstByte, is_byte};
 ghost use Rattle.tendril_fmt.specs.Parts.{IsFrontOf};
 ghost use Rattle.tendril_storage.specs.Texts.{Keeps};
 ghost use Rattle.tendril_text.specs.Splits.{EndsFirstLine, LacksFeed};
-ghost use Rattle.tendril_text.specs.Search.{has_byte, EndsBefore, PartsBefore, BeginsWithOne, HasLongPartBefore, IsTable, TakesPart, part_bytes};
+ghost use Rattle.tendril_text.specs.Search.{has_byte, EndsBefore, PartsBefore, BeginsWithOne, HasLongPartBefore};
+ghost use Rattle.tendril_text.specs.Search.{IsTable, TakesPart, part_bytes};
 
 use crate::byte_set::ByteSet;
 use crate::tendril::Tendril;
@@ -70,8 +72,8 @@ where
 }
 
 impl<F: CutsAtAscii, A: Atomicity> Tendril<F, A> {
-    /// Removes the bytes before the first one that is in the set, or all bytes if none is, and returns them; returns `None` if
-    /// the text is empty or begins with a byte of the set.
+    /// Removes the bytes before the first one that is in the set, or all bytes if none is, and returns them; returns
+    /// `None` if the text is empty or begins with a byte of the set.
     ///
     /// Returns `Count` if both sides have more than 8 bytes and the block as many references as it can have; then
     /// nothing has changed. Takes one pass, as `find_any` does. Allocates nothing: sides of more than 8 bytes keep

@@ -31,8 +31,8 @@ use tendril_storage::Storage;
 
 /// A text that is valid in the format `F`, of at most 4294967295 bytes.
 ///
-/// It takes 24 bytes. Up to 8 bytes of text are stored in it; a longer text is in a block on the heap that its clones and
-/// slices share. A block of `Atomic` may be shared between threads, one of `NonAtomic` stays on its thread.
+/// It takes 24 bytes. Up to 8 bytes of text are stored in it; a longer text is in a block on the heap that its clones
+/// and slices share. A block of `Atomic` may be shared between threads, one of `NonAtomic` stays on its thread.
 ///
 /// ```
 /// let text = StrTendril::from_slice(alloc, "shared by its slices")?;

@@ -1,11 +1,12 @@
 //! Lossy decoding of one piece of a stream of UTF-8, and the incomplete bytes at its end.
 //!
-//! Broken bytes are replaced by U+FFFD, one for each maximal subpart (Unicode, chapter 3, 'U+FFFD Substitution of Maximal
-//! Subparts'), as std's `from_utf8_lossy` and the WHATWG Encoding Standard do it.
+//! Broken bytes are replaced by U+FFFD, one for each maximal subpart (Unicode, chapter 3, 'U+FFFD Substitution of
+//! Maximal Subparts'), as std's `from_utf8_lossy` and the WHATWG Encoding Standard do it.
 ghost use Rattle.std.specs.Prelude.{◌≡◌, ◌<◌, ◌≤◌, [], length, drop, IfOk, IfErr, IsSomeAnd, OnOk, OnErr, MatchOption};
 ghost use Rattle.std.specs.List.{FoldsTo};
 ghost use Rattle.tendril_lossy.specs.Lossy.{IsOpen};
-ghost use Rattle.tendril_text.specs.Decoding.{DecodesPiece, HandsOnUpTo, IsRest, LongTextMay, PopsText, bytes_of, listed};
+ghost use Rattle.tendril_text.specs.Decoding.{DecodesPiece, HandsOnUpTo, IsRest, LongTextMay, PopsText, bytes_of};
+ghost use Rattle.tendril_text.specs.Decoding.{listed};
 ghost use Rattle.tendril_text.specs.Receivers.{Interrupts, PassesUpTo, Piece, RefusesCall};
 ghost use Rattle.tendril_block.specs.Outcomes.{NoneMust, Outcome};
 ghost use Rattle.tendril_storage.specs.Texts.{Keeps};
@@ -93,8 +94,8 @@ impl LastText {
 }
 
 impl<A: Atomicity> Tendril<Bytes, A> {
-    /// Decodes the bytes as a piece of a stream of UTF-8: passes the texts to the closure, U+FFFD for each broken sequence, and
-    /// returns the incomplete bytes at the end, if there are any.
+    /// Decodes the bytes as a piece of a stream of UTF-8: passes the texts to the closure, U+FFFD for each broken
+    /// sequence, and returns the incomplete bytes at the end, if there are any.
     ///
     /// Allocates nothing: texts of more than 8 bytes share the piece's block. Returns `Count` and the bytes not decoded
     /// yet if the block has as many references as it can have; what was passed to the closure isn't undone. Contracts
@@ -165,11 +166,11 @@ impl<A: Atomicity> Tendril<Bytes, A> {
         }
     }
 
-    /// Decodes the bytes as a piece of a stream of UTF-8, passes texts and errors to a receiver, and returns the incomplete
-    /// bytes at the end, which are left. `last` is that of `pop_text_after`.
+    /// Decodes the bytes as a piece of a stream of UTF-8, passes texts and errors to a receiver, and returns the
+    /// incomplete bytes at the end, which are left. `last` is that of `pop_text_after`.
     ///
-    /// W says how the receiver is called. Returns `Count` if the block has as many references as it can have; then the bytes
-    /// not decoded yet are left. Returns `SinkRefused` if the receiver returns an error. Allocates nothing.
+    /// W says how the receiver is called. Returns `Count` if the block has as many references as it can have; then the
+    /// bytes not decoded yet are left. Returns `SinkRefused` if the receiver returns an error. Allocates nothing.
     ///
     /// ```
     /// let mut piece = ByteTendril::from_slice(alloc, b"a\xFFb\xC3")?;
@@ -203,8 +204,8 @@ impl<A: Atomicity> Tendril<Bytes, A> {
         }
     }
 
-    /// Removes the longest prefix that is UTF-8 and the broken sequence after it, and returns the text, if it isn't empty, and
-    /// what ended it. Incomplete bytes at the end stay.
+    /// Removes the longest prefix that is UTF-8 and the broken sequence after it, and returns the text, if it isn't
+    /// empty, and what ended it. Incomplete bytes at the end stay.
     ///
     /// Returns `Count` if the text and the bytes after it both have more than 8 bytes and the block as many references
     /// as it can have; then nothing has changed. Allocates nothing: sides of more than 8 bytes keep sharing the block.
@@ -287,7 +288,8 @@ fn pass_some<W: Receiving<S, Tendril<UTF8, A>>, S, A: Atomicity>(
 ) -> Result<(), Refusal>
     requires { W.is_ready receiver.old }
     ensures ok { OnOk result (FoldsTo (λ s t u. W.takes s (Piece t) u) receiver.old (listed text) receiver.new) }
-    ensures err { IfErr result (λ r. IsSomeAnd text (λ t. RefusesCall W.refuses receiver.old (Piece t) r receiver.new)) }
+    ensures err { IfErr result (λ r. IsSomeAnd text
+        (λ t. RefusesCall W.refuses receiver.old (Piece t) r receiver.new)) }
     ensures ready { W.is_ready receiver.new }
 {
     match text {

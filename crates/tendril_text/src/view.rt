@@ -82,8 +82,8 @@ impl<'a, F: Format, A: Atomicity> View<'a, F, A> {
 
     /// Returns a text with the same bytes in the view's format. More than 8 bytes are shared, not copied.
     ///
-    /// Takes constant time and allocates nothing. Returns `Count` if the block has as many references as it can have, which is
-    /// possible only for more than 8 bytes.
+    /// Takes constant time and allocates nothing. Returns `Count` if the block has as many references as it can have,
+    /// which is possible only for more than 8 bytes.
     ///
     /// ```
     /// let text = StrTendril::from_slice(alloc, "abc")?;

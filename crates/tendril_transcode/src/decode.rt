@@ -1,9 +1,11 @@
 //! Decodes the input to the output.
-ghost use Rattle.std.specs.Prelude.{◌≡◌, ◌<◌, true, false, List, [], ◌∷◌, ◌++◌, ℕ, Option, All, length, IfOk, IfErr, OnOk};
+ghost use Rattle.std.specs.Prelude.{◌≡◌, ◌<◌, true, false, List, [], ◌∷◌, ◌++◌, ℕ, Option, All, length, IfOk, IfErr};
+ghost use Rattle.std.specs.Prelude.{OnOk};
 ghost use Rattle.std.specs.Io.KnownBytes.{IsAtEnd};
 ghost use Rattle.tendril_stream.specs.Readings.{MakesReads};
 ghost use Rattle.tendril_stream.specs.Reads.{OneRead, CameToEnd, MayReadOn, given};
-ghost use Rattle.tendril_transcode.specs.Transcodings.{BeginsStream, EndingStops, IsReady, TranscodeStops, Transcoded, WritesText, chars_of_all, most_reads};
+ghost use Rattle.tendril_transcode.specs.Transcodings.{BeginsStream, EndingStops, IsReady, TranscodeStops, Transcoded};
+ghost use Rattle.tendril_transcode.specs.Transcodings.{WritesText, chars_of_all, most_reads};
 
 use crate::joined::Joined;
 use crate::text::write_text;
@@ -19,8 +21,8 @@ const MOST_READS: u64 = 1_000_000_000;
 /// Decodes the whole input, which begins with what `kept` has of a stream, and writes the text of each read before the
 /// next read. The memory that it takes doesn't depend on the input's length.
 ///
-/// Errors: Memory (none for a read), Io (a failed read), SinkRefused (a failed write or flush, or no memory for the text),
-/// TooManyReads if 1000000000 reads don't reach the end, and those that the decoding itself returns.
+/// Errors: Memory (none for a read), Io (a failed read), SinkRefused (a failed write or flush, or no memory for the
+/// text), TooManyReads if 1000000000 reads don't reach the end, and those that the decoding itself returns.
 ///
 /// ```
 /// let mut out = Vec::new(alloc);

@@ -23,12 +23,14 @@ pub fn read_records<K: RecordSink, R: CountedRead>(
     reader: &mut R,
     most: u64,
 ) -> Result<K, Stopped<Utf8LossyDecoder<CsvReader<K>>>>
-    ensures ok { IfOk result (λ out. (these : List OneRead) × MakesReads R.history R.remaining reader.old these reader.new
+    ensures ok { IfOk result (λ out. (these : List OneRead)
+        × MakesReads R.history R.remaining reader.old these reader.new
         × IsAtEnd (R.remaining reader.new)
         × (unmarked (record_bytes (K.records out))
         ≡ unmarked (record_bytes (K.records sink)) ++ unmarked (encode_utf8_all (characters (due (given these)))))
         × StopsWith CameToEnd these × (length these ≤ most)) }
-    ensures stopped { IfErr result (λ s. (these : List OneRead) × MakesReads R.history R.remaining reader.old these reader.new
+    ensures stopped { IfErr result (λ s. (these : List OneRead)
+        × MakesReads R.history R.remaining reader.old these reader.new
         × IfSome s.sink (λ d. IsFrontOf (unmarked (record_bytes (K.records d.inner_sink.sink)))
         (unmarked (record_bytes (K.records sink)) ++ unmarked (encode_utf8_all (characters (due (given these))))))) }
 {

@@ -1,6 +1,6 @@
 //! Prints tokens, one per line.
 
-use crate::token::{TokenKind, Token};
+use crate::token::{Token, TokenKind};
 use std::io::{self, Write};
 
 /// Prints each token: its kind, the name of a tag, and its source in quotes.

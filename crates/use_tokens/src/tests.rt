@@ -1,6 +1,6 @@
 //! Tests the tokens of inputs, wherever these are cut. The expected tokens follow the rules of HTML's tokenization.
 
-use crate::token::{TokenKind, Token, TokenSink};
+use crate::token::{Token, TokenKind, TokenSink};
 use crate::tokenizer::Tokenizer;
 use std::alloc::Global;
 use std::test::Fail;

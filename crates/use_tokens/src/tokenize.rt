@@ -22,11 +22,14 @@ pub fn tokenize<K: TokenSink, R: CountedRead>(
     reader: &mut R,
     max_reads: u64,
 ) -> Result<K, Stopped<Utf8LossyDecoder<Tokenizer<K>>>>
-    ensures ok { IfOk result (λ out. (these : List OneRead) × MakesReads R.history R.remaining reader.old these reader.new
+    ensures ok { IfOk result (λ out. (these : List OneRead)
+        × MakesReads R.history R.remaining reader.old these reader.new
         × IsAtEnd (R.remaining reader.new)
-        × (joined_sources (K.tokens out) ≡ joined_sources (K.tokens sink) ++ encode_utf8_all (characters (due (given these))))
+        × (joined_sources (K.tokens out) ≡ joined_sources (K.tokens sink)
+        ++ encode_utf8_all (characters (due (given these))))
         × StopsWith CameToEnd these × (length these ≤ max_reads)) }
-    ensures stopped { IfErr result (λ s. (these : List OneRead) × MakesReads R.history R.remaining reader.old these reader.new
+    ensures stopped { IfErr result (λ s. (these : List OneRead)
+        × MakesReads R.history R.remaining reader.old these reader.new
         × IfSome s.sink (λ d. TokensSpellPrefix (K.tokens sink) (encode_utf8_all (characters (due (given these))))
         (K.tokens d.inner_sink.sink))) }
 {

@@ -6,7 +6,7 @@ ghost use Rattle.use_tokens.specs.Spelled.{TokensSpell, TokensSpellPrefix, untak
 use crate::joined::{append, begun_text, joined};
 use crate::markup::Markup;
 use crate::state::State;
-use crate::token::{TokenKind, Token, TokenSink};
+use crate::token::{Token, TokenKind, TokenSink};
 use std::alloc::Global;
 use std::borrow::CowStr;
 use std::mem;

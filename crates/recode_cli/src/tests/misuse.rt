@@ -57,8 +57,8 @@ fn other_words_print_the_usage(rt: HostRuntime) -> Result<(), Fail> {
     notes.end()
 }
 
-// Words, and what is printed. Three labels are named: those that need the fewest changes, in the order of the table where
-// they need as many.
+// Words, and what is printed. Three labels are named: those that need the fewest changes, in the order of the table
+// where they need as many.
 const LABELS: [(&str, &str); 4] = [
     (
         "--from latin9",

@@ -1,5 +1,6 @@
 //! The lines of a rope, one by one.
-ghost use Rattle.std.specs.Prelude.{◌≡◌, false, ◌<◌, ◌≤◌, ◌+◌, ◌-◌, ◌↔◌, [], ℕ, length, take, drop, slice_index, IsTrue, IsUtf8, IfSome, IfNone, OnSome, IfOk, IfErr, OnErr};
+ghost use Rattle.std.specs.Prelude.{◌≡◌, false, ◌<◌, ◌≤◌, ◌+◌, ◌-◌, ◌↔◌, [], ℕ, length, take, drop, slice_index};
+ghost use Rattle.std.specs.Prelude.{IsTrue, IsUtf8, IfSome, IfNone, OnSome, IfOk, IfErr, OnErr};
 ghost use Rattle.std.specs.Iterator.{at_most};
 ghost use Rattle.rope_text.specs.Fronts.{CutsLine, CutLineMay, NextCutLine};
 ghost use Rattle.tendril_text.specs.Iterators.{parts_left};
@@ -97,7 +98,8 @@ impl<A: Atomicity> Rope<A> {
     // The length of the first line, and that of its line ending, which is 0 at the end.
     fn first_line(&self) -> (u64, u64)
         requires some { 0 < length self.now.bytes }
-        ensures line { TakesLine self.now.bytes (take result.0 self.now.bytes) (drop (result.0 + result.1) self.now.bytes) }
+        ensures line { TakesLine self.now.bytes (take result.0 self.now.bytes)
+            (drop (result.0 + result.1) self.now.bytes) }
         ensures within { result.0 + result.1 ≤ length self.now.bytes }
         ensures valid { IsUtf8 (take result.0 self.now.bytes) }
         ensures ascii { (k : ℕ) → result.0 ≤ k → k < result.0 + result.1 → slice_index self.now.bytes k < 128 }

@@ -14,9 +14,10 @@ use tendril_text::{Atomicity, Tendril};
 impl<A: Atomicity> Rope<A> {
     /// Returns a rope of the `count` bytes from `offset` on, if they are there and UTF-8.
     ///
-    /// Returns `OutOfBounds` if the rope ends before, else `ValidationFailed` if the slice cuts a character, else `Memory` if an
-    /// allocation fails, or `Count` if a block has as many references as it can have. Pieces of more than 8 bytes are shared.
-    /// Takes logarithmic time to find the first and the last piece, and constant time for each piece of the result.
+    /// Returns `OutOfBounds` if the rope ends before, else `ValidationFailed` if the slice cuts a character, else
+    /// `Memory` if an allocation fails, or `Count` if a block has as many references as it can have. Pieces of more
+    /// than 8 bytes are shared. Takes logarithmic time to find the first and the last piece, and constant time for each
+    /// piece of the result.
     ///
     /// ```
     /// let mut rope = Rope::new(alloc);
@@ -46,8 +47,8 @@ impl<A: Atomicity> Rope<A> {
 
     /// Returns another rope with the same pieces, which share their bytes.
     ///
-    /// Returns `Memory` if an allocation fails, or `Count` if a block has as many references as it can have. Takes constant time
-    /// for each piece.
+    /// Returns `Memory` if an allocation fails, or `Count` if a block has as many references as it can have. Takes
+    /// constant time for each piece.
     ///
     /// ```
     /// let mut rope = Rope::new(alloc);

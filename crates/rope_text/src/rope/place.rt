@@ -29,8 +29,8 @@ impl<A: Atomicity> Rope<A> {
         }
     }
 
-    // How many of three ends, each `step` pieces after the one before, are at most the offset. All are read before any is
-    // compared, so that the reads overlap.
+    // How many of three ends, each `step` pieces after the one before, are at most the offset. All are read before any
+    // is compared, so that the reads overlap.
     fn passed(&self, low: usize, step: usize, at: u64) -> usize
         requires step { 0 < step }
         requires there { low + 3 * step ≤ length self.now.pieces }

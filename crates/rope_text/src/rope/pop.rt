@@ -6,8 +6,8 @@ use crate::rope::Rope;
 use tendril_text::Atomicity;
 
 impl<A: Atomicity> Rope<A> {
-    /// Removes the first character and returns it, or returns `None` if the rope is empty. Takes amortized constant time, and
-    /// allocates nothing.
+    /// Removes the first character and returns it, or returns `None` if the rope is empty. Takes amortized constant
+    /// time, and allocates nothing.
     ///
     /// ```
     /// let mut rope = Rope::new(alloc);

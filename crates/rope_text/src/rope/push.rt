@@ -13,8 +13,8 @@ use tendril_text::{Atomicity, Tendril};
 impl<A: Atomicity> Rope<A> {
     /// Appends a text as a piece, without copying it. An empty text adds no piece.
     ///
-    /// Returns the text with `TooLong` if the rope would have more than 18446744073709551615 bytes, or with `Memory` if an
-    /// allocation fails; then nothing has changed. Takes amortized constant time.
+    /// Returns the text with `TooLong` if the rope would have more than 18446744073709551615 bytes, or with `Memory` if
+    /// an allocation fails; then nothing has changed. Takes amortized constant time.
     ///
     /// ```
     /// let mut rope = Rope::new(alloc);
@@ -50,8 +50,9 @@ impl<A: Atomicity> Rope<A> {
 
     /// Appends the pieces of another rope, without copying their bytes.
     ///
-    /// Returns the other rope with `TooLong` if this one would have more than 18446744073709551615 bytes, or with `Memory` if an
-    /// allocation fails; then nothing has changed. Takes amortized constant time for each piece of the other rope.
+    /// Returns the other rope with `TooLong` if this one would have more than 18446744073709551615 bytes, or with
+    /// `Memory` if an allocation fails; then nothing has changed. Takes amortized constant time for each piece of the
+    /// other rope.
     ///
     /// ```
     /// let mut rope = Rope::new(alloc);

@@ -70,7 +70,8 @@ impl<A: Atomicity> Rope<A> {
     /// assert_eq!(rt; rope.to_tendril()?.as_str(), ", two");
     /// ```
     pub fn pop_front_until(&mut self, set: &ByteSet) -> Result<Option<Self>, Refusal>
-        ensures front { IfOk result (λ found. IfSome found (λ front. CutsBefore (has_byte set.now) self.old front self.new)) }
+        ensures front { IfOk result (λ found. IfSome found
+            (λ front. CutsBefore (has_byte set.now) self.old front self.new)) }
         ensures joined { IfOk result (λ found. IfSome found (λ front. self.old.bytes ≡ front.bytes ++ self.new.bytes)) }
         ensures shorter { IfOk result (λ found. OnSome found (length self.new.bytes < length self.old.bytes)) }
         ensures none { IfOk result (λ found. IfNone found

@@ -40,10 +40,10 @@ impl<A: Atomicity> Rope<A> {
 
     /// Removes the first `count` bytes and returns them as a rope, if they are there and UTF-8.
     ///
-    /// Returns `OutOfBounds` if the rope has fewer, else `ValidationFailed` if the split cuts a character, else `Memory` if an
-    /// allocation fails, or `Count` if the block of the piece that is cut has as many references as it can have; then nothing has
-    /// changed. Whole pieces move; a piece of more than 8 bytes that is cut is shared. Takes logarithmic time to find the last
-    /// piece, and constant time for each piece that moves.
+    /// Returns `OutOfBounds` if the rope has fewer, else `ValidationFailed` if the split cuts a character, else
+    /// `Memory` if an allocation fails, or `Count` if the block of the piece that is cut has as many references as it
+    /// can have; then nothing has changed. Whole pieces move; a piece of more than 8 bytes that is cut is shared. Takes
+    /// logarithmic time to find the last piece, and constant time for each piece that moves.
     ///
     /// ```
     /// let mut rope = Rope::new(alloc);

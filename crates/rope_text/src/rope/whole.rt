@@ -10,8 +10,8 @@ use tendril_text::{Atomicity, StrTendril, Tendril};
 impl<A: Atomicity> Rope<A> {
     /// Returns a text with a copy of the rope's bytes.
     ///
-    /// Returns `TooLong` if there are more than 4294967295, else `Memory` if an allocation fails. Copies in one pass, and
-    /// allocates only for more than 8 bytes.
+    /// Returns `TooLong` if there are more than 4294967295, else `Memory` if an allocation fails. Copies in one pass,
+    /// and allocates only for more than 8 bytes.
     ///
     /// ```
     /// let mut rope = Rope::new(alloc);

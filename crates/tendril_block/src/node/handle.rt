@@ -5,9 +5,9 @@ ghost use Rattle.tendril_block.specs.Owned.{Crosses, block_owns, block_shares, B
 
 use crate::body::Body;
 use crate::node::Node;
+use crate::node::raw_box::RawBox;
 use crate::node::threading::Threading;
 use crate::node::unfreed_node::UnfreedNode;
-use crate::node::raw_box::RawBox;
 use std::alloc::Global;
 use std::marker::{Model, PhantomData, Send};
 
@@ -124,7 +124,8 @@ impl<K: Threading> Handle<K> {
 
     /// Borrows the body mutably, if this is the only reference.
     pub(crate) fn alone_mut(&mut self) -> Option<&mut Body>
-        ensures* lends { sem 𝓛 (LendsIf (the_row K.row K.Threading) BodyRow self.entry result (with_body self.old) self.old) }
+        ensures* lends { sem 𝓛 (LendsIf (the_row K.row K.Threading) BodyRow self.entry result
+            (with_body self.old) self.old) }
         ensures bytes { IfSome result (λ v. v.now ≡ self.old.inner) }
     {
         let node = self.node;

@@ -1,7 +1,8 @@
 //! In which threads the references to a node may be, and how each of them changes the node's count.
 ghost use Rattle.std.specs.Prelude.{◌≡◌, ◌+◌, ◌<◌, Bool};
 ghost use Rattle.std.specs.Borrow.{sem};
-ghost use Rattle.tendril_block.specs.Owned.{Stepper, holds, left, seen_by, peeks, token_of, joins, joined_to, Joining, limit, Crosses};
+ghost use Rattle.tendril_block.specs.Owned.{Stepper, holds, left, seen_by, peeks, token_of, joins, joined_to, Joining};
+ghost use Rattle.tendril_block.specs.Owned.{limit, Crosses};
 ghost use base.Fml.{Share};
 
 /// A kind of references, used only as a type. Each function is one operation on a node's count.

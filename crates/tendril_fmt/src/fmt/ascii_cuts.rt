@@ -10,7 +10,8 @@ pub trait CutsAtAscii: Format {
     ghost use Rattle.std.specs.Prelude.{ℕ, ◌+◌, ◌<◌, List, length, take, drop, slice_index};
 
     /// The slice before an ASCII byte and the slice from it on are valid.
-    ghost ascii_cut: { (bytes : List ℕ) (place : ℕ) → Self.valid bytes → place < length bytes → slice_index bytes place < 128
+    ghost ascii_cut: { (bytes : List ℕ) (place : ℕ) → Self.valid bytes → place < length bytes
+        → slice_index bytes place < 128
         → Self.valid (take place bytes) × Self.valid (drop place bytes) };
 
     /// The slice after an ASCII byte is valid.

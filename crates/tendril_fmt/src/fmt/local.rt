@@ -1,6 +1,7 @@
 //! Tests of a slice of a text that read only its ends.
 ghost use Rattle.std.specs.Prelude.{◌≡◌, ◌≤◌, ◌↔◌, ℕ, List, length, IsTrue, IsUtf8};
-ghost use Rattle.tendril_fmt.specs.Local.{IsWhole, IsWholeOrSurrogate, StandsAccepted, PassesAsFront, PassesAsEnd, first_four as first_four_of, last_four as last_four_of};
+ghost use Rattle.tendril_fmt.specs.Local.{IsWhole, IsWholeOrSurrogate, StandsAccepted, PassesAsFront, PassesAsEnd};
+ghost use Rattle.tendril_fmt.specs.Local.{first_four as first_four_of, last_four as last_four_of};
 ghost use Rattle.tendril_fmt.specs.Parts.{IsSliceOf};
 ghost use Rattle.tendril_fmt.specs.Wtf8.{IsWtf8};
 

@@ -1,8 +1,10 @@
 //! Laws of the formats, in addition to the contracts of their functions.
 ghost use Rattle.std.specs.Prelude.{IsUtf8};
 ghost use Rattle.tendril_fmt.specs.Classify.{OneStands};
-ghost use Rattle.tendril_fmt.specs.Laws.{JoinLaws, UnitsRoundTrip, TextRoundTrip, JoinAppendsUnits, SpellText, PlaceIsLengthBefore};
-ghost use Rattle.tendril_fmt.specs.Local.{IsWhole, IsWholeOrSurrogate, FrontTestIsWhole, EndTestIsWhole, SliceTestIsWhole, RestsOnFourBytes};
+ghost use Rattle.tendril_fmt.specs.Laws.{JoinLaws, UnitsRoundTrip, TextRoundTrip, JoinAppendsUnits, SpellText};
+ghost use Rattle.tendril_fmt.specs.Laws.{PlaceIsLengthBefore};
+ghost use Rattle.tendril_fmt.specs.Local.{IsWhole, IsWholeOrSurrogate, FrontTestIsWhole, EndTestIsWhole};
+ghost use Rattle.tendril_fmt.specs.Local.{SliceTestIsWhole, RestsOnFourBytes};
 ghost use Rattle.tendril_fmt.specs.Wtf8.{IsWtf8};
 
 use crate::fmt::ascii::ASCII;

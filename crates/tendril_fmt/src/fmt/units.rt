@@ -1,5 +1,6 @@
 //! The 16-bit units of WTF-8.
-ghost use Rattle.std.specs.Prelude.{◌≡◌, ◌+◌, ◌*◌, ◌<◌, ◌≤◌, ◌&&◌, ◌∷◌, [], ◌++◌, if◌then◌else◌, length, take, encode_utf8, vec_len, vec_capacity, true, IfSome, MatchOption};
+ghost use Rattle.std.specs.Prelude.{◌≡◌, ◌+◌, ◌*◌, ◌<◌, ◌≤◌, ◌&&◌, ◌∷◌, [], ◌++◌, if◌then◌else◌, length, take};
+ghost use Rattle.std.specs.Prelude.{encode_utf8, true, IfSome, MatchOption};
 ghost use Rattle.std.specs.Iterator.{YieldsFirst, item_count};
 ghost use Rattle.std.specs.Char.Escape.{encode_utf16};
 ghost use Rattle.std.specs.Char.Utf16.{is_high_surrogate, is_low_surrogate};
@@ -9,6 +10,7 @@ ghost use Rattle.tendril_fmt.specs.CodePoints.{IsCodePoint};
 ghost use Rattle.tendril_fmt.specs.Units.{SplitsUnits, StartsWithAscii, bytes_behind};
 ghost use Rattle.tendril_fmt.specs.Wtf8.{IsWtf8, units as units_of, wtf8};
 
+use crate::blocks::{BLOCK, ROOM, encode_block, has_surrogate, low_high};
 use crate::futf::split_text;
 use std::iter::FusedIterator;
 use std::marker::Model;
@@ -74,98 +76,6 @@ impl<'a> Iterator for Wtf8Units<'a> {
 
 impl<'a> FusedIterator for Wtf8Units<'a> {}
 
-/// Appends the units of valid WTF-8 to a vector that has spare capacity for one unit per byte, and returns the vector.
-pub fn decode_wtf8(bytes: &[u8], units: Vec<u16>) -> Vec<u16>
-    requires valid { IsWtf8 bytes.now }
-    requires room { vec_len units + length bytes.now ≤ vec_capacity units }
-    ensures { result.items ≡ units.items ++ units_of bytes.now }
-{
-    let start = units.len();
-    let mut all = units;
-    // Zeros first: several units are written at once to a slice, not to spare capacity.
-    let _filled = all.resize(start + bytes.len(), 0);
-    let end = put_units(all.as_mut_slice(), start, bytes);
-    all.truncate(end);
-    all
-}
-
-// Writes the units of valid WTF-8 at an offset, and returns the offset after them.
-fn put_units(units: &mut [u16], start: usize, bytes: &[u8]) -> usize
-    requires valid { IsWtf8 bytes.now }
-    requires room { start + length bytes.now ≤ length units.old }
-    ensures within { result ≤ start + length bytes.now }
-    ensures units { take result units.new ≡ take start units.old ++ units_of bytes.now }
-{
-    let mut at = start;
-    let mut rest = bytes;
-    loop {
-        if let Some((ascii, after)) = split_ascii_bytes(rest) {
-            put_ascii_bytes(units, at, ascii);
-            at += BLOCK;
-            rest = after;
-        } else if let Some((code, after)) = split_text(rest) {
-            at = put_code_units(units, at, code);
-            rest = after;
-        } else {
-            return at;
-        }
-    }
-}
-
-// The first `BLOCK` bytes, if all are ASCII, and those after them. If the first isn't one, the others aren't read.
-#[inline]
-fn split_ascii_bytes(bytes: &[u8]) -> Option<(&[u8], &[u8])>
-    ensures { IfSome result (λ p. StartsWithAscii bytes.now p.0.now p.1.now) }
-{
-    let first = bytes.first()?;
-    if 0x80 <= *first || bytes.len() < BLOCK {
-        return None;
-    }
-    let (front, after) = bytes.split_at(BLOCK);
-    if !are_ascii_bytes(u8x16::from_slice(front)) {
-        return None;
-    }
-    Some((front, after))
-}
-
-// Whether all bytes of a block are ASCII.
-#[inline]
-fn are_ascii_bytes(block: u8x16) -> bool
-    ensures { result ≡ true → AllByRecursion (λ b. b < 0x80) block }
-{
-    block.simd_ge(u8x16::splat(0x80)).to_bitmask() == 0
-}
-
-// Writes a block of ASCII bytes as units at an offset.
-#[inline]
-fn put_ascii_bytes(units: &mut [u16], at: usize, bytes: &[u8])
-    requires block { length bytes.now ≡ BLOCK }
-    requires fits { at + BLOCK ≤ length units.old }
-    ensures { units.new ≡ put_chunk at units.old (chunk 0 BLOCK bytes.now) }
-{
-    u8x16::from_slice(bytes)
-        .cast::<u16>()
-        .copy_to_slice(&mut units[at..]);
-}
-
-// Writes the one or two units of a code point at an offset, and returns the offset after them.
-#[inline]
-fn put_code_units(units: &mut [u16], at: usize, code: u32) -> usize
-    requires point { IsCodePoint code }
-    requires fits { at + length (encode_utf16 code) ≤ length units.old }
-    ensures place { result ≡ at + length (encode_utf16 code) }
-    ensures units { take result units.new ≡ take at units.old ++ encode_utf16 code }
-{
-    if code < 0x1_0000 {
-        units[at] = code as u16;
-        return at + 1;
-    }
-    let above = code - 0x1_0000;
-    units[at] = (0xD800 + above / 0x400) as u16;
-    units[at + 1] = (0xDC00 + above % 0x400) as u16;
-    at + 2
-}
-
 // How many units `count_piece` counts, in a number of 16 bits: eight of these fit into a register of the processor.
 const COUNTED: usize = 4096;
 
@@ -177,10 +87,17 @@ pub fn wtf8_len(units: &[u16]) -> usize
     let mut last = 0;
     let mut rest = units;
     while !rest.is_empty() {
-        let (count, end, after) = count_piece(last, rest);
-        len += count as usize;
-        last = end;
-        rest = after;
+        if let Some((ascii, after)) = split_ascii(rest) {
+            len += ascii.len();
+            // Of an ASCII unit it only matters that it is no lead.
+            last = 0;
+            rest = after;
+        } else {
+            let (count, end, after) = count_piece(last, rest);
+            len += count as usize;
+            last = end;
+            rest = after;
+        }
     }
     len
 }
@@ -206,7 +123,8 @@ fn count_piece(before: u16, units: &[u16]) -> (u16, u16, &[u16])
 // branch, so that several are counted at once.
 #[inline]
 fn len_behind(last: u16, unit: u16) -> u16
-    ensures bytes { result ≡ (if is_high_surrogate last && is_low_surrogate unit then 1 else length (encode_utf8 unit)) }
+    ensures bytes { result
+        ≡ (if is_high_surrogate last && is_low_surrogate unit then 1 else length (encode_utf8 unit)) }
     ensures few { result ≤ 3 }
 {
     if is_lead(last) & is_trail(unit) {
@@ -243,17 +161,15 @@ pub fn encode_wtf8(units: &[u16], bytes: &mut [u8])
             put_ascii(bytes, at, ascii);
             at += BLOCK;
             rest = after;
-        } else if let Some((code, after)) = split_units(rest) {
-            at = put_code_point(bytes, at, code);
-            rest = after;
-        } else {
+        } else if rest.is_empty() {
             return;
+        } else {
+            let (end, after) = put_next(bytes, at, rest);
+            at = end;
+            rest = after;
         }
     }
 }
-
-// How many units or bytes a block has.
-const BLOCK: usize = 16;
 
 // The first `BLOCK` units, if all are ASCII, and those after them. If the first isn't one, the others aren't read.
 #[inline]
@@ -290,6 +206,47 @@ fn put_ascii(bytes: &mut [u8], at: usize, units: &[u16])
     u16x16::from_slice(units)
         .cast::<u8>()
         .copy_to_slice(&mut bytes[at..]);
+}
+
+// Writes the WTF-8 of the first units: of a block if none of its units is a surrogate and there is room for it. Returns
+// the offset after it, and the units after them.
+#[inline]
+fn put_next<'a>(bytes: &mut [u8], at: usize, units: &'a [u16]) -> (usize, &'a [u16])
+    requires { at + length (wtf8 units.now) ≡ length bytes.old }
+    ensures place { result.0 + length (wtf8 result.1.now) ≡ length bytes.old }
+    ensures bytes { take result.0 bytes.new ++ wtf8 result.1.now ≡ take at bytes.old ++ wtf8 units.now }
+    ensures shorter { 0 < length units.now → length result.1.now < length units.now }
+{
+    if units.len() >= BLOCK && bytes.len() - at >= ROOM {
+        let (front, after) = units.split_at(BLOCK);
+        let (low, high) = low_high(front);
+        if !has_surrogate(high) {
+            let end = encode_block(bytes, at, low, high);
+            return (end, after);
+        }
+    }
+    put_some(bytes, at, units)
+}
+
+// Writes the WTF-8 of the first `BLOCK` units, one code point after another. Returns the offset after it, and the units
+// after them.
+fn put_some<'a>(bytes: &mut [u8], start: usize, units: &'a [u16]) -> (usize, &'a [u16])
+    requires { start + length (wtf8 units.now) ≡ length bytes.old }
+    ensures place { result.0 + length (wtf8 result.1.now) ≡ length bytes.old }
+    ensures bytes { take result.0 bytes.new ++ wtf8 result.1.now ≡ take start bytes.old ++ wtf8 units.now }
+    ensures shorter { 0 < length units.now → length result.1.now < length units.now }
+{
+    let end = units.len().saturating_sub(BLOCK);
+    let mut at = start;
+    let mut rest = units;
+    while let Some((code, after)) = split_units(rest) {
+        at = put_code_point(bytes, at, code);
+        rest = after;
+        if rest.len() <= end {
+            return (at, rest);
+        }
+    }
+    (at, rest)
 }
 
 // Splits off the first code point: a lead and the trail right after it are one code point, any other unit is one by

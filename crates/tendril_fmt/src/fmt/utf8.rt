@@ -53,7 +53,8 @@ impl CharFormat for UTF8 {
     ghost use Rattle.std.specs.Prelude.{encode_utf8, chars};
     ghost use Rattle.std.specs.Char.{IsScalar};
     ghost use Rattle.std.proofs.lemmas.Str.{chars-nil, IsUtf8-encode};
-    ghost use Rattle.tendril_fmt.specs.Proved.Characters.{encodings-chars, All-scalars, AreTextsOf-utf8, encode_utf8-bounds};
+    ghost use Rattle.tendril_fmt.specs.Proved.Characters.{encodings-chars, All-scalars, AreTextsOf-utf8};
+    ghost use Rattle.tendril_fmt.specs.Proved.Characters.{encode_utf8-bounds};
 
     ghost chars = { chars };
 
@@ -92,7 +93,8 @@ impl CharFormat for UTF8 {
 
 impl CutsAtAscii for UTF8 {
     ghost use Rattle.std.specs.Prelude.{◌+◌};
-    ghost use Rattle.std.proofs.lemmas.Str.{IsCharBoundary-before_ascii, IsCharBoundary-after_ascii, IsUtf8-take, IsUtf8-drop};
+    ghost use Rattle.std.proofs.lemmas.Str.{IsCharBoundary-before_ascii, IsCharBoundary-after_ascii, IsUtf8-take};
+    ghost use Rattle.std.proofs.lemmas.Str.{IsUtf8-drop};
 
     ghost ascii_cut = { λ bytes n v l a. (
       IsUtf8-take bytes n v (IsCharBoundary-before_ascii bytes n l a),

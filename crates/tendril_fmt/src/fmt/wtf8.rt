@@ -1,5 +1,6 @@
 //! WTF-8.
-ghost use Rattle.std.specs.Prelude.{◌≡◌, ◌+◌, ◌*◌, ◌-◌, ◌<◌, ◌≤◌, ◌∷◌, [], ◌++◌, ℕ, List, MatchOption, length, encode_utf8};
+ghost use Rattle.std.specs.Prelude.{◌≡◌, ◌+◌, ◌*◌, ◌-◌, ◌<◌, ◌≤◌, ◌∷◌, [], ◌++◌, ℕ, List, MatchOption, length};
+ghost use Rattle.std.specs.Prelude.{encode_utf8};
 ghost use Rattle.std.specs.Char.Utf16.{surrogate_pair_char};
 ghost use Rattle.tendril_fmt.specs.CodePoints.{EndsWithCodePoint, BeginsWithCodePoint};
 

@@ -1,6 +1,7 @@
 //! One code point from its bytes.
 ghost use Rattle.std.specs.Prelude.{◌≡◌, ◌∷◌, [], ◌<◌, ◌↔◌, IsTrue, MatchOption};
-ghost use Rattle.tendril_fmt.specs.CodePoints.{IsContinuation, sequence_len, IsMeaningOf, IsDecoded, EncodeNone, Encode, SplitsIntoNone, SplitsInto};
+ghost use Rattle.tendril_fmt.specs.CodePoints.{IsContinuation, sequence_len, IsMeaningOf, IsDecoded, EncodeNone};
+ghost use Rattle.tendril_fmt.specs.CodePoints.{Encode, SplitsIntoNone, SplitsInto};
 ghost use Rattle.tendril_fmt.specs.Units.{SplitsText};
 ghost use Rattle.tendril_fmt.specs.Wtf8.{IsWtf8};
 

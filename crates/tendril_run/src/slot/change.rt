@@ -37,7 +37,8 @@ impl<A: Atomicity> Slot<A> {
 
     // Puts a character at the end of the text.
     fn push_char(&mut self, character: char) -> Result<(), Refusal>
-        ensures changed { Changes (change_rule (Change.PushChar character)) (cell_of self.old) result (cell_of self.new) }
+        ensures changed { Changes (change_rule (Change.PushChar character)) (cell_of self.old) result
+            (cell_of self.new) }
         ensures kept { IsCell (cell_of self.old) → IsCell (cell_of self.new) }
     {
         on_characters!(self, text => text::push_char(text, character))

@@ -12,7 +12,8 @@ use tendril_text::block::Refusal;
 impl<A: Atomicity> Slot<A> {
     // Changes the text's format.
     pub(super) fn convert(&mut self, conversion: Conversion) -> Result<(), Refusal>
-        ensures changed { Changes (change_rule (Change.Convert conversion)) (cell_of self.old) result (cell_of self.new) }
+        ensures changed { Changes (change_rule (Change.Convert conversion)) (cell_of self.old) result
+            (cell_of self.new) }
         ensures kept { IsCell (cell_of self.old) → IsCell (cell_of self.new) }
     {
         let old = mem::replace(self, Slot::Gone);

@@ -48,7 +48,8 @@ impl<A: Atomicity> Table<A> {
     fn add_made(&mut self, made: Result<Slot<A>, Refusal>) -> Result<Reply, Refusal>
         requires { 1 ≤ self.old.room }
         ensures added { MatchResult made
-            (λ slot. (result ≡ Ok (Reply.Made (length self.old.cells))) × (self.new.cells ≡ self.old.cells ++ cell_of slot ∷ []))
+            (λ slot. (result ≡ Ok (Reply.Made (length self.old.cells)))
+            × (self.new.cells ≡ self.old.cells ++ cell_of slot ∷ []))
             (λ refusal. (result ≡ Err refusal) × (self.new.cells ≡ self.old.cells)) }
         ensures plain { IsNoRefusal result }
         ensures room { self.old.room ≤ self.new.room + 1 }
@@ -83,7 +84,8 @@ impl<A: Atomicity> Table<A> {
     }
 
     fn pop_char(&mut self, slot: usize) -> Result<Reply, Refusal>
-        ensures outcome { (class : _) → CommandOutcome class self.old.cells (Command.PopChar slot) result self.new.cells }
+        ensures outcome { (class : _) → CommandOutcome class self.old.cells
+            (Command.PopChar slot) result self.new.cells }
         ensures plain { IsNoRefusal result }
         ensures room { self.old.room ≤ self.new.room }
     {
@@ -95,7 +97,8 @@ impl<A: Atomicity> Table<A> {
 
     fn pop_run<C: Classifier>(&mut self, slot: usize, classifier: &C) -> Result<Reply, Refusal>
         requires { 1 ≤ self.old.room }
-        ensures outcome { CommandOutcome (C.class classifier.now) self.old.cells (Command.PopRun slot) result self.new.cells }
+        ensures outcome { CommandOutcome (C.class classifier.now) self.old.cells
+            (Command.PopRun slot) result self.new.cells }
         ensures plain { IsNoRefusal result }
         ensures room { self.old.room ≤ self.new.room + 1 }
     {
@@ -182,7 +185,8 @@ impl<A: Atomicity> Table<A> {
     }
 
     fn compare(&self, first: usize, second: usize) -> Result<Reply, Refusal>
-        ensures outcome { (class : _) → CommandOutcome class self.now.cells (Command.Compare first second) result self.now.cells }
+        ensures outcome { (class : _) → CommandOutcome class self.now.cells
+            (Command.Compare first second) result self.now.cells }
         ensures plain { IsNoRefusal result }
     {
         Ok(Reply::Compared(self.there(first)?.compare(self.there(second)?)?))

@@ -1,5 +1,6 @@
 //! Moving bytes to the start of their block, over those that were popped, or into a block of their own.
-ghost use Rattle.std.specs.Prelude.{◌≡◌, ◌<◌, ◌≤◌, ◌+◌, ◌++◌, ◌⊎◌, length, take, drop, true, false, IfOk, IfErr, IfSome, OnSome, IfNone, OnErr};
+ghost use Rattle.std.specs.Prelude.{◌≡◌, ◌<◌, ◌≤◌, ◌+◌, ◌++◌, ◌⊎◌, length, take, drop, true, false, IfOk, IfErr};
+ghost use Rattle.std.specs.Prelude.{IfSome, OnSome, IfNone, OnErr};
 ghost use Rattle.tendril_block.specs.Outcomes.{MemoryMay};
 ghost use Rattle.tendril_block.specs.Tail.{tail_bytes};
 
@@ -8,8 +9,8 @@ use tendril_block::{Atomicity, INLINE_LEN, MAX_LEN, Refusal, Tail};
 
 impl<A: Atomicity> Storage<A> {
     /// Copies the bytes into a block of their own if they are a small part of their block, or it has other references:
-    /// then this storage keeps no larger block alive. Up to 8 bytes in a block become inline. Else does nothing. Returns
-    /// `Memory` if an allocation fails; then nothing has changed.
+    /// then this storage keeps no larger block alive. Up to 8 bytes in a block become inline. Else does nothing.
+    /// Returns `Memory` if an allocation fails; then nothing has changed.
     pub fn compact(&mut self) -> Result<(), Refusal>
         ensures bytes { self.new.bytes ≡ self.old.bytes }
         ensures copied { (self.new.copied ≡ self.old.copied) ⊎ (self.new.copied ≡ length self.old.bytes) }

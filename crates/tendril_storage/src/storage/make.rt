@@ -38,8 +38,8 @@ impl<A: Atomicity> Storage<A> {
         Self::in_block(alloc, bytes)
     }
 
-    /// Stores a copy of at most 8 bytes inline. Allocates nothing. It is inlined into the caller: constant bytes are one
-    /// word there, with no call.
+    /// Stores a copy of at most 8 bytes inline. Allocates nothing. It is inlined into the caller: constant bytes are
+    /// one word there, with no call.
     #[inline(always)]
     pub fn few(alloc: Global, bytes: &[u8]) -> Self
         requires { length bytes.now ≤ INLINE_LEN }

@@ -1,5 +1,6 @@
 //! Replacing the end of stored bytes: in their block, if this is its only reference, else in a copy.
-ghost use Rattle.std.specs.Prelude.{◌≡◌, ◌<◌, ◌≤◌, ◌+◌, ◌++◌, length, take, replicate, max, true, false, IfErr, OnOk, OnErr};
+ghost use Rattle.std.specs.Prelude.{◌≡◌, ◌<◌, ◌≤◌, ◌+◌, ◌++◌, length, take, replicate, max, true, false, IfErr, OnOk};
+ghost use Rattle.std.specs.Prelude.{OnErr};
 ghost use Rattle.tendril_block.specs.Outcomes.{MemoryMay};
 ghost use Rattle.tendril_block.specs.Tail.{tail_bytes};
 
@@ -86,9 +87,9 @@ impl<A: Atomicity> Storage<A> {
         }
     }
 
-    // Appends `more` to the first `keep` bytes without moving them, and returns whether it did. It does if these are all
-    // bytes of the block, it has no other reference, and the bytes are in a vector with the spare capacity: the usual
-    // case of a push onto a long text.
+    // Appends `more` to the first `keep` bytes without moving them, and returns whether it did. It does if these are
+    // all bytes of the block, it has no other reference, and the bytes are in a vector with the spare capacity: the
+    // usual case of a push onto a long text.
     #[tactic(auto, using(crate::proofs::Views::replaces))]
     #[inline(always)]
     fn try_append_in_place(&mut self, keep: usize, more: &[u8]) -> bool

@@ -43,8 +43,8 @@ impl<'s, F: CharFormat + CutsAtAscii, A: Atomicity> Iterator for SplitAtAny<'s, 
 }
 
 impl<F: CharFormat, A: Atomicity> Tendril<F, A> {
-    /// Returns an iterator of the characters of the set and of the texts between them, each as `pop_except_from` returns it. It
-    /// owns the text.
+    /// Returns an iterator of the characters of the set and of the texts between them, each as `pop_except_from`
+    /// returns it. It owns the text.
     ///
     /// Allocates nothing: parts of more than 8 bytes share the block. An item is `Count` only if the part and the text
     /// after it both have more than 8 bytes and the block as many references as it can have; no item follows it, and

@@ -43,8 +43,8 @@ impl<F: CharFormat, A: Atomicity, C: FnMut(char) -> R, R: PartialEq + Drop> Iter
 }
 
 impl<F: CharFormat, A: Atomicity> Tendril<F, A> {
-    /// Returns an iterator of the runs of characters of one class, each with its class as `pop_front_char_run` returns it. It
-    /// owns the text.
+    /// Returns an iterator of the runs of characters of one class, each with its class as `pop_front_char_run` returns
+    /// it. It owns the text.
     ///
     /// Allocates nothing: runs of more than 8 bytes share the block. An item is `Count` only if the run and the text
     /// after it both have more than 8 bytes and the block as many references as it can have; no item follows it, and

@@ -47,7 +47,8 @@ impl<'s, F: CutsAtAscii, A: Atomicity> Iterator for IntoSplit<'s, F, A> {
 }
 
 impl<F: CutsAtAscii, A: Atomicity> Tendril<F, A> {
-    /// Returns an iterator of the texts between the bytes of the set, empty ones too, as `str::split` does. It owns the text.
+    /// Returns an iterator of the texts between the bytes of the set, empty ones too, as `str::split` does. It owns the
+    /// text.
     ///
     /// Allocates nothing: parts of more than 8 bytes share the block. An item is `Count` only if the part and the text
     /// after it both have more than 8 bytes and the block as many references as it can have; no item follows it, and

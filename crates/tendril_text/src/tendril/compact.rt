@@ -15,9 +15,9 @@ impl<F: Format, A: Atomicity> Tendril<F, A> {
     /// A slice keeps its whole block alive, as does what a pop or a split leaves. Call this on a text that you keep
     /// longer than the one that it was cut from.
     ///
-    /// Does nothing if the text is stored inline, or if no other text shares its block and the block has at most twice as
-    /// many other bytes plus 64; spare capacity stays. Else takes one pass, and allocates only for more than 8 bytes.
-    /// Returns `Memory` if that fails; then nothing has changed.
+    /// Does nothing if the text is stored inline, or if no other text shares its block and the block has at most twice
+    /// as many other bytes plus 64; spare capacity stays. Else takes one pass, and allocates only for more than 8
+    /// bytes. Returns `Memory` if that fails; then nothing has changed.
     ///
     /// ```
     /// let page = StrTendril::from_slice(alloc, "a long page, and a part is kept")?;
@@ -38,7 +38,8 @@ impl<F: Format, A: Atomicity> Tendril<F, A> {
     /// Returns a text with the same bytes that shares no block: up to 8 bytes are inline, more are in a block of their
     /// own, without spare capacity.
     ///
-    /// Takes one pass, and allocates only for more than 8 bytes. Returns `Memory` if that fails. `clone` copies nothing.
+    /// Takes one pass, and allocates only for more than 8 bytes. Returns `Memory` if that fails. `clone` copies
+    /// nothing.
     ///
     /// ```
     /// let page = StrTendril::from_slice(alloc, "a page to keep")?;

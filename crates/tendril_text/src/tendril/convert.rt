@@ -39,7 +39,8 @@ impl<F: Format, A: Atomicity> Tendril<F, A> {
         }
     }
 
-    /// Turns the text into one of a format that its own contains, or returns the text unchanged if it isn't valid there.
+    /// Turns the text into one of a format that its own contains, or returns the text unchanged if it isn't valid
+    /// there.
     ///
     /// Validates in one pass, and copies nothing.
     ///

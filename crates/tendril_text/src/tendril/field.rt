@@ -1,5 +1,6 @@
 //! Splitting a text at the first occurrence of a byte.
-ghost use Rattle.std.specs.Prelude.{◌≡◌, ◌<◌, ◌≤◌, ◌+◌, ◌++◌, ◌∷◌, [], length, take, drop, IfOk, IfErr, IfSome, IfNone, OnErr, IsTrue, IsFalse};
+ghost use Rattle.std.specs.Prelude.{◌≡◌, ◌<◌, ◌≤◌, ◌+◌, ◌++◌, ◌∷◌, [], length, take, drop, IfOk, IfErr, IfSome, IfNone};
+ghost use Rattle.std.specs.Prelude.{OnErr, IsTrue, IsFalse};
 ghost use Rattle.std.specs.Str.Iter.{LacksByte};
 ghost use Rattle.memchr.specs.Find.{is_byte};
 ghost use Rattle.tendril_storage.specs.Texts.{Parts, Shares};
@@ -41,9 +42,9 @@ impl<F: CutsAtAscii, A: Atomicity> Tendril<F, A> {
     /// The last field may be empty, so the text's end doesn't tell it: "a,b," has the fields "a", "b" and "", and an
     /// empty text has one.
     ///
-    /// Returns `Count` if the field has more than 8 bytes, more than 8 bytes with the separator follow it, and the block
-    /// has as many references as it can have; then nothing has changed. Takes one pass up to the separator, by `memchr`.
-    /// Allocates nothing: sides of more than 8 bytes keep sharing the block.
+    /// Returns `Count` if the field has more than 8 bytes, more than 8 bytes with the separator follow it, and the
+    /// block has as many references as it can have; then nothing has changed. Takes one pass up to the separator, by
+    /// `memchr`. Allocates nothing: sides of more than 8 bytes keep sharing the block.
     ///
     /// ```
     /// let mut request = StrTendril::from_slice(alloc, "GET /index.html")?;
@@ -74,8 +75,8 @@ impl<F: CutsAtAscii, A: Atomicity> Tendril<F, A> {
 
     /// Returns the bytes before the first `byte`, a separator in ASCII, and those after it, or `None` if there is none.
     ///
-    /// Returns `Count` if a side has more than 8 bytes and the block as many references as it can have. Takes one pass up
-    /// to the separator, by `memchr`. Allocates nothing: sides of more than 8 bytes share the block.
+    /// Returns `Count` if a side has more than 8 bytes and the block as many references as it can have. Takes one pass
+    /// up to the separator, by `memchr`. Allocates nothing: sides of more than 8 bytes share the block.
     ///
     /// `str::split_once` takes a character, a string or a closure: `text.as_str().split_once("=>")`.
     ///

@@ -49,8 +49,8 @@ impl<F: Format, A: Atomicity> Tendril<F, A> {
 
     /// Returns a text with a copy of the bytes if they are valid in the format.
     ///
-    /// Returns `Invalid` if they aren't, else `TooLong` if there are more than 4294967295, else `Memory` if an allocation fails.
-    /// Validates and copies in one pass each, and allocates only for more than 8 bytes.
+    /// Returns `Invalid` if they aren't, else `TooLong` if there are more than 4294967295, else `Memory` if an
+    /// allocation fails. Validates and copies in one pass each, and allocates only for more than 8 bytes.
     ///
     /// ```
     /// let text = StrTendril::try_from_byte_slice(alloc, b"abc")?;
@@ -85,8 +85,8 @@ impl<F: Format, A: Atomicity> Tendril<F, A> {
 
     /// Returns another text with the same bytes. More than 8 bytes are shared, not copied.
     ///
-    /// Takes constant time and allocates nothing. Returns `Count` if the block has as many references as it can have, which is
-    /// possible only for more than 8 bytes.
+    /// Takes constant time and allocates nothing. Returns `Count` if the block has as many references as it can have,
+    /// which is possible only for more than 8 bytes.
     ///
     /// ```
     /// let text = StrTendril::from_slice(alloc, "shared by both")?;
@@ -146,8 +146,8 @@ impl<F: Format, A: Atomicity> MadeWith<Global> for Tendril<F, A> {
 impl<A: Atomicity> Tendril<Bytes, A> {
     /// Returns a text with a copy of the bytes.
     ///
-    /// Returns `TooLong` if there are more than 4294967295, else `Memory` if an allocation fails. Allocates only for more than
-    /// 8 bytes.
+    /// Returns `TooLong` if there are more than 4294967295, else `Memory` if an allocation fails. Allocates only for
+    /// more than 8 bytes.
     ///
     /// ```
     /// let text = ByteTendril::from_slice(alloc, b"\xFF\x00")?;
@@ -164,8 +164,8 @@ impl<A: Atomicity> Tendril<Bytes, A> {
 impl<A: Atomicity> Tendril<UTF8, A> {
     /// Returns a text with a copy of the string.
     ///
-    /// Returns `TooLong` if it has more than 4294967295 bytes, else `Memory` if an allocation fails. Allocates only for more
-    /// than 8 bytes.
+    /// Returns `TooLong` if it has more than 4294967295 bytes, else `Memory` if an allocation fails. Allocates only for
+    /// more than 8 bytes.
     ///
     /// ```
     /// let text = StrTendril::from_slice(alloc, "a copy of the string")?;
@@ -198,10 +198,11 @@ impl<A: Atomicity> Tendril<UTF8, A> {
         }
     }
 
-    /// Turns a `String` into a text. More than 8 bytes aren't copied: the text keeps the string's allocation and its capacity.
+    /// Turns a `String` into a text. More than 8 bytes aren't copied: the text keeps the string's allocation and its
+    /// capacity.
     ///
-    /// Takes constant time, and allocates only the block's header. Returns `TooLong` if the string has more than 4294967295
-    /// bytes, else `Memory` if that allocation fails.
+    /// Takes constant time, and allocates only the block's header. Returns `TooLong` if the string has more than
+    /// 4294967295 bytes, else `Memory` if that allocation fails.
     ///
     /// ```
     /// let string = String::from_str(alloc, "not copied again")?;

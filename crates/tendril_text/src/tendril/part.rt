@@ -31,10 +31,11 @@ impl<F: Format, A: Atomicity> Tendril<F, A> {
         try_part(&self.storage, offset, count)
     }
 
-    /// Returns a text of the `count` bytes from `offset` on, which the caller proves to be there and valid in the format.
+    /// Returns a text of the `count` bytes from `offset` on, which the caller proves to be there and valid in the
+    /// format.
     ///
-    /// Returns `Count` if the slice has more than 8 bytes and the block as many references as it can have. Takes constant time
-    /// and allocates nothing: more than 8 bytes are shared.
+    /// Returns `Count` if the slice has more than 8 bytes and the block as many references as it can have. Takes
+    /// constant time and allocates nothing: more than 8 bytes are shared.
     ///
     /// ```
     /// let text = StrTendril::from_slice(alloc, "0123456789")?;
@@ -87,8 +88,8 @@ impl<F: Format, A: Atomicity> Tendril<F, A> {
     /// Removes the first `count` bytes and returns them. The caller proves that they are there and that both sides are
     /// valid.
     ///
-    /// Returns `Count` if both have more than 8 bytes and the block as many references as it can have; then nothing has changed.
-    /// Takes constant time and allocates nothing.
+    /// Returns `Count` if both have more than 8 bytes and the block as many references as it can have; then nothing has
+    /// changed. Takes constant time and allocates nothing.
     ///
     /// ```
     /// let mut text = StrTendril::from_slice(alloc, "key=value")?;

@@ -12,8 +12,8 @@ impl<F: Format, A: Atomicity> Tendril<F, A> {
 
     /// Drops the first `count` bytes, if they are there and the remainder is valid in the format.
     ///
-    /// Returns `OutOfBounds` if the text has fewer, else `ValidationFailed` if the remainder isn't valid; then nothing has
-    /// changed. Takes constant time and allocates nothing.
+    /// Returns `OutOfBounds` if the text has fewer, else `ValidationFailed` if the remainder isn't valid; then nothing
+    /// has changed. Takes constant time and allocates nothing.
     ///
     /// ```
     /// let mut text = StrTendril::from_slice(alloc, "é!")?;
@@ -37,8 +37,8 @@ impl<F: Format, A: Atomicity> Tendril<F, A> {
 
     /// Drops the last `count` bytes, if they are there and the remainder is valid in the format.
     ///
-    /// Returns `OutOfBounds` if the text has fewer, else `ValidationFailed` if the remainder isn't valid; then nothing has
-    /// changed. Takes constant time and allocates nothing.
+    /// Returns `OutOfBounds` if the text has fewer, else `ValidationFailed` if the remainder isn't valid; then nothing
+    /// has changed. Takes constant time and allocates nothing.
     ///
     /// ```
     /// let mut text = StrTendril::from_slice(alloc, "hello!")?;
@@ -96,10 +96,11 @@ impl<F: Format, A: Atomicity> Tendril<F, A> {
         self.unsafe_pop_back(count);
     }
 
-    /// Drops all bytes from `len` on, if those before them are valid in the format. Does nothing if the text has no more
-    /// than `len` bytes.
+    /// Drops all bytes from `len` on, if those before them are valid in the format. Does nothing if the text has no
+    /// more than `len` bytes.
     ///
-    /// Returns `ValidationFailed` if they aren't valid; then nothing has changed. Takes constant time and allocates nothing.
+    /// Returns `ValidationFailed` if they aren't valid; then nothing has changed. Takes constant time and allocates
+    /// nothing.
     ///
     /// ```
     /// let mut text = StrTendril::from_slice(alloc, "café")?;

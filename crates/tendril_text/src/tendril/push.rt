@@ -9,9 +9,9 @@ use tendril_fmt::fmt::{Bytes, Format, UTF8};
 impl<F: Format, A: Atomicity> Tendril<F, A> {
     /// Appends bytes by the format's join if they are valid by themselves.
     ///
-    /// Returns `Invalid` if they aren't, else `TooLong` if the text would have more than 4294967295 bytes, else `Memory` if an
-    /// allocation fails; then nothing has changed. In most formats the join is concatenation. In WTF-8 a trail surrogate that
-    /// follows a lead becomes one character with it (the WTF-8 specification, 'Concatenating').
+    /// Returns `Invalid` if they aren't, else `TooLong` if the text would have more than 4294967295 bytes, else
+    /// `Memory` if an allocation fails; then nothing has changed. In most formats the join is concatenation. In WTF-8 a
+    /// trail surrogate that follows a lead becomes one character with it (the WTF-8 specification, 'Concatenating').
     ///
     /// A text that is its block's only reference grows in place; if far more bytes were popped off its start than are
     /// left, it moves to the start of the block. Any other text is copied to a new block first. n pushes of one byte
@@ -34,8 +34,8 @@ impl<F: Format, A: Atomicity> Tendril<F, A> {
 
     /// Appends bytes by the format's join, which the caller proves to be valid by themselves.
     ///
-    /// Returns `TooLong` if the text would have more than 4294967295 bytes, else `Memory` if an allocation fails; then nothing
-    /// has changed. Costs what `try_push_bytes` costs, without the validation.
+    /// Returns `TooLong` if the text would have more than 4294967295 bytes, else `Memory` if an allocation fails; then
+    /// nothing has changed. Costs what `try_push_bytes` costs, without the validation.
     pub fn push_bytes_without_validating(&mut self, more: &[u8]) -> Result<(), Refusal>
         requires { F.valid more.now }
         ensures { Joins F.join more.now self.old result self.new }
@@ -84,7 +84,8 @@ impl<F: Format, A: Atomicity> Tendril<F, A> {
     fn try_grow_over(&mut self, more: &[u8]) -> bool
         requires { F.valid more.now }
         ensures bytes { result ≡ true → self.new.bytes ≡ F.join self.old.bytes more.now }
-        ensures fits { result ≡ true → length (F.join self.old.bytes more.now) ≤ length self.old.bytes + length more.now }
+        ensures fits { result ≡ true → length (F.join self.old.bytes more.now) ≤ length self.old.bytes + length
+            more.now }
         ensures within { result ≡ true → length (F.join self.old.bytes more.now) ≤ MAX_LEN }
         ensures copied { self.new.copied ≡ self.old.copied }
         ensures unchanged { result ≡ false → self.new ≡ self.old }
@@ -105,8 +106,8 @@ impl<F: Format, A: Atomicity> Tendril<F, A> {
 
     /// Reserves capacity for `more` further bytes. The text's bytes don't change.
     ///
-    /// Returns `TooLong` if the text would have more than 4294967295 bytes with them, else `Memory` if an allocation fails. Does
-    /// nothing for a shared text, whose next push may copy it. Contracts don't see capacity.
+    /// Returns `TooLong` if the text would have more than 4294967295 bytes with them, else `Memory` if an allocation
+    /// fails. Does nothing for a shared text, whose next push may copy it. Contracts don't see capacity.
     ///
     /// ```
     /// let mut text = StrTendril::from_slice(alloc, "abc")?;
@@ -140,8 +141,8 @@ impl<F: Format, A: Atomicity> Tendril<F, A> {
 impl<A: Atomicity> Tendril<Bytes, A> {
     /// Appends bytes.
     ///
-    /// Returns `TooLong` if the text would have more than 4294967295 bytes, else `Memory` if an allocation fails; then nothing
-    /// has changed. Grows in place or copies as `try_push_bytes` does.
+    /// Returns `TooLong` if the text would have more than 4294967295 bytes, else `Memory` if an allocation fails; then
+    /// nothing has changed. Grows in place or copies as `try_push_bytes` does.
     ///
     /// ```
     /// let mut text = ByteTendril::from_slice(alloc, b"ab")?;
@@ -177,8 +178,8 @@ impl<A: Atomicity> Tendril<Bytes, A> {
 impl<A: Atomicity> Tendril<UTF8, A> {
     /// Appends a string.
     ///
-    /// Returns `TooLong` if the text would have more than 4294967295 bytes, else `Memory` if an allocation fails; then nothing
-    /// has changed. Grows in place or copies as `try_push_bytes` does, and validates nothing.
+    /// Returns `TooLong` if the text would have more than 4294967295 bytes, else `Memory` if an allocation fails; then
+    /// nothing has changed. Grows in place or copies as `try_push_bytes` does, and validates nothing.
     ///
     /// ```
     /// let mut text = StrTendril::from_slice(alloc, "hello, ")?;

@@ -48,8 +48,8 @@ impl<F: Format> SendTendril<F> {
 impl<F: Format, A: Atomicity> Tendril<F, A> {
     /// Turns the text into one that may be sent to another thread.
     ///
-    /// A text that is the only reference to its block, and has all of the block's bytes, is moved in constant time. Any other of
-    /// more than 8 bytes is copied. Returns `Memory` and the text if an allocation for that fails.
+    /// A text that is the only reference to its block, and has all of the block's bytes, is moved in constant time. Any
+    /// other of more than 8 bytes is copied. Returns `Memory` and the text if an allocation for that fails.
     ///
     /// ```
     /// let sent = StrTendril::from_slice(alloc, "to another thread")?.into_send()?;

@@ -13,9 +13,9 @@ impl<F: CutsAtAscii, A: Atomicity> Tendril<F, A> {
     /// Returns the text without the ASCII white space at both ends, as `str::trim_ascii` does: tabs, line feeds, form
     /// feeds, carriage returns and spaces.
     ///
-    /// `str::trim` leaves out all Unicode white space. Returns `Count` if the result has more than 8 bytes and the block
-    /// as many references as it can have. Reads up to the first byte at each end that stays. Allocates nothing: more
-    /// than 8 bytes are shared.
+    /// `str::trim` leaves out all Unicode white space. Returns `Count` if the result has more than 8 bytes and the
+    /// block as many references as it can have. Reads up to the first byte at each end that stays. Allocates nothing:
+    /// more than 8 bytes are shared.
     ///
     /// ```
     /// let line = StrTendril::from_slice(alloc, "\t key = value \r\n")?;

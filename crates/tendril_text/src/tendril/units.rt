@@ -32,8 +32,8 @@ impl<A: Atomicity> Tendril<WTF8, A> {
     /// Returns the text of UTF-16 units in WTF-8: a lead surrogate and the trail right after it are one character of
     /// four bytes, a lone surrogate is three bytes (the WTF-8 specification).
     ///
-    /// Returns `TooLong` if it would have more than 4294967295 bytes, else `Memory` if an allocation fails. Allocates only for
-    /// more than 8 bytes. Takes one pass to count the bytes and one to write them.
+    /// Returns `TooLong` if it would have more than 4294967295 bytes, else `Memory` if an allocation fails. Allocates
+    /// only for more than 8 bytes. Takes one pass to count the bytes and one to write them.
     ///
     /// ```
     /// let text = Tendril::<WTF8>::from_units(alloc, &[0xE9, 0xD83D, 0xDE00])?;

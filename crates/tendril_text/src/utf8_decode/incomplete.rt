@@ -36,7 +36,8 @@ impl Model for IncompleteUtf8 {
 }
 
 impl IncompleteUtf8 {
-    /// Returns the bytes as incomplete ones if they begin a character and end within it, or if there are none; else `None`.
+    /// Returns the bytes as incomplete ones if they begin a character and end within it, or if there are none; else
+    /// `None`.
     ///
     /// Reads at most four bytes, and allocates nothing.
     ///
@@ -136,8 +137,8 @@ impl IncompleteUtf8 {
         }
     }
 
-    /// Completes the bytes from the start of a piece, removes what it takes from the piece and returns what the bytes became; or
-    /// returns `None` if they are still incomplete.
+    /// Completes the bytes from the start of a piece, removes what it takes from the piece and returns what the bytes
+    /// became; or returns `None` if they are still incomplete.
     ///
     /// They become what `try_to_complete_codepoint` returns. On `None` the piece's bytes are kept too, and the piece
     /// hasn't changed. Allocates nothing.
@@ -203,8 +204,8 @@ impl IncompleteUtf8 {
 
     /// Completes the bytes from the start of a piece, and passes the text or U+FFFD to a borrowed closure.
     ///
-    /// Returns `Err(())` if the bytes are still incomplete: then the piece's bytes are kept too, and the piece and the closure
-    /// haven't changed. Allocates nothing.
+    /// Returns `Err(())` if the bytes are still incomplete: then the piece's bytes are kept too, and the piece and the
+    /// closure haven't changed. Allocates nothing.
     ///
     /// ```
     /// let mut kept = IncompleteUtf8::new_without_validating(b"\xC3");

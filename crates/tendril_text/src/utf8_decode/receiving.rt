@@ -87,7 +87,8 @@ pub fn replace_by<W: Receiving<S, Tendril<UTF8, A>>, S, A: Atomicity>(
     words: &'static str,
 ) -> Result<(), Refusal>
     requires { W.is_ready receiver.old }
-    ensures ok { (piece : _) → OnOk result (Feeds W.takes (IsSentOf piece) receiver.old (replaced words.now) receiver.new) }
+    ensures ok { (piece : _) → OnOk result (Feeds W.takes (IsSentOf piece) receiver.old
+        (replaced words.now) receiver.new) }
     ensures err { (piece : _) → IfErr result (λ r.
         Stops W.takes W.refuses (IsSentOf piece) no_other receiver.old (replaced words.now) r receiver.new) }
     ensures ready { W.is_ready receiver.new }

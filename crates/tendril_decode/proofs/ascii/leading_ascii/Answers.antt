@@ -1,7 +1,7 @@
 use Rattle.std.proofs.Common.{◌≡◌, ℕ, ◌<◌, ◌≤◌, false, get_or, replicate, arith}
 use Rattle.std.specs.Simd.Lanes.{top}
 use Rattle.tendril_decode.proofs.Lanes.{below}
-use Rattle.tendril_decode.proofs.Utf16Lanes.{at_most, lanes_own, lanes_splat, lanes_zip, before_set}
+use Rattle.tendril_fmt.proofs.Lanes.{at_most, lanes_own, lanes_splat, lanes_zip, before_set}
 use Rattle.tendril_decode.proofs.ascii.leading_ascii.Goals as goal
 
 found : (c : goal.After-first_set) → (c.first_set.result ≤ 16)

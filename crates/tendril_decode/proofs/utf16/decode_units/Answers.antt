@@ -17,9 +17,9 @@ put_code_point-at-requires-then-run-eq0-clause-fits c =
     omega (
       arith,
       c.loop-read.invariant.room,
-      c.decode_run-run.ensures.written,
+      c.decode_block-run.ensures.written,
       c.if-run-eq0.true,
-      c.decode_run-run.auto.out,
+      c.decode_block-run.auto.out,
       four_at_most c.unit_of-unit.result,
     )
 
@@ -59,7 +59,7 @@ loop-read-preserved-then-run-eq0 c =
     let read = c.loop-read.read in
     let u = c.unit_of-unit.result in
     let put = c.put_code_point-at-then-run-eq0 in
-    let run = c.decode_run-run in
+    let run = c.decode_block-run in
     let text = take c.loop-read.at c.loop-read.out in
     let same =
     same_text c.loop-read.out run.new.out _ big c.loop-read.at run.result.end run.result.count c.if-run-eq0.true
@@ -87,7 +87,7 @@ loop-read-preserved c =
     let big = c.args.big in
     let input = c.args.input.now in
     let read = c.loop-read.read in
-    let run = c.decode_run-run in
+    let run = c.decode_block-run in
     record {
       from = omega arith;
       within = omega (arith, run.ensures.read, length-rest input read);

@@ -1,0 +1,119 @@
+-- The lanes of vectors of bytes.
+use Rattle.std.proofs.Common.{◌≡◌, ℕ, ◌+◌, ◌*◌, ◌/◌, ◌%◌, ◌^◌, ◌<◌, ◌≤◌, Bool, true, false, not, leb, ltb}
+use Rattle.std.proofs.Common.{eqb, cond, List, length, map, get_or, slice_index, replicate, refl}
+use Rattle.std.proofs.Common.{sym, ap, ap₂, subst, ◌∙◌, arith, bit_or, Fits, w8}
+use Rattle.std.specs.List.{prefix_len, range_with_len}
+use Rattle.std.specs.Simd.Lanes.{zip2, sel_l, mask_l, top, Each1, Each2}
+use Rattle.std.proofs.lemmas.Bool.{not-true}
+use Rattle.std.proofs.lemmas.List.{length-map, get_or-map}
+use Rattle.std.proofs.lemmas.List.Sums.{prefix_len-le-length, prefix_len_passes}
+use Rattle.std.proofs.lemmas.List.FromFn.{fill_by_all}
+use Rattle.std.proofs.lemmas.Simd.{length-sel_l, get_or-sel_l}
+use Rattle.std.proofs.lemmas.Simd.{length-zip2, get_or-zip2, length-replicate, get_or-replicate, mask_l-mod}
+use Rattle.std.proofs.lemmas.Simd.{first_set_mask_l, Each1-get_or, Each1-from_get_or, Each1-all, Each2-splat}
+use Rattle.tendril_fmt.specs.Blocks.{first_set}
+
+-- What vectors of bytes do to two lanes. A comparison gives a mask.
+abbrev pub add : ℕ → ℕ → ℕ
+add a b = (a + b) % 256
+
+abbrev pub mul : ℕ → ℕ → ℕ
+mul a b = a * b % 256
+
+abbrev pub div : ℕ → ℕ → ℕ
+div a b = a / b
+
+abbrev pub rem : ℕ → ℕ → ℕ
+rem a b = a % b
+
+abbrev pub same : ℕ → ℕ → ℕ
+same a b = cond (eqb a b) 255 0
+
+abbrev pub other : ℕ → ℕ → ℕ
+other a b = cond (not (eqb a b)) 255 0
+
+abbrev pub less : ℕ → ℕ → ℕ
+less a b = cond (ltb a b) 255 0
+
+abbrev pub at_most : ℕ → ℕ → ℕ
+at_most a b = cond (leb a b) 255 0
+
+-- A list of n lanes, each by its place.
+pub record IsLanes (n : ℕ) (xs : List ℕ) (f : ℕ → ℕ) : Type 0 where
+  pub long : length xs ≡ n
+  pub lanes : (k : ℕ) → k < n → get_or xs k 0 ≡ f k
+
+pub lanes_own : (n : ℕ) (xs : List ℕ) → length xs ≡ n → IsLanes n xs (λ k. get_or xs k 0)
+lanes_own n xs long = record { long = long; lanes = λ k lt. refl }
+
+pub lanes_splat : (n a : ℕ) → IsLanes n (replicate n a) (λ k. a)
+lanes_splat n a = record { long = length-replicate n a; lanes = λ k lt. get_or-replicate n k a 0 lt }
+
+pub lanes_zip : (n : ℕ) (h : ℕ → ℕ → ℕ) (xs ys : List ℕ) (f g : ℕ → ℕ) → IsLanes n xs f → IsLanes n ys g
+    → IsLanes n (zip2 h xs ys) (λ k. h (f k) (g k))
+lanes_zip n h xs ys f g p q = record {
+  long = length-zip2 h xs ys (p.long ∙ sym q.long) ∙ p.long;
+  lanes = λ k lt. get_or-zip2 h xs ys k 0 0 0 (omega (arith, p.long)) (omega (arith, q.long))
+      ∙ ap₂ h (p.lanes k lt) (q.lanes k lt);
+}
+
+pub lanes_map : (n : ℕ) (h : ℕ → ℕ) (xs : List ℕ) (f : ℕ → ℕ) → IsLanes n xs f → IsLanes n (map h xs) (λ k. h (f k))
+lanes_map n h xs f p = record {
+  long = length-map xs h ∙ p.long;
+  lanes = λ k lt. get_or-map h xs k 0 0 (omega (arith, p.long)) ∙ ap h (p.lanes k lt);
+}
+
+-- a choice of each lane by the top bit of a mask's lane
+pub lanes_select : (h n : ℕ) (ms xs ys : List ℕ) (m f g : ℕ → ℕ) → IsLanes n ms m → IsLanes n xs f → IsLanes n ys g
+    → IsLanes n (sel_l (map (top h) ms) xs ys) (λ k. cond (top h (m k)) (f k) (g k))
+lanes_select h n ms xs ys m f g o p q =
+    let long : length (map (top h) ms) ≡ n = length-map ms (top h) ∙ o.long in
+    record {
+      long = length-sel_l (map (top h) ms) xs ys (long ∙ sym p.long) (long ∙ sym q.long) ∙ long;
+      lanes = λ k lt.
+          let bit : get_or (map (top h) ms) k false ≡ top h (m k) =
+          get_or-map (top h) ms k 0 false (omega (arith, o.long)) ∙ ap (top h) (o.lanes k lt) in
+          get_or-sel_l (map (top h) ms) xs ys k 0 (omega (arith, long)) (omega (arith, p.long)) (omega (arith, q.long))
+          ∙ ap (λ b. cond b (get_or xs k 0) (get_or ys k 0)) bit
+          ∙ ap₂ (λ x y. cond (top h (m k)) x y) (p.lanes k lt) (q.lanes k lt);
+    }
+
+pub lane_small : (xs : List ℕ) (n k : ℕ) → length xs ≡ n → Each1 (Fits w8) xs → k < n → slice_index xs k < 256
+lane_small xs n k long h lt = (Each1-get_or (Fits w8) xs k 0 (omega arith) h).fits
+
+-- lanes that are bytes
+pub lanes_fit : (n : ℕ) (xs : List ℕ) (f : ℕ → ℕ) → IsLanes n xs f → ((k : ℕ) → k < n → f k < 256) → Each1 (Fits w8) xs
+lanes_fit n xs f p small =
+    Each1-from_get_or (Fits w8) xs 0 (λ k lt.
+    let within : k < n = omega (arith, p.long) in
+    record { fits = omega (arith, p.lanes k within, small k within) })
+
+-- the list of the lanes
+pub lanes_list : (n : ℕ) (xs : List ℕ) (f g : ℕ → ℕ) → IsLanes n xs f → ((k : ℕ) → k < n → f k ≡ g k)
+    → xs ≡ map g (range_with_len 0 n)
+lanes_list n xs f g p same = fill_by_all g xs n 0 p.long (λ k lt. p.lanes k lt ∙ same k lt)
+
+-- a division of each lane by one number
+pub lanes_divide : (n b : ℕ) (xs : List ℕ) → 0 < b → Each2 (λ (x y : ℕ). 0 < y) xs (replicate n b)
+lanes_divide n b xs lt = Each2-splat (λ (x y : ℕ). 0 < y) xs n b (Each1-all (λ (x : ℕ). 0 < b) (λ x. lt) xs)
+
+-- The lanes before the first whose top bit is set.
+pub before_set : (n r : ℕ) (xs : List ℕ) (f : ℕ → ℕ) → IsLanes n xs f → n ≤ 64
+    → r ≡ first_set n (mask_l (map (top 7) xs) % 2 ^ 64) → (r ≤ n) × ((k : ℕ) → k < r → top 7 (f k) ≡ false)
+before_set n r xs f p few found =
+    let counted : r ≡ prefix_len (λ x. not (top 7 x)) xs =
+    found ∙ ap (first_set n) (mask_l-mod (map (top 7) xs) 64 (omega (arith, length-map xs (top 7), p.long)))
+    ∙ first_set_mask_l (top 7) xs n p.long few in
+    let within : r ≤ n = omega (arith, counted, p.long, prefix_len-le-length (λ x. not (top 7 x)) xs) in (
+      within,
+      λ k lt.
+          let passes = not-true _ (prefix_len_passes (λ x. not (top 7 x)) xs k 0 (omega (arith, counted))) in
+          subst (λ x. top 7 x ≡ false) (p.lanes k (omega arith)) passes,
+    )
+
+-- a lane of two masks joined
+pub neither : (a b : Bool) → top 7 (bit_or (cond a 255 0) (cond b 255 0)) ≡ false → (a ≡ false) × (b ≡ false)
+neither true true e = absurd (cc)
+neither true false e = absurd (cc)
+neither false true e = absurd (cc)
+neither false false e = (refl, refl)

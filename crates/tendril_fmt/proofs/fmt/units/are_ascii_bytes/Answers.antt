@@ -1,6 +1,0 @@
-use Rattle.std.proofs.Common.{w8}
-use Rattle.tendril_fmt.proofs.AsciiBlocks.{all_ascii}
-use Rattle.tendril_fmt.proofs.fmt.units.are_ascii_bytes.Goals as goal
-
-pub returns : goal.returns
-returns c = all_ascii w8 c.args.block c.fits-block.0

@@ -1,0 +1,153 @@
+//! Blocks of 16 bytes or units, that are tested and written at once.
+ghost use Rattle.std.specs.Prelude.{◌≡◌, ◌+◌, ◌*◌, ◌<◌, ◌≤◌, ◌++◌, ℕ, length, take, slice_index, true, false};
+ghost use Rattle.std.specs.List.{AllByRecursion};
+ghost use Rattle.std.specs.Str.{all_scalars, encode_utf8_all};
+ghost use Rattle.tendril_fmt.specs.Blocks.{LackSurrogates, first_set, fronts, units_of};
+
+use std::simd::prelude::*;
+
+/// How many bytes or units a block has.
+pub const BLOCK: usize = 16;
+
+/// How many bytes `encode_block` may write to: three for a unit, and one more.
+pub const ROOM: usize = 49;
+
+/// Whether the bytes of a block are all ASCII.
+#[inline(always)]
+pub fn is_ascii(block: u8x16) -> bool
+    ensures { result ≡ true → AllByRecursion (λ b. b < 0x80) block }
+{
+    block.simd_ge(u8x16::splat(0x80)).to_bitmask() == 0
+}
+
+/// The place of the lowest bit that is set, or `BLOCK` if none is.
+#[inline(always)]
+pub fn first_set(mask: u64) -> usize
+    ensures { result ≡ first_set BLOCK mask }
+{
+    if mask == 0 {
+        BLOCK
+    } else {
+        mask.trailing_zeros() as usize
+    }
+}
+
+/// Writes bytes at an offset, and returns the offset after them.
+#[inline(always)]
+pub fn put_run(bytes: &mut [u8], at: usize, run: &[u8]) -> usize
+    requires { at + length run.now ≤ length bytes.old }
+    ensures place { result ≡ at + length run.now }
+    ensures bytes { take result bytes.new ≡ take at bytes.old ++ run.now }
+{
+    let end = at + run.len();
+    bytes[at..end].copy_from_slice(run);
+    end
+}
+
+// The low and the high bytes of a block of units.
+#[inline(always)]
+pub(crate) fn low_high(units: &[u16]) -> (u8x16, u8x16)
+    requires { length units.now ≡ BLOCK }
+    ensures { units_of result.0 result.1 ≡ units.now }
+{
+    let block = u16x16::from_slice(units);
+    let low = (block % u16x16::splat(0x100)).cast::<u8>();
+    let high = (block / u16x16::splat(0x100)).cast::<u8>();
+    (low, high)
+}
+
+/// Whether a block has a surrogate, by the high bytes of its units.
+#[inline(always)]
+pub fn has_surrogate(high: u8x16) -> bool
+    ensures { result ≡ false → LackSurrogates high }
+{
+    let surrogates = (high / u8x16::splat(8)).simd_eq(u8x16::splat(0xD8 / 8));
+    surrogates.to_bitmask() != 0
+}
+
+/// Writes a block of units, by their low and their high bytes, as UTF-8 at an offset, and returns the offset after it.
+/// A surrogate has three bytes. No unit costs a branch.
+#[inline(always)]
+pub fn encode_block(bytes: &mut [u8], at: usize, low: u8x16, high: u8x16) -> usize
+    requires { at + ROOM ≤ length bytes.old }
+    ensures place { result ≤ at + 3 * BLOCK }
+    ensures bytes { take result bytes.new ≡ take at bytes.old ++ encode_utf8_all (units_of low high) }
+    ensures scalars { LackSurrogates high → all_scalars (units_of low high) ≡ true }
+{
+    if are_ascii(low, high) {
+        return put_run(bytes, at, &low.to_array());
+    }
+    let (words, lens) = words_of(low, high);
+    put_words(bytes, at, &words.to_array(), &lens.to_array())
+}
+
+// Whether the units of a block are all ASCII.
+#[inline(always)]
+fn are_ascii(low: u8x16, high: u8x16) -> bool
+    ensures { result ≡ true → (k : ℕ) → k < BLOCK → (slice_index low k < 0x80) × (slice_index high k ≡ 0) }
+{
+    let others = low.simd_ge(u8x16::splat(0x80)) | high.simd_ne(u8x16::splat(0));
+    others.to_bitmask() == 0
+}
+
+// For each unit of a block four bytes, of which the first are its UTF-8, and how many these are.
+#[inline(always)]
+fn words_of(low: u8x16, high: u8x16) -> (u8x64, u8x16)
+    ensures few { (k : ℕ) → slice_index result.1 k ≤ 3 }
+    ensures words { fronts result.0 result.1 ≡ encode_utf8_all (units_of low high) }
+{
+    let one = high.simd_eq(u8x16::splat(0)) & low.simd_lt(u8x16::splat(0x80));
+    let three = high.simd_ge(u8x16::splat(8));
+    let lead = high / u8x16::splat(0x10) + u8x16::splat(0xE0);
+    let middle = high % u8x16::splat(0x10) * u8x16::splat(4) + low / u8x16::splat(0x40);
+    let last = low % u8x16::splat(0x40) + u8x16::splat(0x80);
+    let first = three.select(lead, one.select(low, middle + u8x16::splat(0xC0)));
+    let second = three.select(middle + u8x16::splat(0x80), last);
+    let lens = three.select(
+        u8x16::splat(3),
+        one.select(u8x16::splat(1), u8x16::splat(2)),
+    );
+    let pairs: u8x32 = first.shuffle(second, IN_PAIRS);
+    let lasts: u8x32 = last.swizzle(TWICE);
+    (pairs.shuffle(lasts, IN_FOURS), lens)
+}
+
+// The lanes of two vectors of 16 in turn.
+const IN_PAIRS: [usize; 32] = [
+    0, 16, 1, 17, 2, 18, 3, 19, 4, 20, 5, 21, 6, 22, 7, 23, 8, 24, 9, 25, 10, 26, 11, 27, 12, 28,
+    13, 29, 14, 30, 15, 31,
+];
+
+// Each lane of a vector of 16 twice.
+const TWICE: [usize; 32] = [
+    0, 0, 1, 1, 2, 2, 3, 3, 4, 4, 5, 5, 6, 6, 7, 7, 8, 8, 9, 9, 10, 10, 11, 11, 12, 12, 13, 13, 14,
+    14, 15, 15,
+];
+
+// Two lanes of each of two vectors of 32 in turn.
+const IN_FOURS: [usize; 64] = [
+    0, 1, 32, 33, 2, 3, 34, 35, 4, 5, 36, 37, 6, 7, 38, 39, 8, 9, 40, 41, 10, 11, 42, 43, 12, 13,
+    44, 45, 14, 15, 46, 47, 16, 17, 48, 49, 18, 19, 50, 51, 20, 21, 52, 53, 22, 23, 54, 55, 24, 25,
+    56, 57, 26, 27, 58, 59, 28, 29, 60, 61, 30, 31, 62, 63,
+];
+
+// Writes the first bytes of each word of four bytes, as many as `lens` says, and returns the offset after them. The
+// bytes after those of a word are overwritten by the next.
+#[inline(always)]
+fn put_words(bytes: &mut [u8], start: usize, words: &[u8], lens: &[u8]) -> usize
+    requires words { length words.now ≡ 4 * length lens.now }
+    requires few { (k : ℕ) → slice_index lens.now k ≤ 3 }
+    requires room { start + 3 * length lens.now + 1 ≤ length bytes.old }
+    ensures place { result ≤ start + 3 * length lens.now }
+    ensures bytes { take result bytes.new ≡ take start bytes.old ++ fronts words.now lens.now }
+{
+    let mut at = start;
+    let mut rest = words;
+    for len in lens {
+        let (word, after) = rest.split_at(4);
+        let _end = put_run(bytes, at, word);
+        at += *len as usize;
+        rest = after;
+    }
+    at
+}
