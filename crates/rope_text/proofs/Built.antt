@@ -1,23 +1,14 @@
 -- Ropes that are created, appended to and cut.
-use Rattle.std.proofs.Common.{◌≡◌, ℕ, ◌+◌, ◌%◌, ◌^◌, ◌<◌, ◌≤◌, List, [], ◌∷◌, ◌++◌, length, map, take, drop, refl, ap}
+use Rattle.std.proofs.Common.{◌≡◌, ℕ, ◌+◌, ◌%◌, ◌^◌, ◌<◌, ◌≤◌, List, [], ◌∷◌, ◌++◌, length, map, take, drop, ap}
 use Rattle.std.proofs.Common.{◌∙◌, arith}
 use Rattle.std.proofs.lemmas.List.{length-append}
 use Rattle.std.proofs.lemmas.List.Elements.{All-append, All-push, All-drop, All-take}
-use Rattle.rope_text.proofs.Ends.{AreEnds-nil, AreEnds-append, AreEnds-push, AreEnds-take, AreEnds-drop}
+use Rattle.rope_text.proofs.Ends.{AreEnds-append, AreEnds-push, AreEnds-take, AreEnds-drop}
 use Rattle.rope_text.proofs.Joined.{length_joined_both}
 use Rattle.rope_text.specs.Ropes.{IsPiece, IsRope}
 use Rattle.tendril_text.proofs.TextLists.{joined-append, joined_push}
 use Rattle.tendril_text.specs.TextLists.{bytes_of_all}
 use Rattle.tendril_text.specs.Texts.{Text}
-
-pub IsRope-nil : (s : ℕ) → IsRope [] s [] 0
-IsRope-nil s = record {
-  each = λ k d h. absurd (omega arith);
-  counts = refl;
-  fits = omega arith;
-  places =
-      AreEnds-nil s;
-}
 
 pub IsRope-append : (xs ys : List Text) (s t by m n total : ℕ) (ends more : List ℕ) → IsRope xs s ends m
     → IsRope ys t more n → total ≡ m + n → total < 2 ^ 64 → (t + by) % 2 ^ 64 ≡ (s + m) % 2 ^ 64

@@ -12,15 +12,8 @@ use Rattle.tendril_text.proofs.TextLists.{joined-append, joined_push}
 use Rattle.tendril_text.specs.TextLists.{bytes_of_all}
 use Rattle.tendril_text.specs.Texts.{Text}
 
--- the offset that an end denotes
-pub unwrapped : (r s b : ℕ) → r < 2 ^ 64 → b < 2 ^ 64 → (r + s) % 2 ^ 64 ≡ (s + b) % 2 ^ 64 → r ≡ b
-unwrapped r s b h k e = omega arith
-
 pub wrapped_twice : (s n m : ℕ) → ((s + n) % 2 ^ 64 + m) % 2 ^ 64 ≡ (s + (n + m)) % 2 ^ 64
 wrapped_twice s n m = omega arith
-
-pub AreEnds-nil : (s : ℕ) → AreEnds [] s []
-AreEnds-nil s = record { len = refl; at = λ k h. absurd (omega arith) }
 
 pub AreEnds-push : (xs : List Text) (t : Text) (s e : ℕ) (ends : List ℕ)
     → e ≡ (s + (length (bytes_of_all xs) + length t.bytes)) % 2 ^ 64 → AreEnds xs s ends

@@ -1,18 +1,10 @@
 -- Ropes that grow.
-use Rattle.std.proofs.Common.{◌≡◌, ◌<◌, List, [], ◌∷◌, ◌++◌, length, sym, ap, ◌∙◌, append-nil}
-use Rattle.std.proofs.lemmas.List.{nil_from_length}
+use Rattle.std.proofs.Common.{◌≡◌, ◌<◌, List, [], ◌∷◌, ◌++◌, length, sym, ap, ◌∙◌}
 use Rattle.rope_text.specs.Growth.{IsLonger}
 use Rattle.rope_text.specs.Ropes.{RopeText}
-use Rattle.tendril_text.proofs.TextLists.{joined-append, joined_push, unless_empty_none, unless_empty_some}
+use Rattle.tendril_text.proofs.TextLists.{joined-append, joined_push, unless_empty_some}
 use Rattle.tendril_text.specs.TextLists.{unless_empty, bytes_of_all}
 use Rattle.tendril_text.specs.Texts.{Text}
-
--- an empty text is appended
-pub IsLonger_none : (old : RopeText) (t : Text) → length t.bytes ≡ 0 → IsLonger old t.bytes (unless_empty t) old
-IsLonger_none old t h = record {
-  bytes = sym (ap (λ l. old.bytes ++ l) (nil_from_length t.bytes h) ∙ append-nil old.bytes);
-  pieces = sym (ap (λ l. old.pieces ++ l) (unless_empty_none t h) ∙ append-nil old.pieces);
-}
 
 -- a text that isn't empty is appended
 pub longer_by : (xs zs : List Text) (t : Text) (rope : RopeText) → zs ≡ xs ++ t ∷ [] → 0 < length t.bytes

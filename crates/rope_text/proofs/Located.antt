@@ -9,10 +9,10 @@ use Rattle.std.proofs.lemmas.List.Elements.{All-take}
 use Rattle.std.proofs.lemmas.Str.{IsCharBoundary-from_take}
 use Rattle.rope_text.proofs.Joined.{joined_both, joined_byte, joined_drop_more, pieces_valid, length_joined_both}
 use Rattle.rope_text.proofs.Joined.{length_joined_more}
-use Rattle.std.proofs.lemmas.List.{length-append, length-drop, drop-append-le, get_or_read, take_all, take_at}
+use Rattle.std.proofs.lemmas.List.{length-append, length-drop, drop-append-le, take_all, take_at}
 use Rattle.rope_text.proofs.Shared.{cut_at_end, drop_joined}
 use Rattle.rope_text.specs.Ropes.{IsPiece, piece_at}
-use Rattle.tendril_text.specs.TextLists.{bytes_of_all, no_text}
+use Rattle.tendril_text.specs.TextLists.{bytes_of_all}
 use Rattle.tendril_text.specs.Texts.{Text}
 
 -- a byte of a piece is one of all bytes
@@ -55,17 +55,6 @@ cut_behind xs i j each h k =
           let is : length (bytes_of_all (take i xs)) + j ≡ length (bytes_of_all (take (i + 1) xs)) = omega arith in
           (λ _. rw is (cut_between xs (i + 1) each), λ _. cut_at_end (piece_at xs i).bytes j (omega arith))
     ]
-
--- the piece that is read at an index
-pub piece_read : (xs : List Text) (i : ℕ) (t : Text) → i < length xs → t ≡ get_or xs i t → length t.bytes
-    ≡ length (piece_at xs i).bytes
-piece_read xs i t h e = ap (λ (u : Text). length u.bytes) (get_or_read xs i t h e no_text)
-
--- the length of the pieces before an index, and of the one that is read there
-pub length_read_more : (xs : List Text) (i : ℕ) (t : Text) → i < length xs → t ≡ get_or xs i t
-    → length (bytes_of_all (take (i + 1) xs)) ≡ length (bytes_of_all (take i xs)) + length t.bytes
-length_read_more xs i t h e = length_joined_more xs i h
-    ∙ ap (λ n. length (bytes_of_all (take i xs)) + n) (sym (piece_read xs i t h e))
 
 -- the bytes r are in b, from an offset on
 pub record StandAt (b r : List ℕ) (at : ℕ) : Type 0 where

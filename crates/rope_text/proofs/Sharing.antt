@@ -1,5 +1,5 @@
 -- A slice of a rope, built piece by piece.
-use Rattle.std.proofs.Common.{◌≡◌, ℕ, ◌+◌, ◌-◌, ◌<◌, ◌≤◌, min, List, [], ◌∷◌, ◌++◌, length, map, take, drop, refl, sym}
+use Rattle.std.proofs.Common.{◌≡◌, ℕ, ◌+◌, ◌-◌, ◌<◌, ◌≤◌, min, List, [], ◌∷◌, ◌++◌, length, map, take, drop, sym}
 use Rattle.std.proofs.Common.{ap, ◌∙◌, subst, arith, append_assoc, append-nil, inl, inr}
 use Rattle.std.specs.Prelude.{IsUtf8, All}
 use Rattle.std.proofs.lemmas.Bool.{cases_lt}
@@ -58,21 +58,6 @@ parted xs index at left here each h inside within is u =
       | inl long ↦ let n : here ≡ length p - at = omega arith in
           rw n (parted_long p q at left v inside (omega arith) (omega arith) w)
     ]
-
-pub IsSharing-init : (xs : List Text) (first from count : ℕ) → from < length (piece_at xs first).bytes
-    → from + count ≤ length (bytes_of_all (drop first xs))
-    → IsUtf8 (take count (drop from (bytes_of_all (drop first xs))))
-    → IsSharing xs first from count first from count [] []
-IsSharing-init xs first from count inside within u = record {
-  most = omega arith;
-  within = within;
-  valid = u;
-  inside = λ _. inside;
-  place = λ _. refl;
-  bytes = refl;
-  shares = λ k d h. absurd (omega arith);
-  cut_so = refl;
-}
 
 -- how many bytes are built
 pub length_built : (xs : List Text) (first from count index at left : ℕ) (built : List ℕ) (pieces : List Text)

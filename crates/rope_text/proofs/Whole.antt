@@ -1,12 +1,12 @@
 -- Whole ropes.
-use Rattle.std.proofs.Common.{◌≡◌, ℕ, ◌+◌, ◌<◌, ◌≤◌, List, ◌++◌, length, take, drop, get_or, Result, Ok, Err, Some, sym}
+use Rattle.std.proofs.Common.{◌≡◌, ℕ, ◌+◌, ◌<◌, List, ◌++◌, length, take, drop, get_or, Result, Ok, Err, Some, sym}
 use Rattle.std.proofs.Common.{ap, ◌∙◌, subst, arith, inl, inr}
 use Rattle.std.specs.Prelude.{IsUtf8, All}
 use Rattle.std.proofs.lemmas.List.{take_all}
 use Rattle.tendril_block.specs.declared.refusal.Refusal.{Refusal}
 use Rattle.tendril_block.specs.declared.refusal.Refusal.TheVariants.{ValidationFailed}
 use Rattle.tendril_block.specs.Outcomes.{Gives, NoneMust, First}
-use Rattle.rope_text.proofs.Joined.{pieces_valid, length_joined_both}
+use Rattle.rope_text.proofs.Joined.{pieces_valid}
 use Rattle.rope_text.proofs.PartsOf.{shares_of_all}
 use Rattle.std.proofs.lemmas.List.{take_more, get_or_read}
 use Rattle.rope_text.specs.Parts.{IsCloneOf, PartMay, SubRope}
@@ -54,6 +54,3 @@ pub joined_read_more : (xs : List Text) (i : ℕ) (t : Text) → i < length xs �
 joined_read_more xs i t h e =
     ap bytes_of_all (take_more xs i no_text h) ∙ joined_push (take i xs) (piece_at xs i)
     ∙ ap (λ (u : Text). bytes_of_all (take i xs) ++ u.bytes) (sym (get_or_read xs i t h e no_text))
-
-pub length_joined_take : (xs : List Text) (i : ℕ) → length (bytes_of_all (take i xs)) ≤ length (bytes_of_all xs)
-length_joined_take xs i = let both = length_joined_both xs i in omega arith

@@ -13,7 +13,7 @@ use Rattle.tendril_stream.specs.Decoders.{Decodes, Ends}
 use Rattle.tendril_stream.specs.Decodings.{Decoding, IsDecoding}
 use Rattle.tendril_stream.specs.Readings.{AreReadPieces, Hears, IsReadPiece, Receives}
 use Rattle.tendril_stream.specs.Reads.{OneRead, Gave, WasInterrupted, HasFailed, CameToEnd, given}
-use Rattle.tendril_stream.specs.Sinks.{Sent, Piece, IsSent, Feeds}
+use Rattle.tendril_stream.specs.Sinks.{Sent, Piece, Feeds}
 use Rattle.tendril_text.specs.TextLists.{no_text}
 use Rattle.tendril_text.specs.Texts.{Text}
 
@@ -28,9 +28,6 @@ module _ {K : Type 0} (decoding : Decoding K) where
     h.0,
     ⊎_elim (λ of. inl (of.0, Contains-append_right (p ∷ []) pieces of.0 of.1, of.2)) inr h.1,
   )
-
-  pub one_is_sent : IsDecoding decoding → (pieces : List Text) (e : Sent) → IsSentOfOne decoding pieces e → IsSent e
-  one_is_sent is pieces e h = ⊎_elim (λ of. is.sends h.0 of.0 e of.2) (is.sends h.0 no_text e) h.1
 
 module _ {K S D : Type 0} (decoding : Decoding K) (is : IsDecoding decoding) (takes : S → Sent → S → Type 0)
     (inner : D → S) (held : D → K) (failed : D → Bool) where

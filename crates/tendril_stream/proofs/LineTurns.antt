@@ -29,8 +29,8 @@ use Rattle.std.specs.List.{FoldsTo}
 use Rattle.std.specs.Prelude.{All, IsUtf8}
 use Rattle.tendril_block.specs.declared.refusal.Refusal.{Refusal}
 use Rattle.tendril_fmt.specs.Parts.{IsEndOf}
-use Rattle.tendril_stream.specs.LineStarts.{CompletesLine, CompletionStops, KeepsMore}
-use Rattle.tendril_stream.specs.Lines.{JoinStops, SendsLines, StopsInLines, in_one_text}
+use Rattle.tendril_stream.specs.LineStarts.{CompletesLine, CompletionStops}
+use Rattle.tendril_stream.specs.Lines.{JoinStops, StopsInLines, in_one_text}
 use Rattle.tendril_stream.specs.Sinks.{Sent, Piece, RefusesCall}
 use Rattle.tendril_text.proofs.Decoding.{part-through, rest-through}
 use Rattle.tendril_text.specs.Decoding.{IsRest}
@@ -130,22 +130,6 @@ module _ {S : Type 0} (takes : S → Sent → S → Type 0) (kept text : Text) (
         length-append line.bytes rest.bytes,
         length-append l.bytes left.bytes,
       )
-
-  -- all lines are sent, and the rest is kept
-  pub lines_sent : (now : S) (line rest next : Text) → LinesSoFar now line rest → KeepsMore line rest next
-      → SendsLines takes old kept text now next
-  lines_sent now line rest next so h = record {
-    lines = so.lines;
-    sent = so.sent;
-    valid = so.valid;
-    are = record {
-      each = so.each;
-      lacks = h.lacks;
-      whole = so.whole ∙ ap (λ b. bytes_of_all so.lines ++ b) (sym h.bytes);
-    };
-    share = so.share;
-    kept_shares = λ nothing. subst (IsRest text) (sym (h.same (nothing_kept now line rest so nothing))) so.part;
-  }
 
   module _ (refuses : S → Sent → Refusal → S → Type 0) where
     -- the sink returned an error for a line
