@@ -9,7 +9,6 @@ ghost use Rattle.tendril_text.specs.Decoding.{DecodesPiece, HandsOnUpTo, IsRest,
 ghost use Rattle.tendril_text.specs.Decoding.{listed};
 ghost use Rattle.tendril_text.specs.Receivers.{Interrupts, PassesUpTo, Piece, RefusesCall};
 ghost use Rattle.tendril_block.specs.Outcomes.{NoneMust, Outcome};
-ghost use Rattle.tendril_storage.specs.Texts.{Keeps};
 
 mod incomplete;
 mod receiving;
@@ -266,17 +265,6 @@ impl<A: Atomicity> Tendril<Bytes, A> {
             Ending::Whole | Ending::Open => {}
         }
         Ok((text, ending))
-    }
-
-    // Drops the first `count` bytes. Any remainder is valid in `Bytes`.
-    #[inline(always)]
-    fn skip(&mut self, count: u32)
-        requires { count ≤ length self.old.bytes }
-        ensures bytes { self.new.bytes ≡ drop count self.old.bytes }
-        ensures copied { Keeps self.old self.new }
-    {
-        let _bytes = self.as_byte_slice();
-        self.pop_front(count);
     }
 }
 
