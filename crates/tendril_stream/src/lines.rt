@@ -18,8 +18,9 @@ use tendril_text::{Atomicity, NonAtomic, Tendril};
 /// A sink of texts that sends each whole line to another sink, with its line ending, wherever the stream was cut.
 ///
 /// A line ends with an LF, which is sent with it (and the CR before it, if there is one); the last line may have none.
-/// So the lines joined are the texts that came in. A line of more than 8 bytes that lies in one text shares its block;
-/// one that is cut is joined. An error in the stream is passed on when it comes: before the line in which it lies.
+/// So the lines joined are the texts that came in; `Tendril::without_line_ending` takes the ending off. A line of more
+/// than 8 bytes that lies in one text shares its block; one that is cut is joined. An error in the stream is passed on
+/// when it comes: before the line in which it lies.
 ///
 /// A call returns `SinkRefused` if the sink returns any error, `TooLong` or `Memory` if the parts of a line can't be
 /// joined, or `Count` if a text's block has as many references as it can have. All calls after an error return

@@ -51,7 +51,7 @@ use Rattle.std.specs.Str.Iter.{LacksByte}
 use Rattle.memchr.specs.Find.{NoneBefore, Nowhere, Passes, is_byte}
 use Rattle.tendril_fmt.specs.Parts.{IsEndOf}
 use Rattle.tendril_text.specs.Search.{EndsBefore}
-use Rattle.tendril_text.specs.Splits.{EndsFirstLine, IsWholeLine, LacksSet, TakesLine, TakesSplit}
+use Rattle.tendril_text.specs.Splits.{EndsFirstLine, IsWholeLine, IsWithoutEnding, LacksSet, TakesLine, TakesSplit}
 
 -- Parts
 
@@ -151,24 +151,29 @@ line_some text count ends = omega (
 abbrev pub FollowsCr : Bool → List ℕ → ℕ → Type 0
 FollowsCr cr text n = IsTrue cr ↔ ((0 < n) × (slice_index text (n - 1) ≡ 13))
 
+-- if the first n bytes end with a CR, that is the byte before n
+cr_before : (text : List ℕ) (n : ℕ) → n < length text → IsEndOf (13 ∷ []) (take n text)
+    → (0 < n) × (slice_index text (n - 1) ≡ 13)
+cr_before text n less end =
+    let front = end.0 in
+    let lengths = length-append front (13 ∷ []) in
+    let long : n ≡ length front + 1 = omega (arith, ap length end.1, lengths, length-take n text) in
+    let place : n - 1 ≡ length front + 0 = omega arith in (
+      omega arith,
+      sym (get_or-take n text (n - 1) 0 (omega arith)) ∙ ap (λ l. slice_index l (n - 1)) end.1
+          ∙ ap (slice_index (front ++ 13 ∷ [])) place ∙ get_or-append-add front (13 ∷ []) 0 0,
+    )
+
 pub line_lf : (text : List ℕ) (n : ℕ) (cr : Bool) → n < length text → Nowhere (Passes (is_byte 10) text) 0 n
     → Passes (is_byte 10) text n → FollowsCr cr text n → cr ≡ false → TakesLine text (take n text) (drop (n + 1) text)
 line_lf text n cr less none is follows is_no = inl (
   10 ∷ [],
-  (lacks_feed text n n (omega arith) (omega arith) none, inr (refl, ends_in_cr)),
+  (
+    lacks_feed text n n (omega arith) (omega arith) none,
+    inr (refl, λ end. true≢false (sym (follows.1 (cr_before text n less end)) ∙ is_no)),
+  ),
   sym (take-append-drop n text) ∙ ap (λ l. take n text ++ l) (feed_follows text n less is),
 )
-  where
-    ends_in_cr : IsEndOf (13 ∷ []) (take n text) → ⊥
-    ends_in_cr end =
-        let front = end.0 in
-        let lengths = length-append front (13 ∷ []) in
-        let long : n ≡ length front + 1 = omega (arith, ap length end.1, lengths, length-take n text) in
-        let place : n - 1 ≡ length front + 0 = omega arith in
-        let byte : slice_index text (n - 1) ≡ 13 =
-        sym (get_or-take n text (n - 1) 0 (omega arith)) ∙ ap (λ l. slice_index l (n - 1)) end.1
-        ∙ ap (slice_index (front ++ 13 ∷ [])) place ∙ get_or-append-add front (13 ∷ []) 0 0 in
-        true≢false (sym (follows.1 (omega arith, byte)) ∙ is_no)
 
 pub line_crlf : (text : List ℕ) (n : ℕ) (cr : Bool) → n < length text → Nowhere (Passes (is_byte 10) text) 0 n
     → Passes (is_byte 10) text n → FollowsCr cr text n → cr ≡ true
@@ -194,3 +199,16 @@ line_of slice text line rest n m same takes front end =
     subst (λ r. TakesLine text line r) (sym end)
     (subst (λ l. TakesLine text l (drop m text)) (sym front)
     (subst (λ b. TakesLine b (take n b) (drop m b)) same takes))
+
+-- a text that ends with an LF and no CR before it, without the LF
+pub without_lf : (text : List ℕ) → 2 ≤ length text → slice_index text (length text - 1) ≡ 10
+    → (slice_index text (length text - 2) ≡ 13 → ⊥) → IsWithoutEnding text (take (length text - 1) text)
+without_lf text some feed no_cr =
+    let n = length text - 1 in
+    let less : n < length text = omega arith in
+    let place : n - 1 ≡ length text - 2 = omega arith in
+    inl (
+      10 ∷ [],
+      inr (refl, λ end. no_cr (ap (slice_index text) (sym place) ∙ (cr_before text n less end).1)),
+      sym (take_all (n + 1) text (omega arith)) ∙ take_more text n 0 less ∙ ap (λ b. take n text ++ b ∷ []) feed,
+    )

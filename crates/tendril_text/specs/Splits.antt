@@ -61,10 +61,19 @@ pub record EndsFirstLine (text : List ℕ) (count : ℕ) : Type 0 where
   pub front_valid : IsUtf8 (take count text)
   pub rest_valid : IsUtf8 (drop count text)
 
--- a line, and the line ending after it: a CR and an LF, or an LF by itself
+-- a line ending after the bytes `line`: a CR and an LF, or an LF by itself
+abbrev pub IsLineEnding : List ℕ → List ℕ → Type 0
+IsLineEnding line ending = (ending ≡ 13 ∷ 10 ∷ []) ⊎ ((ending ≡ 10 ∷ []) × (IsEndOf (13 ∷ []) line → ⊥))
+
+-- `rest` is the text without the line ending at its end, or the text if it has none
+abbrev pub IsWithoutEnding : List ℕ → List ℕ → Type 0
+IsWithoutEnding text rest =
+    ((ending : List ℕ) × IsLineEnding rest ending × (text ≡ rest ++ ending))
+    ⊎ ((IsEndOf (10 ∷ []) text → ⊥) × (rest ≡ text))
+
+-- a line, and the line ending after it
 abbrev pub EndsLine : List ℕ → List ℕ → Type 0
-EndsLine line ending =
-    LacksByte 10 line × ((ending ≡ 13 ∷ 10 ∷ []) ⊎ ((ending ≡ 10 ∷ []) × (IsEndOf (13 ∷ []) line → ⊥)))
+EndsLine line ending = LacksByte 10 line × IsLineEnding line ending
 
 -- pieces and their endings are a prefix of a text, and `rest` is the remainder
 pub record AreTaken (Ends : List ℕ → List ℕ → Type 0) (pieces : List (List ℕ)) (text rest : List ℕ) : Type 0 where

@@ -96,11 +96,7 @@ impl Tally {
 
 // The path of a line, and how many bytes were sent; None if it is malformed.
 fn read_request(line: Text) -> Result<Option<(Text, u64)>, Refusal> {
-    // Without its line ending.
-    let Some(line) = line.into_lines().next().transpose()? else {
-        return Ok(None);
-    };
-    let Some(record) = Record::from_line(line)? else {
+    let Some(record) = Record::from_line(line.without_line_ending())? else {
         return Ok(None);
     };
     let Some(bytes) = record.checked_size() else {

@@ -1,5 +1,6 @@
-//! Texts without the white space at their ends.
-ghost use Rattle.std.specs.Prelude.{◌≡◌, ◌≤◌, ◌+◌, length, take, drop, IfOk};
+//! Texts without the white space, or the line ending, at their ends.
+ghost use Rattle.std.specs.Prelude.{◌≡◌, ◌≤◌, ◌+◌, ◌-◌, length, take, drop, IfOk};
+ghost use Rattle.tendril_text.specs.Splits.{IsWithoutEnding};
 ghost use Rattle.tendril_text.specs.Trims.{IsTrimOf, Trims};
 
 use crate::tendril::Tendril;
@@ -51,6 +52,23 @@ impl<F: CutsAtAscii, A: Atomicity> Tendril<F, A> {
         text
     }
 
+    /// Returns the text without the line ending at its end, an LF or a CR and an LF, if it has one. Takes constant
+    /// time, allocates nothing and can't fail.
+    ///
+    /// ```
+    /// let line = StrTendril::from_slice(alloc, "key = value \r\n")?;
+    /// assert_eq!(rt; line.without_line_ending().as_str(), "key = value ");
+    /// ```
+    pub fn without_line_ending(self) -> Self
+        ensures bytes { IsWithoutEnding self.bytes result.bytes }
+        ensures copied { Keeps self result }
+    {
+        let mut text = self;
+        let count = line_ending_len::<F>(text.as_byte_slice());
+        text.pop_back(count);
+        text
+    }
+
     // Drops the white space at both ends.
     fn trim(&mut self)
         ensures joined { IsTrimOf self.old.bytes self.new.bytes }
@@ -73,4 +91,18 @@ fn trimmed_range<F: CutsAtAscii>(bytes: &[u8]) -> (u32, u32)
     let rest = bytes.trim_ascii_start();
     let kept = rest.trim_ascii_end();
     ((bytes.len() - rest.len()) as u32, kept.len() as u32)
+}
+
+// The number of bytes of the line ending at the end: 2, 1, or 0 if there is none.
+fn line_ending_len<F: CutsAtAscii>(bytes: &[u8]) -> u32
+    requires { F.valid bytes.now }
+    ensures within { result ≤ length bytes.now }
+    ensures without { IsWithoutEnding bytes.now (take (length bytes.now - result) bytes.now) }
+    ensures still_valid { F.valid (take (length bytes.now - result) bytes.now) }
+{
+    match bytes {
+        [.., b'\r', b'\n'] => 2,
+        [.., b'\n'] => 1,
+        _ => 0,
+    }
 }
