@@ -42,3 +42,6 @@ words_cover n xs p a b c d e few whole len first second third fourth last =
 
 pub both : (a b : Bool) → (a && b) ≡ true → (a ≡ true) × (b ≡ true)
 both a b h = (grind arith, grind arith)
+
+pub both_true : (a b : Bool) → a ≡ true → b ≡ true → (a && b) ≡ true
+both_true a b x y = cc

@@ -1,4 +1,4 @@
--- The array of a `InlineBytes` after its first bytes were overwritten.
+-- The array of an `InlineBytes` after its first bytes were overwritten.
 use Rattle.std.specs.Prelude.{ℕ, List, length}
 use Rattle.std.specs.List.{refill}
 use Rattle.tendril_block.specs.declared.inline_bytes.Cells.{Cells}

@@ -2,7 +2,7 @@
 //!
 //! Five words, which may overlap, cover 8 to 40 bytes, so no further branch depends on their number. A call of std
 //! branches on it, and costs more.
-ghost use Rattle.std.specs.Prelude.{◌≡◌, ◌+◌, ◌≤◌, ◌++◌, length, take, drop, true};
+ghost use Rattle.std.specs.Prelude.{◌≡◌, ◌↔◌, ◌+◌, ◌≤◌, ◌++◌, length, take, drop, true};
 ghost use Rattle.std.specs.Int.{to_le_bytes, w64};
 
 use crate::inline_bytes::NODE_CAPACITY;
@@ -36,7 +36,7 @@ pub fn word_of(bytes: &[u8]) -> u64
 #[inline(always)]
 pub fn same_bytes(left: &[u8], right: &[u8]) -> bool
     requires { length left.now ≡ length right.now }
-    ensures { result ≡ true → left.now ≡ right.now }
+    ensures { (result ≡ true) ↔ (left.now ≡ right.now) }
 {
     let len = left.len();
     if len < WORD_LEN || len > NODE_CAPACITY {
@@ -54,7 +54,7 @@ pub fn same_bytes(left: &[u8], right: &[u8]) -> bool
 fn same_word(left: &[u8], right: &[u8], at: usize) -> bool
     requires in_left { at + WORD_LEN ≤ length left.now }
     requires in_right { at + WORD_LEN ≤ length right.now }
-    ensures { result ≡ true → take WORD_LEN (drop at left.now) ≡ take WORD_LEN (drop at right.now) }
+    ensures { (result ≡ true) ↔ (take WORD_LEN (drop at left.now) ≡ take WORD_LEN (drop at right.now)) }
 {
     word_of(&left[at..at + WORD_LEN]) == word_of(&right[at..at + WORD_LEN])
 }
