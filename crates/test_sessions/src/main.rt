@@ -17,6 +17,8 @@ mod place;
 mod rope_lines;
 mod rows;
 mod slots;
+mod stream;
+mod words;
 mod worker;
 mod workers;
 
@@ -30,15 +32,16 @@ use std::process::ExitCode;
 use std::rt::Env;
 use std::thread::Threads;
 use std::{env, fs, io};
-use tendril_block::AtomicUpTo;
+use stream::play_streams;
+use tendril_block::{AtomicUpTo, Atomicity};
 use tendril_run::Table;
 use tendril_text::{Atomic, NonAtomic};
 use worker::play_in_worker;
 use workers::play_in_threads;
 
-/// The kind of table that a file is played on, by its first line.
+/// What a file is played on, by its first line.
 #[derive(Clone, Copy)]
-enum Tables {
+enum Kind {
     Texts,
     /// `# over three holders`: blocks have at most three references.
     TextsOverThree,
@@ -46,15 +49,21 @@ enum Tables {
     Ropes,
     /// `# with ropes over three holders`.
     RopesOverThree,
+    /// `# with streams`.
+    Streams,
+    /// `# with streams over three holders`.
+    StreamsOverThree,
 }
 
-impl Tables {
+impl Kind {
     fn of_file(text: &str) -> Self {
         match text.lines().next() {
-            Some("# over three holders") => Tables::TextsOverThree,
-            Some("# with ropes") => Tables::Ropes,
-            Some("# with ropes over three holders") => Tables::RopesOverThree,
-            _ => Tables::Texts,
+            Some("# over three holders") => Kind::TextsOverThree,
+            Some("# with ropes") => Kind::Ropes,
+            Some("# with ropes over three holders") => Kind::RopesOverThree,
+            Some("# with streams") => Kind::Streams,
+            Some("# with streams over three holders") => Kind::StreamsOverThree,
+            _ => Kind::Texts,
         }
     }
 }
@@ -97,21 +106,23 @@ fn run(rt: &(impl Env + Files + Print + AllocGlobal + Threads)) -> io::Result<u8
 fn play(rt: &(impl Files + Print + AllocGlobal + Threads), file: &str) -> io::Result<bool> {
     let text = fs::read_to_string(rt, file)?;
     let text = text.as_str();
-    match Tables::of_file(text) {
-        Tables::Texts => {
+    match Kind::of_file(text) {
+        Kind::Texts => {
             Ok(
                 play_all::<Table<NonAtomic>, Table<Atomic>>(rt, file, text)?
                     && play_in_threads::<Table<Atomic>>(rt, file, text)?,
             )
         }
-        Tables::TextsOverThree => play_all::<Table<Three>, Table<Three>>(rt, file, text),
-        Tables::Ropes => {
+        Kind::TextsOverThree => play_all::<Table<Three>, Table<Three>>(rt, file, text),
+        Kind::Ropes => {
             Ok(
                 play_all::<RopeTable<NonAtomic>, RopeTable<Atomic>>(rt, file, text)?
                     && play_in_threads::<RopeTable<Atomic>>(rt, file, text)?,
             )
         }
-        Tables::RopesOverThree => play_all::<RopeTable<Three>, RopeTable<Three>>(rt, file, text),
+        Kind::RopesOverThree => play_all::<RopeTable<Three>, RopeTable<Three>>(rt, file, text),
+        Kind::Streams => play_decoding::<NonAtomic, Atomic>(rt, file, text),
+        Kind::StreamsOverThree => play_decoding::<Three, Three>(rt, file, text),
     }
 }
 
@@ -131,16 +142,29 @@ fn play_all<T: Lined, U: Lined>(
     )
 }
 
+// Plays a file of streams over two kinds of block, and prints how much was played.
+fn play_decoding<A: Atomicity, B: Atomicity>(
+    rt: &(impl Files + Print + AllocGlobal),
+    file: &str,
+    text: &str,
+) -> io::Result<bool> {
+    let counts = play_streams::<A>(rt, file, text)?;
+    counts.print_played(rt, file)?;
+    Ok(counts.all_right() && play_streams::<B>(rt, file, text)?.all_right())
+}
+
 // Plays a file row by row after `count` allocations, and prints how many rows got no memory.
 fn refuse(rt: &(impl Files + Print + AllocGlobal), file: &str, count: &str) -> io::Result<bool> {
     let text = fs::read_to_string(rt, file)?;
     let text = text.as_str();
     make_requests(rt.alloc(), count.parse::<u32>().unwrap_or(0))?;
-    let counts = match Tables::of_file(text) {
-        Tables::Texts => play_twice::<Table<NonAtomic>, Table<Atomic>>(rt, file, text)?,
-        Tables::TextsOverThree => play_twice::<Table<Three>, Table<Three>>(rt, file, text)?,
-        Tables::Ropes => play_twice::<RopeTable<NonAtomic>, RopeTable<Atomic>>(rt, file, text)?,
-        Tables::RopesOverThree => play_twice::<RopeTable<Three>, RopeTable<Three>>(rt, file, text)?,
+    let counts = match Kind::of_file(text) {
+        Kind::Texts => play_twice::<Table<NonAtomic>, Table<Atomic>>(rt, file, text)?,
+        Kind::TextsOverThree => play_twice::<Table<Three>, Table<Three>>(rt, file, text)?,
+        Kind::Ropes => play_twice::<RopeTable<NonAtomic>, RopeTable<Atomic>>(rt, file, text)?,
+        Kind::RopesOverThree => play_twice::<RopeTable<Three>, RopeTable<Three>>(rt, file, text)?,
+        Kind::Streams => play_streams::<NonAtomic>(rt, file, text)?,
+        Kind::StreamsOverThree => play_streams::<Three>(rt, file, text)?,
     };
     counts.print_refused(rt, file)?;
     Ok(counts.all_right())

@@ -14,6 +14,7 @@
 use crate::calls;
 use crate::lined::{Lined, Player};
 use crate::slots::{equal_clones, filled, is_shared, text_of};
+use crate::words::Runs;
 use std::alloc::Global;
 use std::fmt::Write;
 use tendril_block::{Atomicity, Refusal};
@@ -93,21 +94,7 @@ fn shared<A: Atomicity>(alloc: Global, table: &Table<A>, word: &str) -> Result<S
 
 fn has<A: Atomicity>(alloc: Global, table: &Table<A>, word: &str) -> Result<String, Refusal> {
     let (_, bytes) = text_of(slot_of(table, word)?);
-    let mut reply = String::new(alloc);
-    for (index, run) in bytes.chunk_by(|one, next| one == next).enumerate() {
-        write_run(&mut reply, index, run)?;
-    }
-    Ok(reply)
-}
-
-fn write_run(reply: &mut String, index: usize, run: &[u8]) -> Result<(), Refusal> {
-    let byte = run.first().copied().unwrap_or(0);
-    let space = if index == 0 { "" } else { " " };
-    let written = match run.len() {
-        1 => write!(reply, "{space}{byte:02x}"),
-        count => write!(reply, "{space}{byte:02x}*{count}"),
-    };
-    written.map_err(|_| Refusal::Memory)
+    Ok(format!(in alloc; "{}", Runs(bytes))?)
 }
 
 fn asked<T: Lined>(alloc: Global, player: &Player<T>) -> Result<String, Refusal> {

@@ -1,8 +1,8 @@
 //! Lines over a reader, and those that decode by one call.
 
-use crate::joined::text_of_file;
-use crate::reply::Reply;
-use crate::script::{Script, Step};
+use crate::stream::joined::text_of_file;
+use crate::stream::reply::Reply;
+use crate::stream::script::{Script, Step};
 use crate::stream::{Decoder, Stream};
 use crate::words::{Hex, read_bytes};
 use std::fs::Files;

@@ -1,7 +1,7 @@
 //! Lines over an `IncompleteUtf8`.
 
-use crate::reply::Reply;
 use crate::stream::Stream;
+use crate::stream::reply::Reply;
 use crate::words::Hex;
 use tendril_block::{Atomicity, Refusal};
 use tendril_text::fmt::{Bytes, UTF8};

@@ -1,7 +1,7 @@
 //! Lines over the decoder and its sink.
 
-use crate::reply::Reply;
 use crate::stream::Stream;
+use crate::stream::reply::Reply;
 use std::borrow::CowStr;
 use tendril_block::{Atomicity, Refusal};
 use tendril_stream::TendrilSink;

@@ -1,4 +1,4 @@
-//! Carries out lines.
+//! Lines that decode and read, for files that begin with `# with streams`.
 //!
 //! | Line | Effect and reply |
 //! |---|---|
@@ -29,14 +29,20 @@
 
 mod decoding;
 mod incomplete;
+mod joined;
 mod reading;
+mod recorder;
+mod reply;
+mod rows;
+mod script;
 mod text;
 
-use crate::recorder::{Calls, Recorder, Sent};
-use crate::reply::Reply;
-use crate::script::{Script, Step};
 use crate::words::read_bytes;
 use incomplete::{complete, kept};
+use recorder::{Calls, Recorder, Sent};
+use reply::Reply;
+pub use rows::play_streams;
+use script::{Script, Step};
 use std::alloc::Global;
 use std::cell::Cell;
 use std::fs::Files;

@@ -1,7 +1,7 @@
 //! Lines over the session's text: its clones, and its decoding.
 
-use crate::reply::Reply;
 use crate::stream::Stream;
+use crate::stream::reply::Reply;
 use crate::words::Hex;
 use std::mem;
 use tendril_block::{Atomicity, Refusal};

@@ -1,6 +1,6 @@
 //! What is printed for a line.
 
-use crate::recorder::Sent;
+use crate::stream::recorder::Sent;
 use crate::words::{Hex, MAX_WRITTEN_SINGLY};
 use std::alloc::{AllocError, Global};
 use std::fmt::Display;

@@ -46,7 +46,7 @@ impl Display for Hex<'_> {
             return f.write_str("-");
         }
         if self.0.len() > MAX_WRITTEN_SINGLY {
-            return write_runs(f, self.0);
+            return Runs(self.0).fmt(f);
         }
         for byte in self.0.iter() {
             write!(f, "{byte:02x}")?;
@@ -55,14 +55,20 @@ impl Display for Hex<'_> {
     }
 }
 
-fn write_runs<W: fmt::Write>(f: &mut Formatter<W>, bytes: &[u8]) -> fmt::Result {
-    for (index, run) in bytes.chunk_by(|one, next| one == next).enumerate() {
-        let space = if index == 0 { "" } else { " " };
-        let byte = run.first().copied().unwrap_or(0);
-        match run.len() {
-            1 => write!(f, "{space}{byte:02x}")?,
-            count => write!(f, "{space}{byte:02x}*{count}")?,
+/// Bytes in hexadecimal, a run of one byte as `61*5`.
+#[derive(Clone, Copy)]
+pub struct Runs<'a>(pub &'a [u8]);
+
+impl Display for Runs<'_> {
+    fn fmt<W: fmt::Write>(&self, f: &mut Formatter<W>) -> fmt::Result {
+        for (index, run) in self.0.chunk_by(|one, next| one == next).enumerate() {
+            let space = if index == 0 { "" } else { " " };
+            let byte = run.first().copied().unwrap_or(0);
+            match run.len() {
+                1 => write!(f, "{space}{byte:02x}")?,
+                count => write!(f, "{space}{byte:02x}*{count}")?,
+            }
         }
+        Ok(())
     }
-    Ok(())
 }

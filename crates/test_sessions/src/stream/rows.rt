@@ -1,0 +1,123 @@
+//! Sessions of streams, row by row. A row that gets no memory is played again; if the decoder's sink got none, so is
+//! the session.
+
+use crate::once::failed;
+use crate::place::{Counts, Place, Row, compare, wrong};
+use crate::stream::Stream;
+use crate::stream::reply::Reply;
+use std::fs::Files;
+use std::io;
+use tendril_block::{Atomicity, Refusal};
+
+const WAY: &str = "row by row";
+
+/// Plays all sessions of a file, each on a stream of its own.
+pub fn play_streams<A: Atomicity>(
+    rt: &(impl Files + Print + AllocGlobal),
+    file: &str,
+    text: &str,
+) -> io::Result<Counts> {
+    let mut reply = Reply::new(rt.alloc())?;
+    let mut counts = Counts::none();
+    let mut place = Place::first(file, WAY);
+    for session in text.split("\n\n") {
+        if !play_session::<A>(rt, place, session, &mut reply, &mut counts)? {
+            play_session::<A>(rt, place, session, &mut reply, &mut counts)?;
+        }
+        counts.add_session();
+        place = place.after(session);
+    }
+    Ok(counts)
+}
+
+// Returns whether the session was played to its end.
+fn play_session<A: Atomicity>(
+    rt: &(impl Files + Print + AllocGlobal),
+    place: Place,
+    session: &str,
+    reply: &mut Reply,
+    counts: &mut Counts,
+) -> io::Result<bool> {
+    let mut stream = Stream::<A>::new(rt.alloc()).map_err(failed)?;
+    for (index, line) in session.lines().enumerate() {
+        if !line.starts_with('#') {
+            counts.add_row();
+            if !play_row(rt, &mut stream, place.down(index), line, reply, counts)? {
+                return Ok(false);
+            }
+        }
+    }
+    Ok(true)
+}
+
+// Plays one row, as often as it says. Returns whether the stream can go on.
+fn play_row<A: Atomicity>(
+    rt: &(impl Files + Print),
+    stream: &mut Stream<A>,
+    place: Place,
+    line: &str,
+    reply: &mut Reply,
+    counts: &mut Counts,
+) -> io::Result<bool> {
+    let Some(row) = Row::read(line) else {
+        wrong(rt, place, line, "no reply")?;
+        counts.add_wrong();
+        return Ok(true);
+    };
+    for _ in 0..row.times {
+        if !play_once(rt, stream, place, row, reply, counts)? {
+            return Ok(false);
+        }
+    }
+    Ok(true)
+}
+
+// Returns whether the stream can go on. If its sink got no memory, what was sent to it before must be a prefix of what
+// is expected, and the stream must have failed for good.
+fn play_once<A: Atomicity>(
+    rt: &(impl Files + Print),
+    stream: &mut Stream<A>,
+    place: Place,
+    row: Row,
+    reply: &mut Reply,
+    counts: &mut Counts,
+) -> io::Result<bool> {
+    reply.clear();
+    if stream.answer(rt, row.line, reply).is_err() {
+        counts.add_refused();
+        reply.clear();
+        stream.answer(rt, row.line, reply).map_err(failed)?;
+    }
+    let right = if !stream.is_out_of_memory() {
+        compare(rt, place, row, reply.as_str())?
+    } else if is_beginning(reply.as_str(), row.expected) && stream.has_failed() {
+        counts.add_refused();
+        return Ok(false);
+    } else {
+        wrong(
+            rt,
+            place,
+            row.line,
+            "its sink got no memory, and the stream goes on",
+        )?
+    };
+    if !right {
+        counts.add_wrong();
+    }
+    Ok(true)
+}
+
+const SINK_REFUSED: &str = "refused 10 SinkRefused";
+
+// Whether a reply is a prefix of the expected one and then an error. How often equal texts were sent isn't compared. If
+// the expected reply is only the error, since that drops the sink, what was sent before isn't compared either.
+fn is_beginning(reply: &str, expected: &str) -> bool {
+    match reply.strip_suffix(SINK_REFUSED) {
+        Some(_) if expected == SINK_REFUSED => true,
+        Some(front) => {
+            let front = front.strip_suffix("; ").unwrap_or(front);
+            expected.starts_with(front.trim_end_matches(|c: char| c.is_ascii_digit()))
+        }
+        None => false,
+    }
+}
