@@ -7,7 +7,7 @@ pub mod Lengths
 pub mod SingleSteps
 pub mod Lanes
 pub mod ReplacementSteps
-pub mod Utf16Runs
+pub mod Utf16Blocks
 pub mod Utf16Steps
 pub mod Entries
 pub mod PackedSteps

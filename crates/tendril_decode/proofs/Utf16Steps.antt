@@ -14,7 +14,7 @@ use Rattle.std.proofs.lemmas.List.{drop_more, get_or-drop, take_rest, length-dro
 use Rattle.tendril_lossy.specs.Lossy.{Char}
 use Rattle.tendril_decode.specs.Machines.{Machine, told_from, state_after, DecodesTo}
 use Rattle.tendril_decode.specs.Utf16.{utf16, unit_of, tells_unit, tells_alone, lead_after}
-use Rattle.tendril_decode.specs.Utf16Runs.{unit_at, first_units}
+use Rattle.tendril_decode.specs.Utf16Blocks.{unit_at, first_units}
 use Rattle.tendril_decode.specs.declared.utf16.Utf16.{Utf16}
 use Rattle.tendril_decode.proofs.Machines.{DecodesTo-more, DecodesTo-char, DecodesTo-marks}
 
@@ -149,14 +149,14 @@ module _ (n : ℕ) (big : Bool) where
       (run_from s input (text ++ encode_utf8 u) read (k + 1) count (omega arith) both.1
       (subst (λ j. DecodesTo machine s input (text ++ encode_utf8 u) [] nothing (drop j input)) next one)))
 
-  pub run_done : (s : Utf16 n) (input text : List ℕ) (read count : ℕ) → read ≤ length input
+  pub block_done : (s : Utf16 n) (input text : List ℕ) (read count : ℕ) → read ≤ length input
       → 2 * count ≤ length (take (length input - read) (drop read input))
       → all_scalars (first_units big (take (length input - read) (drop read input)) count) ≡ true
       → DecodesTo machine s input text [] nothing (drop read input)
       → DecodesTo machine s input
       (text ++ encode_utf8_all (first_units big (take (length input - read) (drop read input)) count)) [] nothing
       (drop (read + 2 * count) input)
-  run_done s input text read count within room scalars d =
+  block_done s input text read count within room scalars d =
       let rest = take_rest input read in
       let start : read ≡ read + 2 * 0 = omega arith in
       let end : read + 2 * (0 + count) ≡ read + 2 * count = omega arith in

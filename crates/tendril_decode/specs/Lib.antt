@@ -10,7 +10,7 @@ pub mod EucJp
 pub mod Single
 pub mod Replacement
 pub mod Utf16
-pub mod Utf16Runs
+pub mod Utf16Blocks
 pub mod Packed
 pub mod Gb18030
 pub mod Iso2022Jp

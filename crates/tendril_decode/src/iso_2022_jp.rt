@@ -1,19 +1,19 @@
 //! ISO-2022-JP: the set of characters and the bytes of a sequence that isn't complete are kept between slices.
 ghost use Rattle.std.specs.Prelude.{◌≡◌, ◌+◌, ◌*◌, ◌-◌, ◌<◌, ◌≤◌, [], IfSome, length, take, drop, true, false};
-ghost use Rattle.std.specs.Char.{IsScalar};
 ghost use Rattle.tendril_decode.specs.declared.iso_2022_jp.Iso2022Jp.{Iso2022Jp};
 ghost use Rattle.tendril_decode.specs.Characters.{IsCharacter};
 ghost use Rattle.tendril_decode.specs.Machines.{DecodesTo, broken_marks};
 ghost use Rattle.tendril_decode.specs.Steps.{IsStep};
-ghost use Rattle.tendril_decode.specs.Iso2022Jp.{ascii_code, escaped, is_escape_second, is_fit, is_jis, is_set_fit};
-ghost use Rattle.tendril_decode.specs.Iso2022Jp.{iso_2022_jp, jis_code, put_back_as, resting, single_code, weight};
+ghost use Rattle.tendril_decode.specs.Iso2022Jp.{is_escape_second, is_fit, is_jis, is_set_fit};
+ghost use Rattle.tendril_decode.specs.Iso2022Jp.{iso_2022_jp, put_back_as, resting, single_code, weight};
+
+mod codes;
 
 use crate::characters::Character;
 use crate::decode::Decode;
-use crate::indexes::jis0208_at;
 use crate::part::Part;
 use crate::steps::{Step, Steps, decode_steps};
-use crate::two_bytes::in_range;
+use codes::{escaped, is_escape_second, is_jis, jis_code, single_code};
 use tendril_fmt::fmt::put_code_point;
 
 // The byte that begins an escape sequence.
@@ -270,27 +270,6 @@ fn character_at(set: Set, input: &[u8], at: usize) -> Option<Character>
     Some(Character { code, len: 2 })
 }
 
-// Whether a byte is the second one of an escape sequence.
-fn is_escape_second(byte: u8) -> bool
-    ensures { result ≡ is_escape_second byte }
-{
-    byte == 0x24 || byte == 0x28
-}
-
-// The set that an escape sequence selects by its second and third byte.
-fn escaped(second: u8, third: u8) -> Option<Set>
-    requires { is_escape_second second ≡ true }
-    ensures { result ≡ escaped second third }
-{
-    match (second, third) {
-        (0x28, 0x42) => Some(Set::Ascii),
-        (0x28, 0x4A) => Some(Set::Roman),
-        (0x28, 0x49) => Some(Set::Katakana),
-        (0x24, 0x40 | 0x42) => Some(Set::Jis0208),
-        _ => None,
-    }
-}
-
 // What the second byte of a malformed escape sequence is in a set: a character or a lead.
 fn put_back(set: Set, second: u8) -> Kept
     requires { is_escape_second second ≡ true }
@@ -300,58 +279,5 @@ fn put_back(set: Set, second: u8) -> Kept
     match single_code(set, second) {
         Some(code) => Kept::Owed(code),
         None => Kept::Lead(second),
-    }
-}
-
-// Whether a byte is one of a character of two bytes.
-#[inline(always)]
-fn is_jis(byte: u8) -> bool
-    ensures { result ≡ is_jis byte }
-{
-    in_range(0x21, 0x7E, byte)
-}
-
-// The character of two bytes, or 0.
-#[inline(always)]
-fn jis_code(lead: u8, trail: u8) -> u32
-    requires { is_jis lead ≡ true }
-    ensures value { result ≡ jis_code lead trail }
-    ensures scalar { IsScalar result }
-    ensures small { result < 0x1_0000 }
-{
-    if !is_jis(trail) {
-        return 0;
-    }
-    jis0208_at((lead as usize - 0x21) * 94 + (trail as usize - 0x21))
-}
-
-// The character of a byte in a set.
-#[inline(always)]
-fn single_code(set: Set, byte: u8) -> Option<u16>
-    ensures value { result ≡ single_code set byte }
-    ensures scalar { IfSome result (λ c. IsScalar c) }
-{
-    match set {
-        Set::Ascii => ascii_code(byte),
-        Set::Roman => match byte {
-            0x5C => Some(0xA5),
-            0x7E => Some(0x203E),
-            _ => ascii_code(byte),
-        },
-        Set::Katakana if in_range(0x21, 0x5F, byte) => Some(0xFF61 + (byte as u16 - 0x21)),
-        _ => None,
-    }
-}
-
-// The character of a byte in ASCII. The bytes that once shifted between sets are errors.
-#[inline(always)]
-fn ascii_code(byte: u8) -> Option<u16>
-    ensures value { result ≡ ascii_code byte }
-    ensures scalar { IfSome result (λ c. IsScalar c) }
-{
-    if byte >= 0x80 || byte == 0x0E || byte == 0x0F {
-        None
-    } else {
-        Some(byte as u16)
     }
 }

@@ -152,13 +152,13 @@ fn decode_units(big: bool, input: &[u8], out: &mut [u8], from: usize, start: usi
                 broken: true,
             };
         } else {
-            let run = decode_block(big, &input[read..], out, at);
-            if run.count == 0 {
-                at = put_code_point(out, run.end, unit as u32);
+            let block = decode_block(big, &input[read..], out, at);
+            if block.count == 0 {
+                at = put_code_point(out, block.end, unit as u32);
                 read += 2;
             } else {
-                at = run.end;
-                read += 2 * run.count;
+                at = block.end;
+                read += 2 * block.count;
             }
         }
     }

@@ -1,6 +1,6 @@
 -- The lanes of vectors of bytes.
 use Rattle.std.proofs.Common.{◌≡◌, ℕ, ◌+◌, ◌*◌, ◌/◌, ◌%◌, ◌^◌, ◌<◌, ◌≤◌, Bool, true, false, not, leb, ltb}
-use Rattle.std.proofs.Common.{eqb, cond, List, length, map, get_or, slice_index, replicate, refl}
+use Rattle.std.proofs.Common.{eqb, cond, List, [], ◌∷◌, suc, length, map, get_or, slice_index, replicate, refl}
 use Rattle.std.proofs.Common.{sym, ap, ap₂, subst, ◌∙◌, arith, bit_or, Fits, w8}
 use Rattle.std.specs.List.{prefix_len, range_with_len}
 use Rattle.std.specs.Simd.Lanes.{zip2, sel_l, mask_l, top, Each1, Each2}
@@ -10,7 +10,7 @@ use Rattle.std.proofs.lemmas.List.Sums.{prefix_len-le-length, prefix_len_passes}
 use Rattle.std.proofs.lemmas.List.FromFn.{fill_by_all}
 use Rattle.std.proofs.lemmas.Simd.{length-sel_l, get_or-sel_l}
 use Rattle.std.proofs.lemmas.Simd.{length-zip2, get_or-zip2, length-replicate, get_or-replicate, mask_l-mod}
-use Rattle.std.proofs.lemmas.Simd.{first_set_mask_l, Each1-get_or, Each1-from_get_or, Each1-all, Each2-splat}
+use Rattle.std.proofs.lemmas.Simd.{first_set_mask_l, Each1-get_or, Each1-all, Each2-splat}
 use Rattle.tendril_fmt.specs.Blocks.{first_set}
 
 -- What vectors of bytes do to two lanes. A comparison gives a mask.
@@ -57,12 +57,6 @@ lanes_zip n h xs ys f g p q = record {
       ∙ ap₂ h (p.lanes k lt) (q.lanes k lt);
 }
 
-pub lanes_map : (n : ℕ) (h : ℕ → ℕ) (xs : List ℕ) (f : ℕ → ℕ) → IsLanes n xs f → IsLanes n (map h xs) (λ k. h (f k))
-lanes_map n h xs f p = record {
-  long = length-map xs h ∙ p.long;
-  lanes = λ k lt. get_or-map h xs k 0 0 (omega (arith, p.long)) ∙ ap h (p.lanes k lt);
-}
-
 -- a choice of each lane by the top bit of a mask's lane
 pub lanes_select : (h n : ℕ) (ms xs ys : List ℕ) (m f g : ℕ → ℕ) → IsLanes n ms m → IsLanes n xs f → IsLanes n ys g
     → IsLanes n (sel_l (map (top h) ms) xs ys) (λ k. cond (top h (m k)) (f k) (g k))
@@ -80,13 +74,6 @@ lanes_select h n ms xs ys m f g o p q =
 
 pub lane_small : (xs : List ℕ) (n k : ℕ) → length xs ≡ n → Each1 (Fits w8) xs → k < n → slice_index xs k < 256
 lane_small xs n k long h lt = (Each1-get_or (Fits w8) xs k 0 (omega arith) h).fits
-
--- lanes that are bytes
-pub lanes_fit : (n : ℕ) (xs : List ℕ) (f : ℕ → ℕ) → IsLanes n xs f → ((k : ℕ) → k < n → f k < 256) → Each1 (Fits w8) xs
-lanes_fit n xs f p small =
-    Each1-from_get_or (Fits w8) xs 0 (λ k lt.
-    let within : k < n = omega (arith, p.long) in
-    record { fits = omega (arith, p.lanes k within, small k within) })
 
 -- the list of the lanes
 pub lanes_list : (n : ℕ) (xs : List ℕ) (f g : ℕ → ℕ) → IsLanes n xs f → ((k : ℕ) → k < n → f k ≡ g k)
@@ -110,6 +97,18 @@ before_set n r xs f p few found =
           let passes = not-true _ (prefix_len_passes (λ x. not (top 7 x)) xs k 0 (omega (arith, counted))) in
           subst (λ x. top 7 x ≡ false) (p.lanes k (omega arith)) passes,
     )
+
+no_bits : (xs : List ℕ) → ((k : ℕ) → k < length xs → top 7 (get_or xs k 0) ≡ false) → mask_l (map (top 7) xs) ≡ 0
+no_bits [] h = refl
+no_bits (x ∷ xs) h =
+    ap₂ (λ b m. cond b 1 0 + 2 * m) (h 0 (omega arith)) (no_bits xs (λ k lt. h (suc k) (omega arith)))
+
+-- Where no lane's top bit is set, no bit of the mask is.
+pub none_set : (n : ℕ) (xs : List ℕ) (f : ℕ → ℕ) → IsLanes n xs f → ((k : ℕ) → k < n → top 7 (f k) ≡ false)
+    → mask_l (map (top 7) xs) % 2 ^ 64 ≡ 0
+none_set n xs f p none =
+    ap (λ m. m % 2 ^ 64)
+    (no_bits xs (λ k lt. let within : k < n = omega (arith, p.long) in ap (top 7) (p.lanes k within) ∙ none k within))
 
 -- a lane of two masks joined
 pub neither : (a b : Bool) → top 7 (bit_or (cond a 255 0) (cond b 255 0)) ≡ false → (a ≡ false) × (b ≡ false)

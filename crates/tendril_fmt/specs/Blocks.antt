@@ -1,5 +1,5 @@
 -- Blocks of 16 bytes or units.
-use Rattle.std.specs.Prelude.{ℕ, ◌+◌, ◌*◌, ◌<◌, ◌≤◌, ◌⊎◌, ◌==◌, List, [], ◌∷◌, ◌++◌, take, drop, slice_index}
+use Rattle.std.specs.Prelude.{ℕ, ◌+◌, ◌*◌, ◌<◌, ◌≤◌, ◌⊎◌, ◌==◌, List, [], ◌∷◌, ◌++◌, length, take, drop, slice_index}
 use Rattle.std.specs.Prelude.{if◌then◌else◌}
 use Rattle.std.specs.Int.{w64, trailing_zeros}
 use Rattle.std.specs.Simd.Lanes.{zip2}
@@ -14,7 +14,7 @@ units_of low high = zip2 (λ l h. l + 256 * h) low high
 
 -- no unit of a block is a surrogate, by their high bytes
 abbrev pub LackSurrogates : List ℕ → Type 0
-LackSurrogates high = (k : ℕ) → k < 16 → (slice_index high k < 0xD8) ⊎ (0xE0 ≤ slice_index high k)
+LackSurrogates high = (k : ℕ) → k < length high → (slice_index high k < 0xD8) ⊎ (0xE0 ≤ slice_index high k)
 
 -- the first bytes of each word of four bytes, as many as the list of lengths says
 abbrev pub fronts : List ℕ → List ℕ → List ℕ

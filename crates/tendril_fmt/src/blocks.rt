@@ -1,5 +1,5 @@
 //! Blocks of 16 bytes or units, that are tested and written at once.
-ghost use Rattle.std.specs.Prelude.{◌≡◌, ◌+◌, ◌*◌, ◌<◌, ◌≤◌, ◌++◌, ℕ, length, take, slice_index, true, false};
+ghost use Rattle.std.specs.Prelude.{◌≡◌, ◌↔◌, ◌+◌, ◌*◌, ◌<◌, ◌≤◌, ◌++◌, ℕ, length, take, slice_index, true, false};
 ghost use Rattle.std.specs.List.{AllByRecursion};
 ghost use Rattle.std.specs.Str.{all_scalars, encode_utf8_all};
 ghost use Rattle.tendril_fmt.specs.Blocks.{LackSurrogates, first_set, fronts, units_of};
@@ -15,7 +15,7 @@ pub const ROOM: usize = 49;
 /// Whether the bytes of a block are all ASCII.
 #[inline(always)]
 pub fn is_ascii(block: u8x16) -> bool
-    ensures { result ≡ true → AllByRecursion (λ b. b < 0x80) block }
+    ensures { (result ≡ true) ↔ AllByRecursion (λ b. b < 0x80) block }
 {
     block.simd_ge(u8x16::splat(0x80)).to_bitmask() == 0
 }
@@ -59,7 +59,7 @@ pub(crate) fn low_high(units: &[u16]) -> (u8x16, u8x16)
 /// Whether a block has a surrogate, by the high bytes of its units.
 #[inline(always)]
 pub fn has_surrogate(high: u8x16) -> bool
-    ensures { result ≡ false → LackSurrogates high }
+    ensures { (result ≡ false) ↔ LackSurrogates high }
 {
     let surrogates = (high / u8x16::splat(8)).simd_eq(u8x16::splat(0xD8 / 8));
     surrogates.to_bitmask() != 0
@@ -90,7 +90,7 @@ fn are_ascii(low: u8x16, high: u8x16) -> bool
     others.to_bitmask() == 0
 }
 
-// For each unit of a block four bytes, of which the first are its UTF-8, and how many these are.
+// The UTF-8 of each unit of a block, at the start of a word of four bytes, and how many bytes each has.
 #[inline(always)]
 fn words_of(low: u8x16, high: u8x16) -> (u8x64, u8x16)
     ensures few { (k : ℕ) → slice_index result.1 k ≤ 3 }

@@ -1,16 +1,16 @@
 //! The 16-bit units of WTF-8.
-ghost use Rattle.std.specs.Prelude.{◌≡◌, ◌+◌, ◌*◌, ◌<◌, ◌≤◌, ◌&&◌, ◌∷◌, [], ◌++◌, if◌then◌else◌, length, take};
+ghost use Rattle.std.specs.Prelude.{◌≡◌, ◌+◌, ◌*◌, ◌<◌, ◌≤◌, ◌&&◌, [], ◌++◌, if◌then◌else◌, length, take};
 ghost use Rattle.std.specs.Prelude.{encode_utf8, true, IfSome, MatchOption};
 ghost use Rattle.std.specs.Iterator.{YieldsFirst, item_count};
 ghost use Rattle.std.specs.Char.Escape.{encode_utf16};
 ghost use Rattle.std.specs.Char.Utf16.{is_high_surrogate, is_low_surrogate};
 ghost use Rattle.std.specs.List.{AllByRecursion};
 ghost use Rattle.std.specs.Simd.Lanes.{chunk, put_chunk};
-ghost use Rattle.tendril_fmt.specs.CodePoints.{IsCodePoint};
 ghost use Rattle.tendril_fmt.specs.Units.{SplitsUnits, StartsWithAscii, bytes_behind};
 ghost use Rattle.tendril_fmt.specs.Wtf8.{IsWtf8, units as units_of, wtf8};
 
 use crate::blocks::{BLOCK, ROOM, encode_block, has_surrogate, low_high};
+use crate::fmt::code_point::put_code_point;
 use crate::futf::split_text;
 use std::iter::FusedIterator;
 use std::marker::Model;
@@ -277,44 +277,4 @@ fn is_trail(unit: u16) -> bool
     ensures { result ≡ is_low_surrogate unit }
 {
     0xDC00 <= unit && unit < 0xE000
-}
-
-/// Writes the WTF-8 of a code point at an offset, and returns the offset after it: one to four bytes, three for a
-/// surrogate.
-#[inline]
-pub fn put_code_point(bytes: &mut [u8], at: usize, code: u32) -> usize
-    requires point { IsCodePoint code }
-    requires fits { at + length (encode_utf8 code) ≤ length bytes.old }
-    ensures place { result ≡ at + length (encode_utf8 code) }
-    ensures bytes { take result bytes.new ≡ take at bytes.old ++ encode_utf8 code }
-{
-    if code < 0x80 {
-        return put(bytes, at, code as u8);
-    }
-    let last = (0x80 + code % 0x40) as u8;
-    if code < 0x800 {
-        let at = put(bytes, at, (0xC0 + code / 0x40) as u8);
-        return put(bytes, at, last);
-    }
-    let third = (0x80 + code / 0x40 % 0x40) as u8;
-    if code < 0x1_0000 {
-        let at = put(bytes, at, (0xE0 + code / 0x1000) as u8);
-        let at = put(bytes, at, third);
-        return put(bytes, at, last);
-    }
-    let at = put(bytes, at, (0xF0 + code / 0x4_0000) as u8);
-    let at = put(bytes, at, (0x80 + code / 0x1000 % 0x40) as u8);
-    let at = put(bytes, at, third);
-    put(bytes, at, last)
-}
-
-// Writes a byte at an offset, and returns the offset after it.
-#[inline]
-fn put(bytes: &mut [u8], at: usize, byte: u8) -> usize
-    requires { at < length bytes.old }
-    ensures place { result ≡ at + 1 }
-    ensures bytes { take result bytes.new ≡ take at bytes.old ++ byte ∷ [] }
-{
-    bytes[at] = byte;
-    at + 1
 }

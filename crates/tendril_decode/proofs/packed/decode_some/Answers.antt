@@ -11,6 +11,6 @@ returns-then-is_ascii-clause-decodes c =
     let text = take c.args.start c.args.out.now in
     let written = c.put_block.ensures.bytes ∙ ap (λ l. text ++ l) c.block_at-block.ensures in
     let ascii = subst (AllByRecursion (λ b. b < 0x80)) c.block_at-block.ensures
-    (c.is_ascii.ensures c.if-is_ascii.true) in
+    (c.is_ascii.ensures.0 c.if-is_ascii.true) in
     λ d. subst (λ l. DecodesIn c.args.encoding input l [] (drop (read + 16) input)) (sym written)
     (run_done c.args.encoding input text read (read + 16) (omega arith) d ascii)

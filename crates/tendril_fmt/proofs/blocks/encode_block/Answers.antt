@@ -10,7 +10,7 @@ scalars : (low high : List ℕ) → length low ≡ 16 → length high ≡ 16 →
     → LackSurrogates high → all_scalars (units_of low high) ≡ true
 scalars low high long also fits fit lack =
     scalars_are low high (λ k lt. lane_small low 16 k long fits (omega arith))
-    (λ k lt. lane_small high 16 k also fit (omega arith)) (λ k lt. lack k (omega arith))
+    (λ k lt. lane_small high 16 k also fit (omega arith)) lack
 
 pub returns-then-are_ascii-clause-bytes : goal.returns-then-are_ascii-clause-bytes
 returns-then-are_ascii-clause-bytes c =

@@ -2,7 +2,7 @@ use Rattle.std.proofs.Common.{◌+◌, ◌*◌, get_or, ap, sym, ◌∙◌, arit
 use Rattle.std.specs.Simd.Lanes.{chunk}
 use Rattle.std.proofs.lemmas.Simd.{length-chunk, pick_l_left}
 use Rattle.std.proofs.lemmas.Bool.{cond-true, cond-false}
-use Rattle.tendril_decode.proofs.Utf16Runs.{evens, odds, picked}
+use Rattle.tendril_decode.proofs.Utf16Blocks.{evens, odds, picked}
 use Rattle.tendril_decode.proofs.utf16.blocks.bytes_of.Goals as goal
 use Rattle.tendril_decode.proofs.utf16.blocks.bytes_of.Goals.{then-second, else-second}
 

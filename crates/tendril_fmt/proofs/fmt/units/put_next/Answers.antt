@@ -23,7 +23,7 @@ returns-then-not-has_surrogate-clause-place c =
     let put = c.encode_block-end in
     let is =
     spelt c.args.units.now c.split_at.result.0.now after block c.split_at.ensures.front c.split_at.ensures.back
-    c.low_high.ensures (put.ensures.scalars (c.has_surrogate.ensures c.if-not-has_surrogate.true)) in
+    c.low_high.ensures (put.ensures.scalars (c.has_surrogate.ensures.0 c.if-not-has_surrogate.true)) in
     let end : put.result ≡ c.args.at + length bytes =
     place_written put.new.bytes c.args.bytes.now bytes c.args.at put.result put.ensures.bytes
     (omega (arith, c.requires))
@@ -39,7 +39,7 @@ returns-then-not-has_surrogate-clause-bytes c =
     let put = c.encode_block-end in
     let is =
     spelt c.args.units.now c.split_at.result.0.now after block c.split_at.ensures.front c.split_at.ensures.back
-    c.low_high.ensures (put.ensures.scalars (c.has_surrogate.ensures c.if-not-has_surrogate.true)) in
+    c.low_high.ensures (put.ensures.scalars (c.has_surrogate.ensures.0 c.if-not-has_surrogate.true)) in
     ap (λ l. l ++ wtf8 after) put.ensures.bytes
     ∙ append_assoc front bytes (wtf8 after)
     ∙ ap (λ l. front ++ l) (sym is)

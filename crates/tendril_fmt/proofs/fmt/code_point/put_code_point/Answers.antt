@@ -1,6 +1,6 @@
 use Rattle.std.proofs.Common.{◌≡◌, ℕ, List, ◌++◌, ◌∷◌, [], length, ap, ◌∙◌, arith, append_assoc}
 use Rattle.tendril_fmt.specs.Proved.Encodings.{encode_utf8_2, encode_utf8_3, encode_utf8_4}
-use Rattle.tendril_fmt.proofs.fmt.units.put_code_point.Goals as goal
+use Rattle.tendril_fmt.proofs.fmt.code_point.put_code_point.Goals as goal
 
 pub put-at-requires : goal.put-at-requires
 put-at-requires c = omega (

@@ -7,7 +7,7 @@ use Rattle.std.proofs.lemmas.List.FromFn.{fill_by_all, get_or-map-range_with_len
 use Rattle.std.proofs.lemmas.Simd.{get_or-chunk}
 use Rattle.tendril_fmt.specs.Blocks.{units_of}
 use Rattle.tendril_fmt.proofs.Lanes.{IsLanes, lanes_zip}
-use Rattle.tendril_decode.specs.Utf16Runs.{unit_at, first_units, byte_at}
+use Rattle.tendril_decode.specs.Utf16Blocks.{unit_at, first_units, byte_at}
 
 abbrev pub evens : List ℕ
 evens = 0 ∷ 2 ∷ 4 ∷ 6 ∷ 8 ∷ 10 ∷ 12 ∷ 14 ∷ 16 ∷ 18 ∷ 20 ∷ 22 ∷ 24 ∷ 26 ∷ 28 ∷ 30 ∷ []
