@@ -1,5 +1,6 @@
 -- The bytes that records spell, and the bytes of a text that they don't.
-use Rattle.std.specs.Prelude.{ℕ, ◌≡◌, ◌⊎◌, Bool, true, ◌==◌, ◌||◌, not, List, [], ◌∷◌, ◌++◌, map, flat_map}
+use Rattle.std.specs.Prelude.{ℕ, ◌≡◌, ◌<◌, ◌⊎◌, Bool, true, ◌==◌, ◌||◌, not, List, [], ◌∷◌, ◌++◌, length, map, flat_map}
+use Rattle.std.specs.Prelude.{Result, OnOk, OnErr}
 use Rattle.std.specs.List.{filter, join_with_byte}
 use Rattle.tendril.specs.Texts.{Text}
 use Rattle.use_csv.specs.declared.partial.PartialRecord.{PartialRecord}
@@ -34,3 +35,11 @@ abbrev pub TakesCsv : List ℕ → List ℕ → List ℕ → List ℕ → Type 0
 TakesCsv spelled left spelled' left' =
     (spelled' ++ left' ≡ spelled ++ left)
     ⊎ ((spelled' ≡ spelled) × ((b : ℕ) × (is_mark b ≡ true) × (left ≡ b ∷ left')))
+
+-- What a step of the reader takes from the bytes left of a text: at least one. After an error the sink has the records
+-- that it had.
+pub record ReaderStep {T E : Type 0} (records : List Record) (partial : PartialRecord) (left : List ℕ)
+    (result : Result T E) (records' : List Record) (partial' : PartialRecord) (left' : List ℕ) : Type 0 where
+  pub ok : OnOk result (TakesCsv (spelled_so_far records partial) left (spelled_so_far records' partial') left')
+  pub shorter : OnOk result (length left' < length left)
+  pub err : OnErr result (records' ≡ records)

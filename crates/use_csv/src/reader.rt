@@ -1,7 +1,7 @@
 //! A sink of texts that reads CSV records.
 ghost use Rattle.std.specs.Prelude.{◌≡◌, ◌<◌, ◌++◌, [], codes, length, OnOk, OnErr};
 ghost use Rattle.tendril.specs.Fmt.Parts.{IsFrontOf};
-ghost use Rattle.use_csv.specs.Spelled.{TakesCsv, partial_bytes, spelled_so_far};
+ghost use Rattle.use_csv.specs.Spelled.{ReaderStep, partial_bytes, spelled_so_far};
 
 use crate::partial::PartialRecord;
 use crate::record::{Record, RecordSink};
@@ -64,10 +64,8 @@ impl<K: RecordSink> CsvReader<K> {
     // Takes a run of a field's bytes, or one byte between fields.
     fn take_part(&mut self, rest: &mut StrTendril) -> Result<(), Refusal>
         requires { 0 < length rest.old.bytes }
-        ensures ok { OnOk result (TakesCsv (spelled_so_far (K.records self.old.sink) self.old.partial) rest.old.bytes
-            (spelled_so_far (K.records self.new.sink) self.new.partial) rest.new.bytes) }
-        ensures shorter { OnOk result (length rest.new.bytes < length rest.old.bytes) }
-        ensures err { OnErr result (K.records self.new.sink ≡ K.records self.old.sink) }
+        ensures { ReaderStep (K.records self.old.sink) self.old.partial rest.old.bytes
+            result (K.records self.new.sink) self.new.partial rest.new.bytes }
     {
         match self.state {
             State::AfterReturn => self.take_after_return(rest),
@@ -81,10 +79,8 @@ impl<K: RecordSink> CsvReader<K> {
     // Takes the line feed after a carriage return, or the first bytes of a record.
     fn take_after_return(&mut self, rest: &mut StrTendril) -> Result<(), Refusal>
         requires { 0 < length rest.old.bytes }
-        ensures ok { OnOk result (TakesCsv (spelled_so_far (K.records self.old.sink) self.old.partial) rest.old.bytes
-            (spelled_so_far (K.records self.new.sink) self.new.partial) rest.new.bytes) }
-        ensures shorter { OnOk result (length rest.new.bytes < length rest.old.bytes) }
-        ensures err { OnErr result (K.records self.new.sink ≡ K.records self.old.sink) }
+        ensures { ReaderStep (K.records self.old.sink) self.old.partial rest.old.bytes
+            result (K.records self.new.sink) self.new.partial rest.new.bytes }
     {
         self.state = State::RecordStart;
         if rest.skip_prefix("\n") {
@@ -96,10 +92,8 @@ impl<K: RecordSink> CsvReader<K> {
     // Takes the quote that opens a field, or the first bytes of a field without quotes.
     fn take_start(&mut self, rest: &mut StrTendril) -> Result<(), Refusal>
         requires { 0 < length rest.old.bytes }
-        ensures ok { OnOk result (TakesCsv (spelled_so_far (K.records self.old.sink) self.old.partial) rest.old.bytes
-            (spelled_so_far (K.records self.new.sink) self.new.partial) rest.new.bytes) }
-        ensures shorter { OnOk result (length rest.new.bytes < length rest.old.bytes) }
-        ensures err { OnErr result (K.records self.new.sink ≡ K.records self.old.sink) }
+        ensures { ReaderStep (K.records self.old.sink) self.old.partial rest.old.bytes
+            result (K.records self.new.sink) self.new.partial rest.new.bytes }
     {
         if rest.skip_prefix("\"") {
             self.state = State::Quoted;
@@ -111,10 +105,8 @@ impl<K: RecordSink> CsvReader<K> {
     // Takes the bytes before the next comma or line end, or one of these.
     fn take_plain(&mut self, rest: &mut StrTendril) -> Result<(), Refusal>
         requires { 0 < length rest.old.bytes }
-        ensures ok { OnOk result (TakesCsv (spelled_so_far (K.records self.old.sink) self.old.partial) rest.old.bytes
-            (spelled_so_far (K.records self.new.sink) self.new.partial) rest.new.bytes) }
-        ensures shorter { OnOk result (length rest.new.bytes < length rest.old.bytes) }
-        ensures err { OnErr result (K.records self.new.sink ≡ K.records self.old.sink) }
+        ensures { ReaderStep (K.records self.old.sink) self.old.partial rest.old.bytes
+            result (K.records self.new.sink) self.new.partial rest.new.bytes }
     {
         match rest.pop_except_from(&self.ends)? {
             None => Ok(()),
@@ -136,10 +128,8 @@ impl<K: RecordSink> CsvReader<K> {
     // Takes the bytes before the next quote, or that quote.
     fn take_quoted(&mut self, rest: &mut StrTendril) -> Result<(), Refusal>
         requires { 0 < length rest.old.bytes }
-        ensures ok { OnOk result (TakesCsv (spelled_so_far (K.records self.old.sink) self.old.partial) rest.old.bytes
-            (spelled_so_far (K.records self.new.sink) self.new.partial) rest.new.bytes) }
-        ensures shorter { OnOk result (length rest.new.bytes < length rest.old.bytes) }
-        ensures err { OnErr result (K.records self.new.sink ≡ K.records self.old.sink) }
+        ensures { ReaderStep (K.records self.old.sink) self.old.partial rest.old.bytes
+            result (K.records self.new.sink) self.new.partial rest.new.bytes }
     {
         match rest.pop_except_from(&self.quote)? {
             None => Ok(()),
@@ -156,10 +146,8 @@ impl<K: RecordSink> CsvReader<K> {
     // Takes the second of two quotes, which belongs to the field, or the bytes after a quoted field.
     fn take_after_quote(&mut self, rest: &mut StrTendril) -> Result<(), Refusal>
         requires { 0 < length rest.old.bytes }
-        ensures ok { OnOk result (TakesCsv (spelled_so_far (K.records self.old.sink) self.old.partial) rest.old.bytes
-            (spelled_so_far (K.records self.new.sink) self.new.partial) rest.new.bytes) }
-        ensures shorter { OnOk result (length rest.new.bytes < length rest.old.bytes) }
-        ensures err { OnErr result (K.records self.new.sink ≡ K.records self.old.sink) }
+        ensures takes { ReaderStep (K.records self.old.sink) self.old.partial rest.old.bytes
+            result (K.records self.new.sink) self.new.partial rest.new.bytes }
         ensures second { OnOk result (IsFrontOf (codes "\"") rest.old.bytes →
             spelled_so_far (K.records self.new.sink) self.new.partial ++ rest.new.bytes
             ≡ spelled_so_far (K.records self.old.sink) self.old.partial ++ rest.old.bytes) }
