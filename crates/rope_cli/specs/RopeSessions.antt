@@ -1,6 +1,6 @@
 -- What the lines of a script print, on a table of texts and ropes that is empty at first.
 use Rattle.std.specs.Prelude.{ℕ, List, Option}
-use Rattle.tendril_block.specs.declared.refusal.Refusal.TheVariants.{Memory}
+use Rattle.tendril_errors.specs.declared.refusal.Refusal.TheVariants.{Memory}
 use Rattle.tendril_lines.specs.declared.command.Reply.TheVariants.{Refused}
 use Rattle.rope_run.specs.RopeCells.{Cells, no_cells}
 use Rattle.rope_run.specs.RopeLines.{rope_words_of}

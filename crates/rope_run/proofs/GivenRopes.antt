@@ -2,8 +2,8 @@
 use Rattle.std.proofs.Common.{◌≡◌, ℕ, ◌<◌, ◌≤◌, ◌+◌, List, [], ◌∷◌, ◌++◌, length, ap, refl, ◌∙◌, inl, inr, arith}
 use Rattle.std.proofs.Common.{Option, Result, Ok, Err}
 use Rattle.std.specs.Result.{MatchResult}
-use Rattle.tendril_block.specs.Outcomes.{Gives, NoneMust, Refused}
-use Rattle.tendril_block.specs.declared.refusal.Refusal.{Refusal}
+use Rattle.tendril_errors.specs.Outcomes.{Gives, NoneMust, Refused}
+use Rattle.tendril_errors.specs.declared.refusal.Refusal.{Refusal}
 use Rattle.tendril_lines.specs.declared.kind.Kind.TheVariants.{Utf8}
 use Rattle.tendril_run.specs.Cells.{Cell, text}
 use Rattle.tendril_text.specs.Making.{MakesText}

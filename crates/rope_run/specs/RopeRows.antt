@@ -16,9 +16,9 @@ use Rattle.std.specs.Prelude.{
   IsUtf8,
 }
 use Rattle.rope_text.specs.Growth.{TotalMust, RoomMay}
-use Rattle.tendril_block.specs.Outcomes.{LengthMust, SliceMust, CountMay}
-use Rattle.tendril_block.specs.declared.refusal.Refusal.{Refusal}
-use Rattle.tendril_block.specs.declared.refusal.Refusal.TheVariants.{WrongFormat}
+use Rattle.tendril_errors.specs.Outcomes.{LengthMust, SliceMust, CountMay}
+use Rattle.tendril_errors.specs.declared.refusal.Refusal.{Refusal}
+use Rattle.tendril_errors.specs.declared.refusal.Refusal.TheVariants.{WrongFormat}
 use Rattle.tendril_lines.specs.declared.kind.Kind.TheVariants.{Utf8}
 use Rattle.tendril_run.specs.Cells.{Cell}
 use Rattle.tendril_run.specs.Cells as slots

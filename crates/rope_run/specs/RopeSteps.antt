@@ -1,6 +1,6 @@
 -- What each command does to a table of texts and ropes, and what it replies.
 use Rattle.std.specs.Prelude.{ℕ, ◌≡◌, [], ◌∷◌, ◌++◌, length, slice_set, Result, Ok, Err}
-use Rattle.tendril_block.specs.declared.refusal.Refusal.{Refusal}
+use Rattle.tendril_errors.specs.declared.refusal.Refusal.{Refusal}
 use Rattle.tendril_lines.specs.declared.command.Reply.{Reply}
 use Rattle.tendril_lines.specs.declared.command.Reply.TheVariants as reply
 use Rattle.tendril_run.specs.Cells.{Cell, cell_at}

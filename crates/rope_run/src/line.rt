@@ -6,7 +6,7 @@ ghost use Rattle.tendril_lines.specs.declared.shape.Values.TheVariants.{Empty, O
 
 use crate::command::RopeCommand;
 use std::alloc::Global;
-use tendril_block::Refusal;
+use tendril_errors::Refusal;
 use tendril_lines::{Command, LineCommand, Value, Values, Word, parse};
 
 /// Returns the command of a line, given without its line feed, or `None` if it is no command's line.

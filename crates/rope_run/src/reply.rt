@@ -4,7 +4,7 @@ ghost use Rattle.rope_run.specs.RopePrinted.{rope_printed};
 
 use crate::command::RopeReply;
 use std::alloc::Global;
-use tendril_block::Refusal;
+use tendril_errors::Refusal;
 use tendril_lines::print_reply;
 
 /// Returns a reply's line, without its line feed: `rope N` for a new rope, `length N`, or what `print_reply` prints.

@@ -3,7 +3,7 @@ ghost use Rattle.std.specs.Prelude.{◌≡◌, ◌≤◌, ◌+◌, [], length, A
 ghost use Rattle.rope_run.specs.RopeCells.{IsRopeCell, gone as gone_cell, rope as rope_cell, rope_at};
 ghost use Rattle.rope_run.specs.RopeRows.{append_rule, rope_part_rule, rope_take_rule};
 ghost use Rattle.rope_run.specs.RopeSteps.{AddsRope, AddsSlot, IsRefused, RopeStep};
-ghost use Rattle.tendril_block.specs.Outcomes.{Gives};
+ghost use Rattle.tendril_errors.specs.Outcomes.{Gives};
 ghost use Rattle.tendril_lines.specs.declared.kind.Kind.TheVariants as kind;
 ghost use Rattle.tendril_run.specs.Cells.{text as text_cell};
 ghost use Rattle.tendril_run.specs.Rules.{GivesBy};

@@ -6,17 +6,17 @@ use Rattle.std.specs.Str.{IsCharBoundary}
 use Rattle.std.proofs.lemmas.List.{drop_at, drop-drop}
 use Rattle.std.proofs.lemmas.List.Elements.{All-cons, All-nil}
 use Rattle.std.proofs.lemmas.Str.{IsUtf8-nil}
-use Rattle.tendril_block.specs.declared.refusal.Refusal.{Refusal}
-use Rattle.tendril_block.specs.declared.refusal.Refusal.TheVariants.{Count}
-use Rattle.tendril_block.specs.Outcomes.{Refused}
+use Rattle.tendril_errors.specs.declared.refusal.Refusal.{Refusal}
+use Rattle.tendril_errors.specs.declared.refusal.Refusal.TheVariants.{Count}
+use Rattle.tendril_errors.specs.Outcomes.{Refused}
 use Rattle.rope_text.proofs.Joined.{joined_both}
 use Rattle.rope_text.proofs.PartsOf.{shares_of_none, shares_of_past}
 use Rattle.rope_text.specs.declared.rope.TheConstants.{MAX_TOTAL}
 use Rattle.rope_text.specs.Growth.{Grows, RoomMay, TotalMust}
 use Rattle.rope_text.specs.Parts.{PartMay, SharesPart, SubRope}
 use Rattle.rope_text.specs.Ropes.{RopeText}
-use Rattle.tendril_block.specs.declared.subtendril_error.SubtendrilError.{SubtendrilError}
-use Rattle.tendril_block.specs.Errors.{refusal_of}
+use Rattle.tendril_errors.specs.declared.subtendril_error.SubtendrilError.{SubtendrilError}
+use Rattle.tendril_errors.specs.Errors.{refusal_of}
 use Rattle.tendril_text.specs.Parts.{Slices}
 use Rattle.tendril_text.specs.TextLists.{listed_unless_empty, unless_empty, bytes_of_all}
 use Rattle.tendril_text.specs.Texts.{Text, Shares}

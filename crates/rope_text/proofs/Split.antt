@@ -8,8 +8,8 @@ use Rattle.std.proofs.lemmas.List.{take-append-drop, take-append-le}
 use Rattle.std.proofs.lemmas.List.Elements.{All-cons, All-drop, All-get_or}
 use Rattle.std.proofs.lemmas.Str.{IsUtf8-nil, IsUtf8-take, IsUtf8-drop}
 use Rattle.std.proofs.Math.Seq.{drop-append-add, take-append-add}
-use Rattle.tendril_block.specs.declared.refusal.Refusal.{Refusal}
-use Rattle.tendril_block.specs.Outcomes.{NoneMust, Outcome}
+use Rattle.tendril_errors.specs.declared.refusal.Refusal.{Refusal}
+use Rattle.tendril_errors.specs.Outcomes.{NoneMust, Outcome}
 use Rattle.rope_text.proofs.Built.{IsRope-drop, IsRope-push, IsRope-take}
 use Rattle.rope_text.proofs.Ends.{AreEnds-drop, AreEnds-left, wrapped_twice}
 use Rattle.rope_text.proofs.Joined.{joined_both, joined_drop_more, length_joined_both}

@@ -3,9 +3,9 @@ use Rattle.std.proofs.Common.{◌≡◌, ℕ, ◌+◌, ◌<◌, List, ◌++◌, 
 use Rattle.std.proofs.Common.{ap, ◌∙◌, subst, arith, inl, inr}
 use Rattle.std.specs.Prelude.{IsUtf8, All}
 use Rattle.std.proofs.lemmas.List.{take_all}
-use Rattle.tendril_block.specs.declared.refusal.Refusal.{Refusal}
-use Rattle.tendril_block.specs.declared.refusal.Refusal.TheVariants.{ValidationFailed}
-use Rattle.tendril_block.specs.Outcomes.{Gives, NoneMust, First}
+use Rattle.tendril_errors.specs.declared.refusal.Refusal.{Refusal}
+use Rattle.tendril_errors.specs.declared.refusal.Refusal.TheVariants.{ValidationFailed}
+use Rattle.tendril_errors.specs.Outcomes.{Gives, NoneMust, First}
 use Rattle.rope_text.proofs.Joined.{pieces_valid}
 use Rattle.rope_text.proofs.PartsOf.{shares_of_all}
 use Rattle.std.proofs.lemmas.List.{take_more, get_or_read}

@@ -1,8 +1,8 @@
 -- Ropes that grow.
 use Rattle.std.specs.Prelude.{◌≡◌, ℕ, ◌<◌, ◌≤◌, ◌+◌, List, ◌++◌, length, Option, Result, Ok, Err}
-use Rattle.tendril_block.specs.declared.refusal.Refusal.{Refusal}
-use Rattle.tendril_block.specs.declared.refusal.Refusal.TheVariants.{TooLong, Memory}
-use Rattle.tendril_block.specs.Outcomes.{First, NoneMust, Outcome}
+use Rattle.tendril_errors.specs.declared.refusal.Refusal.{Refusal}
+use Rattle.tendril_errors.specs.declared.refusal.Refusal.TheVariants.{TooLong, Memory}
+use Rattle.tendril_errors.specs.Outcomes.{First, NoneMust, Outcome}
 use Rattle.rope_text.specs.declared.rope.TheConstants.{MAX_TOTAL}
 use Rattle.rope_text.specs.Ropes.{RopeText}
 use Rattle.tendril_text.specs.Texts.{Text}

@@ -19,10 +19,10 @@ use Rattle.std.specs.Prelude.{
   IsUtf8,
   Result,
 }
-use Rattle.tendril_block.specs.declared.atomicity.TheConstants.{INLINE_LEN}
-use Rattle.tendril_block.specs.declared.refusal.Refusal.{Refusal}
-use Rattle.tendril_block.specs.declared.refusal.Refusal.TheVariants.{Count}
-use Rattle.tendril_block.specs.Outcomes.{NoneMust, SliceMust, Gives}
+use Rattle.tendril_errors.specs.declared.limits.TheConstants.{INLINE_LEN}
+use Rattle.tendril_errors.specs.declared.refusal.Refusal.{Refusal}
+use Rattle.tendril_errors.specs.declared.refusal.Refusal.TheVariants.{Count}
+use Rattle.tendril_errors.specs.Outcomes.{NoneMust, SliceMust, Gives}
 use Rattle.rope_text.specs.Growth.{RoomMay}
 use Rattle.rope_text.specs.Ropes.{RopeText}
 use Rattle.tendril_text.specs.TextLists.{bytes_of_all}

@@ -18,7 +18,7 @@ use Rattle.std.specs.Prelude.{
   slice_index_or,
 }
 use Rattle.std.specs.Cmp.Lexicographic.{pointwise}
-use Rattle.tendril_block.specs.declared.atomicity.TheConstants.{MAX_LEN}
+use Rattle.tendril_errors.specs.declared.limits.TheConstants.{MAX_LEN}
 use Rattle.tendril_text.specs.TextLists.{bytes_of_all, no_text}
 use Rattle.tendril_text.specs.Texts.{Text}
 

@@ -1,9 +1,9 @@
 -- Ropes that are cut in two.
 use Rattle.std.specs.Prelude.{◌≡◌, ℕ, ◌<◌, ◌≤◌, ◌+◌, ◌⊎◌, List, [], ◌∷◌, ◌++◌, length, take, drop, IsUtf8, Result}
-use Rattle.tendril_block.specs.declared.atomicity.TheConstants.{INLINE_LEN}
-use Rattle.tendril_block.specs.declared.refusal.Refusal.{Refusal}
-use Rattle.tendril_block.specs.declared.refusal.Refusal.TheVariants.{Count}
-use Rattle.tendril_block.specs.Outcomes.{CutMust, Outcome}
+use Rattle.tendril_errors.specs.declared.limits.TheConstants.{INLINE_LEN}
+use Rattle.tendril_errors.specs.declared.refusal.Refusal.{Refusal}
+use Rattle.tendril_errors.specs.declared.refusal.Refusal.TheVariants.{Count}
+use Rattle.tendril_errors.specs.Outcomes.{CutMust, Outcome}
 use Rattle.rope_text.specs.Growth.{RoomMay}
 use Rattle.rope_text.specs.Ropes.{RopeText}
 use Rattle.tendril_text.specs.TextLists.{bytes_of_all}

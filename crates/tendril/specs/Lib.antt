@@ -1,7 +1,7 @@
 -- The definitions that a caller's contracts and proofs cite. Those of formats are in `Fmt`; lemmas are in `Proofs`.
 pub use Rattle.tendril_text.specs.Texts
 pub use Rattle.tendril_text.specs.Edits
-pub use Rattle.tendril_block.specs.Errors
+pub use Rattle.tendril_errors.specs.Errors
 pub use Rattle.tendril_text.specs.Making
 pub use Rattle.tendril_text.specs.Parts
 pub use Rattle.tendril_text.specs.Pushes
@@ -32,9 +32,9 @@ pub use Rattle.tendril_lossy.specs.Lossy
 pub use Rattle.tendril_lossy.specs.Completions
 pub use Rattle.tendril_lossy.specs.declared.search.Ending
 pub use Rattle.tendril_text.specs.declared.byte_set.Members as SetMembers
-pub use Rattle.tendril_block.specs.Outcomes
-pub use Rattle.tendril_block.specs.Refusals
-pub use Rattle.tendril_block.specs.declared.refusal.Refusal
+pub use Rattle.tendril_errors.specs.Outcomes
+pub use Rattle.tendril_errors.specs.Refusals
+pub use Rattle.tendril_errors.specs.declared.refusal.Refusal
 pub use Rattle.memchr.specs.Find
 pub mod Fmt
 pub mod Proofs

@@ -6,19 +6,13 @@ ghost use Rattle.tendril_block.specs.contracts.body.Body.{the_row as body_row};
 ghost use Rattle.tendril_block.specs.Tail.{tail_bytes};
 
 use crate::body::Body;
-use crate::refusal::Refusal;
 use crate::sole::Sole;
 use crate::tail::Tail;
 use std::alloc::Global;
+use tendril_errors::Refusal;
 
 /// `MIN_CAP` of the Rust crate, in bytes. Nothing here uses it: `copy` creates blocks with a capacity of at least 40.
 pub const MIN_CAP: u32 = 16;
-
-/// The most bytes that a text stores inline, without a block.
-pub const INLINE_LEN: usize = 8;
-
-/// The greatest length of a text, in bytes.
-pub const MAX_LEN: u32 = 4294967295;
 
 /// The greatest number of references to one block.
 pub const MAX_HOLDERS: u64 = 4294967295;

@@ -5,11 +5,11 @@ ghost use Rattle.tendril_block.specs.Tail.{tail_bytes};
 
 use crate::copied::Copied;
 use crate::inline_bytes::InlineBytes;
-use crate::refusal::Refusal;
 use crate::stored::Stored;
 use crate::tail::Tail;
 use std::alloc::Global;
 use std::marker::Model;
+use tendril_errors::Refusal;
 
 /// The bytes of a block and how many were copied into it. Only a block's only reference borrows it mutably.
 #[derive(Drop)]

@@ -9,11 +9,11 @@ use crate::copied::Copied;
 use crate::node::Node;
 use crate::node::threading::Threading;
 use crate::pointer::Pointer;
-use crate::refusal::Refusal;
 use crate::sole::Sole;
 use crate::tail::Tail;
 use std::alloc::Global;
 use std::marker::PhantomData;
+use tendril_errors::Refusal;
 
 /// Blocks of at most N references. N = 0 means 1, and a greater N than `MAX_HOLDERS` means `MAX_HOLDERS`. The kind K
 /// says in which threads the references may be.

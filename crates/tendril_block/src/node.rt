@@ -14,8 +14,8 @@ ghost use Rattle.std.specs.Prelude.{◌≡◌, length, IfOk, IfErr};
 
 use crate::body::Body;
 use crate::inline_bytes::NODE_CAPACITY;
-use crate::refusal::Refusal;
 use std::alloc::Global;
+use tendril_errors::Refusal;
 
 #[derive(Drop)]
 pub(crate) struct Node {

@@ -2,9 +2,9 @@
 ghost use Rattle.std.specs.Prelude.{◌≡◌, IfOk, IfErr, length};
 
 use crate::node::Node;
-use crate::refusal::Refusal;
 use std::alloc::Global;
 use std::marker::Model;
+use tendril_errors::Refusal;
 
 /// Bytes in a node without references: taken from a block that had only one, or copied. A block of any atomicity can be
 /// created from them.

@@ -5,9 +5,9 @@ ghost use Rattle.tendril_block.specs.Tail.{tail_bytes, tail_room};
 ghost use Rattle.tendril_block.specs.Stored.{stored_bytes, HasRoom};
 
 use crate::inline_bytes::{InlineBytes, NODE_CAPACITY};
-use crate::refusal::Refusal;
 use crate::tail::Tail;
 use std::alloc::Global;
+use tendril_errors::Refusal;
 
 #[derive(Drop)]
 pub(crate) enum Stored {

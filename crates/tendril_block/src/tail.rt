@@ -2,7 +2,7 @@
 ghost use Rattle.std.specs.Prelude.{◌≡◌, ◌+◌, ◌≤◌, length, IfSome};
 ghost use Rattle.tendril_block.specs.Tail.{tail_bytes, tail_room};
 
-use crate::atomicity::MAX_LEN;
+use tendril_errors::MAX_LEN;
 
 /// What is appended to the bytes that a block keeps.
 #[derive(Clone, Copy)]

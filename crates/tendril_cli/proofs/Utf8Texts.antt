@@ -1,7 +1,7 @@
 -- What the decoding of UTF-8 writes, in the words of lossy decoding.
 use Rattle.std.proofs.Common.{◌≡◌, ℕ, List, [], Option, None, Some, ⊎_elim, ap, arith, inl, inr, subst, sym}
 use Rattle.std.specs.Io.KnownBytes.{Consumes}
-use Rattle.tendril_block.specs.declared.refusal.Refusal.{Refusal}
+use Rattle.tendril_errors.specs.declared.refusal.Refusal.{Refusal}
 use Rattle.tendril_lossy.proofs.Streams.{due-end}
 use Rattle.tendril_lossy.specs.Lossy.{characters, due}
 use Rattle.tendril_stream.specs.Decodings.{utf8}

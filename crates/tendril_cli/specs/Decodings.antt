@@ -1,8 +1,8 @@
 -- What `tendril decode` writes for its input.
 use Rattle.std.specs.Prelude.{ℕ, ◌≡◌, ◌<◌, ◌≤◌, ◌⊎◌, List, [], ◌∷◌, ◌++◌, length, All, Option, IfSome}
 use Rattle.std.specs.Io.KnownBytes.{Consumes, IsAtEnd}
-use Rattle.tendril_block.specs.declared.refusal.Refusal.{Refusal}
-use Rattle.tendril_block.specs.declared.refusal.Refusal.TheVariants.{Count, Io, Memory, SinkRefused, TooManyReads}
+use Rattle.tendril_errors.specs.declared.refusal.Refusal.{Refusal}
+use Rattle.tendril_errors.specs.declared.refusal.Refusal.TheVariants.{Count, Io, Memory, SinkRefused, TooManyReads}
 use Rattle.tendril_lossy.specs.Lossy.{characters, due, due_open}
 use Rattle.tendril_stream.specs.Reads.{OneRead, Gave, HasFailed, CameToEnd, MayReadOn, StopsWith, given}
 use Rattle.tendril_text.specs.Decoding.{LongPieceMay}

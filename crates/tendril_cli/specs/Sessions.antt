@@ -1,6 +1,6 @@
 -- What the lines of a script print, on a table of texts that is empty at first.
 use Rattle.std.specs.Prelude.{ℕ, List, [], Option}
-use Rattle.tendril_block.specs.declared.refusal.Refusal.TheVariants.{Memory}
+use Rattle.tendril_errors.specs.declared.refusal.Refusal.TheVariants.{Memory}
 use Rattle.tendril_run.specs.Cells.{Cell}
 use Rattle.tendril_lines.specs.Lines.{words_of}
 use Rattle.tendril_lines.specs.Printed.{printed}

@@ -1,7 +1,7 @@
 -- The start of a stream, where a byte order mark may decide the encoding.
 use Rattle.std.proofs.Common.{◌≡◌, ◌≤◌, ℕ, List, [], ◌++◌, length, drop, refl, sym, ap, subst, inl, ◌∙◌}
 use Rattle.std.specs.Prelude.{None}
-use Rattle.tendril_block.specs.declared.refusal.Refusal.{Refusal}
+use Rattle.tendril_errors.specs.declared.refusal.Refusal.{Refusal}
 use Rattle.tendril_encoding.proofs.New.{few_memory, known_new, no_memory_grows}
 use Rattle.tendril_encoding.specs.First.{after_mark}
 use Rattle.tendril_encoding.specs.Known.{FeedsKnown, FitKnown, IsStartKnown, StopsInKnown, after_known, out_known}

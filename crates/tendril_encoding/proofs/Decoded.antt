@@ -5,7 +5,7 @@ use Rattle.std.proofs.lemmas.Bool.{and_parts}
 use Rattle.std.proofs.lemmas.List.Elements.{All-cons, All-head, All-nil, All-tail}
 use Rattle.std.proofs.lemmas.Str.{encodes-chars}
 use Rattle.std.specs.Prelude.{All, IsAscii, Option, Some, None, chars, encode_utf8_all}
-use Rattle.tendril_block.specs.declared.refusal.Refusal.{Refusal}
+use Rattle.tendril_errors.specs.declared.refusal.Refusal.{Refusal}
 use Rattle.tendril_encoding.specs.Known.{EndsKnown, FeedsKnown, FitKnown, StopsInEndKnown, StopsInKnown, after_known}
 use Rattle.tendril_encoding.specs.Known.{ends_known, out_known, passes_known}
 use Rattle.tendril_encoding.specs.Marks.{seen_bytes, is_nothing}

@@ -1,7 +1,7 @@
 -- Where reading through a new decoder stops.
 use Rattle.std.proofs.Common.{◌≡◌, ℕ, Bool, true, false, List, [], ◌⊎◌, inl, inr, Option}
-use Rattle.tendril_block.specs.declared.refusal.Refusal.{Refusal}
-use Rattle.tendril_block.specs.declared.refusal.Refusal.TheVariants.{Failed}
+use Rattle.tendril_errors.specs.declared.refusal.Refusal.{Refusal}
+use Rattle.tendril_errors.specs.declared.refusal.Refusal.TheVariants.{Failed}
 use Rattle.tendril_lossy.specs.Lossy.{Told}
 use Rattle.tendril_stream.proofs.Refused.{stands_read, stops_at_end, stops_at_piece}
 use Rattle.tendril_stream.specs.Compositions.{FollowsCalls}

@@ -1,9 +1,9 @@
 -- Texts that a decoder made, and short ones.
 use Rattle.std.proofs.Common.{◌≡◌, ◌≤◌, ℕ, List, [], length, refl, sym, subst, inl, inr, ⊎_elim, arith}
 use Rattle.std.proofs.lemmas.Bool.{cases_lt}
-use Rattle.tendril_block.specs.declared.atomicity.TheConstants.{MAX_LEN}
-use Rattle.tendril_block.specs.Outcomes.{LengthMust, MemoryMay, Refused}
-use Rattle.tendril_block.specs.declared.refusal.Refusal.{Refusal}
+use Rattle.tendril_errors.specs.declared.limits.TheConstants.{MAX_LEN}
+use Rattle.tendril_errors.specs.Outcomes.{LengthMust, MemoryMay, Refused}
+use Rattle.tendril_errors.specs.declared.refusal.Refusal.{Refusal}
 use Rattle.tendril_encoding.specs.Sends.{IsNew, IsSentIn, MayFail, IsShortOrNew, NewStops, NoMemory, text_told}
 use Rattle.tendril_lossy.specs.Lossy.{Told}
 use Rattle.tendril_text.proofs.Feeds.{Grows, Stops-here}

@@ -4,7 +4,7 @@ use Rattle.std.proofs.Common.{inl, inr, ◌∙◌, arith, append-nil, true≢fal
 use Rattle.std.proofs.lemmas.List.{nil_from_length}
 use Rattle.std.proofs.lemmas.Str.{IsUtf8-from_ascii, chars-nil}
 use Rattle.std.specs.Prelude.{IsAscii, IsTrue, chars}
-use Rattle.tendril_block.specs.declared.refusal.Refusal.{Refusal}
+use Rattle.tendril_errors.specs.declared.refusal.Refusal.{Refusal}
 use Rattle.tendril_decode.specs.Machines.{told_from, state_after}
 use Rattle.tendril_decode.specs.declared.any_decoder.AnyDecoder.{AnyDecoder}
 use Rattle.tendril_encoding.proofs.Ascii.{out_ascii}

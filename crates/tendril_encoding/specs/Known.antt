@@ -1,6 +1,6 @@
 -- Decoding in an encoding that is known.
 use Rattle.std.specs.Prelude.{◌≡◌, ◌==◌, ℕ, Bool, true, false, List, [], length, IsAscii}
-use Rattle.tendril_block.specs.declared.refusal.Refusal.{Refusal}
+use Rattle.tendril_errors.specs.declared.refusal.Refusal.{Refusal}
 use Rattle.tendril_decode.specs.Any.{any_machine, is_fit}
 use Rattle.tendril_decode.specs.Machines.{Machine, told_from, state_after, tells_nothing}
 use Rattle.tendril_decode.specs.declared.any_decoder.AnyDecoder.{AnyDecoder}

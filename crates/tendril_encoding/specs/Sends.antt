@@ -1,8 +1,8 @@
 -- What a decoder of any encoding sends to its sink.
 use Rattle.std.proofs.Common.{inl, inr}
 use Rattle.std.specs.Prelude.{◌≡◌, ◌<◌, ◌⊎◌, ℕ, List, length, map, chars, IsUtf8}
-use Rattle.tendril_block.specs.declared.refusal.Refusal.{Refusal}
-use Rattle.tendril_block.specs.declared.refusal.Refusal.TheVariants.{Memory}
+use Rattle.tendril_errors.specs.declared.refusal.Refusal.{Refusal}
+use Rattle.tendril_errors.specs.declared.refusal.Refusal.TheVariants.{Memory}
 use Rattle.tendril_lossy.specs.Lossy.{Told, Char}
 use Rattle.tendril_stream.specs.Sinks.{Sent, Piece, Fault, Feeds, IsSent, IsSentOf, Stops}
 use Rattle.tendril_text.specs.Decoding.{LongPieceMay}

@@ -1,6 +1,6 @@
 -- Where reading through a new decoder stops.
 use Rattle.std.specs.Prelude.{◌≡◌, ℕ, ◌⊎◌, Bool, false, List, Option, Some}
-use Rattle.tendril_block.specs.declared.refusal.Refusal.{Refusal}
+use Rattle.tendril_errors.specs.declared.refusal.Refusal.{Refusal}
 use Rattle.tendril_lossy.specs.Lossy.{Told}
 use Rattle.tendril_stream.specs.Compositions.{StandsAt, StreamStops}
 use Rattle.tendril_stream.specs.Decodings.{Decoding}

@@ -1,7 +1,7 @@
 -- The text of a whole input.
 use Rattle.std.specs.Prelude.{◌≡◌, ℕ, ◌⊎◌, Bool, false, List, [], encode_utf8_all, slice_range}
-use Rattle.tendril_block.specs.declared.refusal.Refusal.{Refusal}
-use Rattle.tendril_block.specs.declared.refusal.Refusal.TheVariants.{Memory, SinkRefused}
+use Rattle.tendril_errors.specs.declared.refusal.Refusal.{Refusal}
+use Rattle.tendril_errors.specs.declared.refusal.Refusal.TheVariants.{Memory, SinkRefused}
 use Rattle.tendril_encoding.specs.States.{decoding_from}
 use Rattle.tendril_encoding.specs.declared.kept.State.{State}
 use Rattle.tendril_encoding.specs.declared.whole.Whole.{Whole}

@@ -1,6 +1,6 @@
 //! The start of a stream, where a byte order mark may decide the encoding.
 ghost use Rattle.std.specs.Prelude.{◌≡◌, ◌≤◌, length, IsAscii, IsOk, OnOk, IfOk, IfErr};
-ghost use Rattle.tendril_block.specs.declared.atomicity.TheConstants.{MAX_LEN};
+ghost use Rattle.tendril_errors.specs.declared.limits.TheConstants.{MAX_LEN};
 ghost use Rattle.tendril_encoding.specs.Known.{FitsKnown, IsStartKnown, after_known, out_known};
 ghost use Rattle.tendril_encoding.specs.Marks.{seen_bytes};
 ghost use Rattle.tendril_encoding.specs.Sends.{FeedsNew, NewStops};
@@ -12,7 +12,7 @@ use crate::known::{Chosen, Known};
 use crate::mark::Seen;
 use crate::search::{Found, find_mark};
 use std::alloc::Global;
-use tendril_block::Refusal;
+use tendril_errors::Refusal;
 use tendril_stream::TendrilSink;
 use tendril_text::fmt::{Bytes, UTF8};
 use tendril_text::{Atomicity, Tendril};

@@ -1,13 +1,13 @@
 //! Decoding of pieces in an encoding that a byte order mark may decide.
 ghost use Rattle.std.specs.Prelude.{◌≡◌, ◌≤◌, length, OnOk, IfErr};
-ghost use Rattle.tendril_block.specs.declared.atomicity.TheConstants.{MAX_LEN};
+ghost use Rattle.tendril_errors.specs.declared.limits.TheConstants.{MAX_LEN};
 ghost use Rattle.tendril_encoding.specs.States.{FitsState, any};
 ghost use Rattle.tendril_stream.specs.Decoders.{FeedsEnd, FeedsPiece, StopsInEnd, StopsInPiece};
 
 use crate::begin::{begin, decode_seen};
 use crate::kept::State;
 use std::alloc::Global;
-use tendril_block::Refusal;
+use tendril_errors::Refusal;
 use tendril_stream::TendrilSink;
 use tendril_text::fmt::{Bytes, UTF8};
 use tendril_text::{Atomicity, Tendril};

@@ -6,7 +6,7 @@ use crate::known::Known;
 use crate::mark::{BomHandling, Marks, Seen};
 use std::alloc::Global;
 use std::marker::Model;
-use tendril_block::Refusal;
+use tendril_errors::Refusal;
 use tendril_labels::Encoding;
 use tendril_stream::{PieceDecoding, TendrilSink};
 use tendril_text::fmt::{Bytes, UTF8};
@@ -37,7 +37,7 @@ pub struct Kept {
 
 impl Model for Kept {
     ghost use Rattle.std.specs.Prelude.{◌≤◌, length};
-    ghost use Rattle.tendril_block.specs.declared.atomicity.TheConstants.{MAX_LEN};
+    ghost use Rattle.tendril_errors.specs.declared.limits.TheConstants.{MAX_LEN};
     ghost use Rattle.tendril_encoding.specs.declared.kept.State.{State};
 
     ghost Value = { State };

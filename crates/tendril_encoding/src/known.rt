@@ -1,6 +1,6 @@
 //! Decoding of pieces in an encoding that is known.
 ghost use Rattle.std.specs.Prelude.{◌≡◌, ◌+◌, ◌*◌, ◌≤◌, true, false, ℕ, length, IsAscii, OnOk, IfErr};
-ghost use Rattle.tendril_block.specs.declared.atomicity.TheConstants.{MAX_LEN};
+ghost use Rattle.tendril_errors.specs.declared.limits.TheConstants.{MAX_LEN};
 ghost use Rattle.tendril_decode.specs.Any.{is_fit};
 ghost use Rattle.tendril_encoding.specs.Known.{EndsKnown, FeedsKnown, FitsKnown, StopsInKnown, StopsInEndKnown};
 ghost use Rattle.tendril_encoding.specs.Known.{after_known, keeps_nothing_known, passes_known, slices};
@@ -12,11 +12,11 @@ ghost use Rattle.tendril_labels.specs.declared.encoding.Encoding.{Encoding};
 use crate::mark::Mark;
 use crate::slices::{PART, end_slices, feed};
 use std::alloc::Global;
-use tendril_block::Refusal;
 use tendril_decode::{
     AnyDecoder, Big5, Decode, EucJp, EucKr, Gb18030, Iso2022Jp, Replacement, ShiftJis, SingleByte,
     Utf16Be, Utf16Le,
 };
+use tendril_errors::Refusal;
 use tendril_labels::Encoding;
 use tendril_stream::{KeptUtf8, PieceDecoding, TendrilSink, send};
 use tendril_text::fmt::{Bytes, UTF8};

@@ -8,7 +8,7 @@ use crate::kept::Kept;
 use crate::mark::BomHandling;
 use std::alloc::Global;
 use std::borrow::CowStr;
-use tendril_block::Refusal;
+use tendril_errors::Refusal;
 use tendril_labels::Encoding;
 use tendril_stream::{Decoder, TendrilSink};
 use tendril_text::fmt::{Bytes, UTF8};

@@ -11,7 +11,7 @@ ghost use Rattle.tendril_text.specs.Texts.{Text};
 
 use crate::lossy::LossyDecoder;
 use std::alloc::Global;
-use tendril_block::Refusal;
+use tendril_errors::Refusal;
 use tendril_labels::Encoding;
 use tendril_stream::{Accumulate, Event, TendrilSink, Tracks};
 use tendril_text::fmt::{Bytes, UTF8};

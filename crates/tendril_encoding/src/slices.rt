@@ -1,13 +1,13 @@
 //! Decoding by slices into a sink.
 ghost use Rattle.std.specs.Prelude.{◌≡◌, ◌+◌, ◌*◌, ◌≤◌, ◌++◌, true, length, OnOk, IfErr};
-ghost use Rattle.tendril_block.specs.declared.atomicity.TheConstants.{MAX_LEN};
+ghost use Rattle.tendril_errors.specs.declared.limits.TheConstants.{MAX_LEN};
 ghost use Rattle.tendril_decode.specs.Machines.{broken_marks, invalid, state_after, told_from};
 ghost use Rattle.tendril_encoding.specs.Sends.{FeedsNew, NewStops, text_told};
 ghost use Rattle.tendril_stream.specs.Sinks.{Piece, RefusesCall};
 
 use std::alloc::Global;
-use tendril_block::Refusal;
 use tendril_decode::Decode;
+use tendril_errors::Refusal;
 use tendril_stream::{TendrilSink, replace, send};
 use tendril_text::fmt::UTF8;
 use tendril_text::{Atomicity, Tendril};

@@ -7,7 +7,7 @@ ghost use Rattle.tendril_encoding.specs.Wholes.{DecodesInput, InputMay, IsNewWho
 use crate::lossy::LossyDecoder;
 use crate::whole::Whole;
 use std::alloc::Global;
-use tendril_block::Refusal;
+use tendril_errors::Refusal;
 use tendril_labels::Encoding;
 use tendril_stream::TendrilSink;
 use tendril_text::{ByteTendril, StrTendril};

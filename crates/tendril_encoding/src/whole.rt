@@ -3,7 +3,7 @@ ghost use Rattle.std.specs.Prelude.{◌≡◌, [], false};
 
 use std::alloc::Global;
 use std::borrow::CowStr;
-use tendril_block::Refusal;
+use tendril_errors::Refusal;
 use tendril_stream::{TendrilSink, Tracks};
 use tendril_text::StrTendril;
 

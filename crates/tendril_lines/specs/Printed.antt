@@ -1,7 +1,7 @@
 -- The lines of replies.
 use Rattle.std.specs.Prelude.{ℕ, List, ◌++◌, codes, Some, None}
 use Rattle.std.specs.Fmt.{decimal}
-use Rattle.tendril_block.specs.Refusals.{number_of, name_of}
+use Rattle.tendril_errors.specs.Refusals.{refusal_text}
 use Rattle.tendril_lines.specs.Names.{kind_name, comparison_name}
 use Rattle.tendril_lines.specs.declared.command.Reply.{Reply}
 use Rattle.tendril_lines.specs.declared.command.Reply.TheVariants.{
@@ -27,4 +27,4 @@ printed (Run (Some (slot, class))) = codes "run " ++ decimal slot ++ codes " " +
 printed (Compared comparison) = comparison_name comparison
 printed (Text kind b) = kind_name kind ++ codes " " ++ hex_text b
 printed (Units us) = codes "units " ++ hex_text (big_endian us)
-printed (Refused r) = codes "refused " ++ decimal (number_of r) ++ codes " " ++ name_of r
+printed (Refused r) = codes "refused " ++ refusal_text r

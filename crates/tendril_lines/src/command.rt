@@ -4,7 +4,7 @@ use crate::byte_list::ByteList;
 use crate::change::Change;
 use crate::kind::Kind;
 use crate::unit_list::UnitList;
-use tendril_block::Refusal;
+use tendril_errors::Refusal;
 
 /// How the bytes of two texts compare. Only texts in UTF-8 and texts of bytes have an order.
 #[derive(Clone, Copy, Debug, PartialEq, Eq)]

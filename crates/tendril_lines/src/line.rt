@@ -17,7 +17,7 @@ use crate::line_command::{LineCommand, parse};
 use crate::shape::{Value, Values, Word};
 use crate::unit_list::UnitList;
 use std::alloc::Global;
-use tendril_block::Refusal;
+use tendril_errors::Refusal;
 
 /// Returns the command of a line, given without its line feed, or `None` if it is no command's line.
 ///

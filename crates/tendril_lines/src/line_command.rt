@@ -6,7 +6,7 @@ ghost use Rattle.tendril_lines.specs.Words.{words};
 use crate::shape::{Values, Word, read_values};
 use crate::split::split_words;
 use std::alloc::{AllocError, Global};
-use tendril_block::Refusal;
+use tendril_errors::Refusal;
 
 /// A command that is written as a line.
 pub trait LineCommand: Sized + Drop {

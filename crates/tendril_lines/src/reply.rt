@@ -8,7 +8,7 @@ use crate::command::{Comparison, Reply};
 use crate::hexadecimal::hex_of;
 use crate::unit_list::hex_of_units;
 use std::alloc::{AllocError, Global};
-use tendril_block::Refusal;
+use tendril_errors::Refusal;
 
 /// Returns a reply's line, without its line feed: `ok`, `slot N`, `char C`, `run N K`, `none`, `less`, `equal`,
 /// `greater`, `differ`, a format's name with the bytes in lower-case digits or `-`, `units` with the units in such
@@ -36,7 +36,7 @@ pub fn print_reply(alloc: Global, reply: &Reply) -> Result<String, Refusal>
             let digits = hex_of_units(alloc, units.as_slice())?;
             format!(in alloc; "units {digits}")?
         }
-        Reply::Refused(refusal) => refused_text(alloc, refusal.number(), refusal.name())?,
+        Reply::Refused(refusal) => format!(in alloc; "refused {refusal}")?,
     })
 }
 
@@ -44,12 +44,6 @@ fn run_text(alloc: Global, slot: usize, class: u32) -> Result<String, AllocError
     ensures { IfOk result (λ text. string_bytes text ≡ codes "run " ++ decimal slot ++ codes " " ++ decimal class) }
 {
     format!(in alloc; "run {slot} {class}")
-}
-
-fn refused_text(alloc: Global, number: u8, name: &str) -> Result<String, AllocError>
-    ensures { IfOk result (λ text. string_bytes text ≡ codes "refused " ++ decimal number ++ codes " " ++ name.now) }
-{
-    format!(in alloc; "refused {number} {name}")
 }
 
 fn name_of_comparison(comparison: Comparison) -> &'static str

@@ -30,8 +30,8 @@ use Rattle.std.proofs.Common.{
 use Rattle.std.proofs.lemmas.List.{drop_at, get_or_default, length-take-le, take-take, take_at}
 use Rattle.std.proofs.lemmas.Bool.{cases_lt}
 use Rattle.memchr.specs.Find.{is_byte}
-use Rattle.tendril_block.specs.declared.refusal.Refusal.{Refusal}
-use Rattle.tendril_block.specs.Outcomes.{LengthMust, MemoryMay, Refused}
+use Rattle.tendril_errors.specs.declared.refusal.Refusal.{Refusal}
+use Rattle.tendril_errors.specs.Outcomes.{LengthMust, MemoryMay, Refused}
 use Rattle.tendril_queue.proofs.Fronts.{all_bytes, all_some, leaves_first, some_bytes}
 use Rattle.tendril_queue.specs.Lines.{HasFirstFeed, IsJoinedLine, JoinedLineMay, LineRefused, PopsLine, TakesFeed}
 use Rattle.tendril_queue.specs.Queues.{IsQueue, Queued, all_texts, queued_of}

@@ -1,10 +1,10 @@
 -- A line at the front of a queue.
 use Rattle.std.specs.Prelude.{◌≡◌, ℕ, ◌<◌, ◌≤◌, ◌+◌, ◌⊎◌, List, ◌∷◌, ◌++◌, length, get_or, take}
 use Rattle.memchr.specs.Find.{is_byte}
-use Rattle.tendril_block.specs.declared.atomicity.TheConstants.{MAX_LEN}
-use Rattle.tendril_block.specs.declared.refusal.Refusal.{Refusal}
-use Rattle.tendril_block.specs.declared.refusal.Refusal.TheVariants.{TooLong}
-use Rattle.tendril_block.specs.Outcomes.{MemoryMay}
+use Rattle.tendril_errors.specs.declared.limits.TheConstants.{MAX_LEN}
+use Rattle.tendril_errors.specs.declared.refusal.Refusal.{Refusal}
+use Rattle.tendril_errors.specs.declared.refusal.Refusal.TheVariants.{TooLong}
+use Rattle.tendril_errors.specs.Outcomes.{MemoryMay}
 use Rattle.tendril_queue.specs.Queues.{Queued}
 use Rattle.tendril_text.specs.Partings.{BothLong}
 use Rattle.tendril_text.specs.Splits.{EndsFirstLine, EndsPart, LacksFeed, TakesEnded}

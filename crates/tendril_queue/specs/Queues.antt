@@ -1,6 +1,6 @@
 -- A queue: texts in UTF-8, one after another, none of them empty.
 use Rattle.std.specs.Prelude.{◌≡◌, ℕ, ◌<◌, Bool, List, [], ◌∷◌, ◌++◌, length, chars, encode_utf8, All, IsUtf8}
-use Rattle.tendril_block.specs.declared.refusal.Refusal.{Refusal}
+use Rattle.tendril_errors.specs.declared.refusal.Refusal.{Refusal}
 use Rattle.tendril_text.specs.declared.search.SetResult.{SetResult}
 use Rattle.tendril_text.specs.Search.{TakesPart, HasLongPartBefore}
 use Rattle.tendril_text.specs.TextLists.{LeavesOfFirst, bytes_of_all, unless_empty}

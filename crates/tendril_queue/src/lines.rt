@@ -8,7 +8,7 @@ use crate::eat::drop_front;
 use crate::queue::{TextQueue, refill};
 use std::alloc::Global;
 use std::collections::VecDeque;
-use tendril_block::Refusal;
+use tendril_errors::Refusal;
 use tendril_fmt::fmt::UTF8;
 use tendril_text::{Atomicity, Tendril};
 

@@ -14,7 +14,7 @@ use std::alloc::Global;
 use std::collections::VecDeque;
 use std::marker::Model;
 use std::mem;
-use tendril_block::Refusal;
+use tendril_errors::Refusal;
 use tendril_fmt::fmt::UTF8;
 use tendril_text::{Atomicity, ByteSet, NonAtomic, SetResult, Tendril};
 

@@ -7,8 +7,8 @@ use Rattle.std.specs.List.{FoldsTo, take_while}
 use Rattle.std.specs.Option.{MatchOption, IfSome, IfNone}
 use Rattle.std.specs.Result.{IfOk, IfErr, OnErr}
 use Rattle.tendril_text.specs.Characters.{SaysClass, SaysOther, IsAsked, IsRun, HasLongParts}
-use Rattle.tendril_block.specs.declared.refusal.Refusal.{Refusal}
-use Rattle.tendril_block.specs.declared.refusal.Refusal.TheVariants.{Count}
+use Rattle.tendril_errors.specs.declared.refusal.Refusal.{Refusal}
+use Rattle.tendril_errors.specs.declared.refusal.Refusal.TheVariants.{Count}
 use Rattle.tendril_fmt.specs.Chars.{encodings}
 use Rattle.tendril_run.specs.Characters.{first_of, first_run, run_bytes, IsFirstRun, FirstRunMay, TakesFirstRun}
 

@@ -1,5 +1,5 @@
 use Rattle.std.proofs.Common.{◌≡◌, ◌≢◌, ℕ, ◌<◌, List, length, get_or, set, map, sym, subst, Result}
-use Rattle.tendril_block.specs.declared.refusal.Refusal.{Refusal}
+use Rattle.tendril_errors.specs.declared.refusal.Refusal.{Refusal}
 use Rattle.tendril_run.proofs.OneChanged.{within_items, taken_changed, other_cell, table_changed}
 use Rattle.tendril_run.specs.Cells.{Cell, cell_at}
 use Rattle.tendril_run.specs.OneCell.{join_rule}

@@ -3,9 +3,9 @@ use Rattle.std.proofs.Common.{Ok, Err, Bool, true, false, if◌then◌else◌, [
 use Rattle.std.proofs.lemmas.List.{map-set, map-append, set-set, get_or-map, get_or-set_other, length-map}
 use Rattle.std.proofs.lemmas.List.Elements.{All-set, All-push, All-get_or}
 use Rattle.std.proofs.Math.Seq.{map-set_same}
-use Rattle.tendril_block.specs.declared.refusal.Refusal.{Refusal}
+use Rattle.tendril_errors.specs.declared.refusal.Refusal.{Refusal}
 use Rattle.std.specs.Result.{MatchResult}
-use Rattle.tendril_block.specs.Outcomes.{Refused}
+use Rattle.tendril_errors.specs.Outcomes.{Refused}
 use Rattle.tendril_run.specs.Cells.{Cell, IsCell, gone, cell_at}
 use Rattle.tendril_run.specs.Steps.{AddsCell}
 use Rattle.tendril_run.specs.Rules.{Rule, with_effect, Changes, Follows, GivesBy}

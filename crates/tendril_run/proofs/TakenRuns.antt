@@ -2,7 +2,7 @@ use Rattle.std.proofs.Common.{◌≡◌, ℕ, List, [], ◌∷◌, ◌++◌, len
 use Rattle.std.proofs.Common.{Ok, Err}
 use Rattle.std.proofs.lemmas.List.{length-set}
 use Rattle.std.specs.Option.{MatchOption}
-use Rattle.tendril_block.specs.declared.refusal.Refusal.{Refusal}
+use Rattle.tendril_errors.specs.declared.refusal.Refusal.{Refusal}
 use Rattle.tendril_run.proofs.OneChanged.{OneChanged}
 use Rattle.tendril_run.specs.Cells.{Cell, cell_at}
 use Rattle.tendril_run.specs.OneCell.{char_of, IsRunOf, run_of, pop_run_rule}

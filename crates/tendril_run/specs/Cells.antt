@@ -18,7 +18,7 @@ use Rattle.std.specs.Prelude.{
   IsUtf8,
 }
 use Rattle.std.specs.Char.{IsScalar}
-use Rattle.tendril_block.specs.declared.atomicity.TheConstants.{MAX_LEN}
+use Rattle.tendril_errors.specs.declared.limits.TheConstants.{MAX_LEN}
 use Rattle.tendril_fmt.specs.Bytes.{AreBytes}
 use Rattle.tendril_fmt.specs.Wtf8.{IsWtf8, wtf8_join}
 use Rattle.tendril_lines.specs.declared.kind.Kind.{Kind}

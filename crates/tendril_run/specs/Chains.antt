@@ -1,7 +1,7 @@
 -- Lists of commands, each carried out on the cells that the one before it leaves.
 use Rattle.std.specs.Prelude.{◌≡◌, List, [], ◌∷◌, Result, Ok, Err}
-use Rattle.tendril_block.specs.declared.refusal.Refusal.{Refusal}
-use Rattle.tendril_block.specs.declared.refusal.Refusal.TheVariants.{Memory}
+use Rattle.tendril_errors.specs.declared.refusal.Refusal.{Refusal}
+use Rattle.tendril_errors.specs.declared.refusal.Refusal.TheVariants.{Memory}
 
 -- Over any cells S, commands C and replies R: `step old command reply new` says that from the cells `old` a command
 -- leads to the cells `new`, with this reply.

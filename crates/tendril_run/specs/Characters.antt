@@ -14,8 +14,8 @@ use Rattle.std.specs.Prelude.{
   MatchOption,
   Result,
 }
-use Rattle.tendril_block.specs.Outcomes.{NoneMust, CountMay, Outcome}
-use Rattle.tendril_block.specs.declared.refusal.Refusal.{Refusal}
+use Rattle.tendril_errors.specs.Outcomes.{NoneMust, CountMay, Outcome}
+use Rattle.tendril_errors.specs.declared.refusal.Refusal.{Refusal}
 use Rattle.std.specs.List.{take_while}
 use Rattle.tendril_fmt.specs.Chars.{encodings}
 

@@ -4,7 +4,7 @@ use Rattle.std.specs.Cmp.Lexicographic.{pointwise, slice_cmp}
 use Rattle.std.specs.Ordering.{nat_cmp}
 use Rattle.std.specs.declared.cmp.Ordering.{Ordering}
 use Rattle.std.specs.declared.cmp.Ordering.TheVariants as ordering
-use Rattle.tendril_block.specs.declared.refusal.Refusal.TheVariants.{WrongFormat}
+use Rattle.tendril_errors.specs.declared.refusal.Refusal.TheVariants.{WrongFormat}
 use Rattle.tendril_run.specs.Cells.{Cell, is_ordered}
 use Rattle.tendril_run.specs.OneCell.{on_told}
 use Rattle.tendril_run.specs.Rules.{Rule, always, first}

@@ -1,7 +1,7 @@
 -- Edits of a cell's text, which keep its format.
 use Rattle.std.specs.Prelude.{ℕ, ◌<◌, ◌+◌, ◌-◌, ◌++◌, List, [], length, take, drop, replicate, slice_set}
-use Rattle.tendril_block.specs.declared.refusal.Refusal.TheVariants.{OutOfBounds}
-use Rattle.tendril_block.specs.Outcomes.{NoneMust, LengthMust, PopMust, NoneMay, MemoryMay}
+use Rattle.tendril_errors.specs.declared.refusal.Refusal.TheVariants.{OutOfBounds}
+use Rattle.tendril_errors.specs.Outcomes.{NoneMust, LengthMust, PopMust, NoneMay, MemoryMay}
 use Rattle.tendril_run.specs.Rules.{Rule, rule_with, always, first}
 use Rattle.tendril_lines.specs.declared.change.ByteEdit.{ByteEdit}
 use Rattle.tendril_lines.specs.declared.change.ByteEdit.TheVariants.{PushZeros, WriteByte}

@@ -1,6 +1,6 @@
 -- How the jobs of workers end.
 use Rattle.std.specs.Prelude.{ℕ, ◌≡◌, List}
-use Rattle.tendril_block.specs.declared.refusal.Refusal.TheVariants.{Memory}
+use Rattle.tendril_errors.specs.declared.refusal.Refusal.TheVariants.{Memory}
 use Rattle.tendril_run.specs.Cells.{Cell}
 use Rattle.tendril_run.specs.Chains.{Chain}
 use Rattle.tendril_run.specs.Steps.{Step}

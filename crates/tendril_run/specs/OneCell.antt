@@ -1,8 +1,8 @@
 -- What a command does to one cell.
 use Rattle.std.specs.Prelude.{ℕ, ◌≡◌, ◌⊎◌, List, length, take, drop, Option, Some, None, Result, MatchResult, IfOk}
-use Rattle.tendril_block.specs.declared.refusal.Refusal.{Refusal}
-use Rattle.tendril_block.specs.declared.refusal.Refusal.TheVariants.{NoSuchSlot, Memory, WrongFormat}
-use Rattle.tendril_block.specs.Outcomes.{
+use Rattle.tendril_errors.specs.declared.refusal.Refusal.{Refusal}
+use Rattle.tendril_errors.specs.declared.refusal.Refusal.TheVariants.{NoSuchSlot, Memory, WrongFormat}
+use Rattle.tendril_errors.specs.Outcomes.{
   NoneMust,
   LengthMust,
   ValidMust,

@@ -1,8 +1,8 @@
 -- Rules: which error a call must return, which it may return, and its effect if it returns none.
 use Rattle.std.specs.Prelude.{ℕ, ◌≡◌, List, length, Option, Some, Result, Ok, Err, IfOk}
-use Rattle.tendril_block.specs.Outcomes.{NoneMust, First, NoneMay, MemoryMay, Gives, Outcome}
-use Rattle.tendril_block.specs.declared.refusal.Refusal.{Refusal}
-use Rattle.tendril_block.specs.declared.refusal.Refusal.TheVariants.{NoSuchSlot}
+use Rattle.tendril_errors.specs.Outcomes.{NoneMust, First, NoneMay, MemoryMay, Gives, Outcome}
+use Rattle.tendril_errors.specs.declared.refusal.Refusal.{Refusal}
+use Rattle.tendril_errors.specs.declared.refusal.Refusal.TheVariants.{NoSuchSlot}
 use Rattle.tendril_lines.specs.declared.command.Reply.{Reply}
 use Rattle.tendril_lines.specs.declared.command.Reply.TheVariants.{Refused}
 

@@ -1,7 +1,7 @@
 -- What each command does to a table, and the reply to it.
 use Rattle.std.specs.Prelude.{ℕ, ◌≡◌, List, [], ◌∷◌, ◌++◌, length, slice_set, None, Some, MatchOption, Result}
-use Rattle.tendril_block.specs.Outcomes.{LengthMust, BytesMust}
-use Rattle.tendril_block.specs.declared.refusal.Refusal.{Refusal}
+use Rattle.tendril_errors.specs.Outcomes.{LengthMust, BytesMust}
+use Rattle.tendril_errors.specs.declared.refusal.Refusal.{Refusal}
 use Rattle.tendril_fmt.specs.Wtf8.{wtf8}
 use Rattle.tendril_lines.specs.declared.kind.Kind.TheVariants as format
 use Rattle.tendril_run.specs.Cells.{Cell, text, valid_in, cell_at}

@@ -11,7 +11,7 @@ use tendril_text::block::Refusal;
 /// A table that carries out commands. Each command and each reply has a line.
 pub trait CommandTable: Drop {
     ghost use Rattle.std.specs.Prelude.{◌≡◌, ◌≤◌, ◌+◌, ℕ, List, IfOk, IfErr, OnOk, string_bytes};
-    ghost use Rattle.tendril_block.specs.declared.refusal.Refusal.{Refusal};
+    ghost use Rattle.tendril_errors.specs.declared.refusal.Refusal.{Refusal};
 
     type Command: LineCommand;
 

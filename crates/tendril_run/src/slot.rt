@@ -1,6 +1,6 @@
 //! One slot of a table. All that has an arm for each format is in this file; the functions in `text` are generic.
 ghost use Rattle.std.specs.Prelude.{◌≡◌, [], ℕ, MatchOption, None, IfOk, IfErr};
-ghost use Rattle.tendril_block.specs.Outcomes.{LengthMust, BytesMust};
+ghost use Rattle.tendril_errors.specs.Outcomes.{LengthMust, BytesMust};
 ghost use Rattle.tendril_fmt.specs.Wtf8.{wtf8};
 ghost use Rattle.tendril_lines.specs.declared.command.Reply.TheVariants as reply;
 ghost use Rattle.tendril_run.specs.Cells.{cell_of, IsCell, text as text_cell, valid_in};

@@ -1,6 +1,6 @@
 //! Lines of a script that are commands on a table.
 ghost use Rattle.std.specs.Prelude.{◌≡◌};
-ghost use Rattle.tendril_block.specs.declared.refusal.Refusal.TheVariants.{Memory};
+ghost use Rattle.tendril_errors.specs.declared.refusal.Refusal.TheVariants.{Memory};
 ghost use Rattle.tendril_run.specs.TableAnswers.{TableReplies};
 ghost use Rattle.tendril_run.specs.WhiteSpace.{class};
 
@@ -40,7 +40,7 @@ impl<T: CommandTable> TableLines<T> {
 }
 
 impl<T: CommandTable> Lines for TableLines<T> {
-    ghost use Rattle.tendril_block.specs.declared.refusal.Refusal.TheVariants.{Memory};
+    ghost use Rattle.tendril_errors.specs.declared.refusal.Refusal.TheVariants.{Memory};
     ghost use Rattle.tendril_run.specs.TableAnswers.{TableAnswers};
     ghost use Rattle.tendril_run.specs.WhiteSpace.{class};
 

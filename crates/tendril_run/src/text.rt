@@ -6,8 +6,8 @@ ghost use Rattle.std.specs.Cmp.Lexicographic.{pointwise};
 ghost use Rattle.tendril_run.specs.Comparisons.{in_order};
 ghost use Rattle.tendril_run.specs.OneCell.{SendMay};
 ghost use Rattle.tendril_run.specs.Rules.{rule_with, grown, Changes, GivesBy};
-ghost use Rattle.tendril_block.specs.Outcomes.{NoneMust, LengthMust, CharMust, BytesMust, MemoryMay, CountMay, Gives};
-ghost use Rattle.tendril_block.specs.declared.refusal.Refusal.TheVariants.{Memory};
+ghost use Rattle.tendril_errors.specs.Outcomes.{NoneMust, LengthMust, CharMust, BytesMust, MemoryMay, CountMay, Gives};
+ghost use Rattle.tendril_errors.specs.declared.refusal.Refusal.TheVariants.{Memory};
 
 use crate::classifier::Classifier;
 use std::alloc::Global;

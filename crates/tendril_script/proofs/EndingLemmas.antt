@@ -5,8 +5,8 @@ use Rattle.std.proofs.lemmas.List.{append-nil}
 use Rattle.std.proofs.lemmas.Result.{IfErr-weaker, on_ok_weaker}
 use Rattle.std.proofs.Math.Seq.{take-length}
 use Rattle.std.specs.Io.KnownBytes.{Appends}
-use Rattle.tendril_block.specs.declared.refusal.Refusal.{Refusal}
-use Rattle.tendril_block.specs.declared.refusal.Refusal.TheVariants.{Io, Memory}
+use Rattle.tendril_errors.specs.declared.refusal.Refusal.{Refusal}
+use Rattle.tendril_errors.specs.declared.refusal.Refusal.TheVariants.{Io, Memory}
 use Rattle.tendril_script.specs.Endings.{EndsProgram, RunEnded, RunStops, WritesFrontOfLines}
 use Rattle.tendril_script.specs.HeldBack.{PrintsLines, PrintsSome}
 use Rattle.tendril_script.specs.Sessions.{WritesLines, lines as lines_of}

@@ -2,8 +2,8 @@ use Rattle.std.proofs.Common.{◌≡◌, ℕ, ◌<◌, ◌+◌, List, [], ◌∷
 use Rattle.std.proofs.Common.{append_assoc, length, take, map, get_or}
 use Rattle.std.proofs.KnownBytes.{Appends-nil, Appends-trans}
 use Rattle.std.proofs.lemmas.List.{append-nil, get_or-map, map_more, take-map}
-use Rattle.tendril_block.specs.declared.refusal.Refusal.{Refusal}
-use Rattle.tendril_block.specs.declared.refusal.Refusal.TheVariants.{Memory, Io}
+use Rattle.tendril_errors.specs.declared.refusal.Refusal.{Refusal}
+use Rattle.tendril_errors.specs.declared.refusal.Refusal.TheVariants.{Memory, Io}
 use Rattle.tendril_script.specs.HeldBack.{Passes, PrintsLines, PrintsSome}
 use Rattle.tendril_script.specs.Sessions.{LineStops, WritesLine}
 use Rattle.tendril_script.specs.Writing.{AppendsFront}

@@ -1,7 +1,7 @@
 -- What the writers have when an error ends the run of a script.
 use Rattle.std.specs.Prelude.{ℕ, ◌≡◌, ◌⊎◌, List, [], take, get_or, Option, IfSome}
-use Rattle.tendril_block.specs.declared.refusal.Refusal.{Refusal}
-use Rattle.tendril_block.specs.declared.refusal.Refusal.TheVariants.{Memory, Io}
+use Rattle.tendril_errors.specs.declared.refusal.Refusal.{Refusal}
+use Rattle.tendril_errors.specs.declared.refusal.Refusal.TheVariants.{Memory, Io}
 use Rattle.tendril_script.specs.Sessions.{LineStops, Session, WritesLines, lines}
 use Rattle.tendril_script.specs.Writing.{AppendsFront, complaint}
 

@@ -1,8 +1,8 @@
 -- What lines print: a suffix of it is held back, the prefix was written.
 use Rattle.std.specs.Prelude.{ℕ, ◌≡◌, List, [], ◌++◌, take, get_or, Option}
 use Rattle.std.specs.Io.KnownBytes.{Appends}
-use Rattle.tendril_block.specs.declared.refusal.Refusal.{Refusal}
-use Rattle.tendril_block.specs.declared.refusal.Refusal.TheVariants.{Memory, Io}
+use Rattle.tendril_errors.specs.declared.refusal.Refusal.{Refusal}
+use Rattle.tendril_errors.specs.declared.refusal.Refusal.TheVariants.{Memory, Io}
 use Rattle.tendril_script.specs.Sessions.{LineStops, Session}
 
 -- `bytes` follow what was held back; a writer whose bytes are known got a prefix of it all, and `left` is the remainder

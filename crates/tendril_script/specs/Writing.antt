@@ -2,8 +2,8 @@
 use Rattle.std.specs.Prelude.{ℕ, ◌≡◌, List, [], ◌∷◌, ◌++◌, codes, Option}
 use Rattle.std.specs.Fmt.{decimal}
 use Rattle.std.specs.Io.KnownBytes.{Appends}
-use Rattle.tendril_block.specs.Refusals.{number_of, name_of}
-use Rattle.tendril_block.specs.declared.refusal.Refusal.{Refusal}
+use Rattle.tendril_errors.specs.Refusals.{number_of, name_of}
+use Rattle.tendril_errors.specs.declared.refusal.Refusal.{Refusal}
 
 -- what a failed write leaves: a writer whose bytes are known got a prefix of these bytes
 pub record AppendsFront (before after : Option (List ℕ)) (bytes : List ℕ) : Type 0 where

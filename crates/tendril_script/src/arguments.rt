@@ -6,7 +6,7 @@ use std::alloc::AllocError;
 use std::env::FillError;
 use std::rt::Env;
 use std::str;
-use tendril_block::Refusal;
+use tendril_errors::Refusal;
 
 // The words that programs know have at most this many bytes.
 const LONGEST: usize = 16;

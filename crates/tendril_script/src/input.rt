@@ -8,7 +8,7 @@ use crate::lines::Lines;
 use crate::script::run_script;
 use std::alloc::Global;
 use std::io::{Read, Write};
-use tendril_block::Refusal;
+use tendril_errors::Refusal;
 
 /// Reads a script to its end, then runs its lines as `run_script` does. A failed read is Memory or Io.
 #[tactic(auto, using(crate::proofs::EndingLemmas::stops_of))]

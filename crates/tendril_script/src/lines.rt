@@ -1,7 +1,7 @@
 //! Lines of a script.
 
 use std::alloc::Global;
-use tendril_block::Refusal;
+use tendril_errors::Refusal;
 
 /// A program's state, which carries out the lines of a script one after another.
 pub trait Lines {

@@ -4,7 +4,7 @@ ghost use Rattle.std.specs.Io.KnownBytes.{Appends, Keeps};
 ghost use Rattle.tendril_script.specs.Writing.{AppendsFront};
 
 use std::io::{ErrorKind, Write};
-use tendril_block::Refusal;
+use tendril_errors::Refusal;
 
 /// Writes all bytes, and repeats an interrupted write.
 ///

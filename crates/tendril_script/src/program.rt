@@ -14,7 +14,7 @@ use crate::refusals::refuse;
 use std::alloc::Global;
 use std::io::{Read, Write};
 use std::rt::Env;
-use tendril_block::Refusal;
+use tendril_errors::Refusal;
 
 const DONE: u8 = 0;
 
@@ -23,7 +23,7 @@ const MISUSED: u8 = 2;
 /// A program: its name, its usage, what it does for words of its own, and what carries out the lines of a script.
 pub trait Program {
     ghost use Rattle.std.specs.Prelude.{◌≡◌, ℕ, List, Option, None, IfSome, IfErr, OnOk, map};
-    ghost use Rattle.tendril_block.specs.declared.refusal.Refusal.{Refusal};
+    ghost use Rattle.tendril_errors.specs.declared.refusal.Refusal.{Refusal};
 
     /// Carries out the lines of a script.
     type Runner: Lines;

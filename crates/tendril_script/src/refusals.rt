@@ -4,7 +4,7 @@ ghost use Rattle.tendril_script.specs.Writing.{AppendsFront, complaint, refused_
 
 use crate::output::write_bytes;
 use std::io::Write;
-use tendril_block::Refusal;
+use tendril_errors::Refusal;
 
 const REFUSED: u8 = 1;
 

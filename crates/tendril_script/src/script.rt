@@ -10,7 +10,7 @@ use crate::lines::Lines;
 use crate::output::{flush, write_bytes};
 use std::alloc::{AllocError, Global};
 use std::io::Write;
-use tendril_block::Refusal;
+use tendril_errors::Refusal;
 
 // Output is written when at least this many bytes are held back.
 const CHUNK: usize = 8192;

@@ -1,6 +1,6 @@
 -- Stored bytes that no other text shares.
 use Rattle.std.specs.Prelude.{◌≡◌, ℕ, List, ◌<◌, ◌≤◌, length, take}
-use Rattle.tendril_block.specs.declared.atomicity.TheConstants.{INLINE_LEN, MAX_LEN}
+use Rattle.tendril_errors.specs.declared.limits.TheConstants.{INLINE_LEN, MAX_LEN}
 use Rattle.tendril_storage.specs.declared.detached.Kept.{Kept}
 use Rattle.tendril_storage.specs.declared.detached.Kept.TheVariants.{Inline, Alone}
 

@@ -1,9 +1,9 @@
 -- A text split in two.
 use Rattle.std.specs.Prelude.{ℕ, ◌≡◌, ◌<◌, ◌≤◌, ◌+◌, length, take, drop, Result, Option, MatchOption}
-use Rattle.tendril_block.specs.declared.atomicity.TheConstants.{INLINE_LEN}
-use Rattle.tendril_block.specs.declared.refusal.Refusal.{Refusal}
-use Rattle.tendril_block.specs.declared.refusal.Refusal.TheVariants.{Count}
-use Rattle.tendril_block.specs.Outcomes.{NoneMust, Outcome}
+use Rattle.tendril_errors.specs.declared.limits.TheConstants.{INLINE_LEN}
+use Rattle.tendril_errors.specs.declared.refusal.Refusal.{Refusal}
+use Rattle.tendril_errors.specs.declared.refusal.Refusal.TheVariants.{Count}
+use Rattle.tendril_errors.specs.Outcomes.{NoneMust, Outcome}
 use Rattle.tendril_storage.specs.Texts.{Text, Parts}
 
 -- Count is permitted: both sides of a text of `total` bytes that is split after `count` have more than 8

@@ -1,6 +1,6 @@
 -- Bytes that are stored inline or in a view of a block.
 use Rattle.std.specs.Prelude.{◌≡◌, ℕ, List, ◌+◌, ◌≤◌, ◌<◌, ◌^◌, length, take, drop}
-use Rattle.tendril_block.specs.declared.atomicity.TheConstants.{INLINE_LEN}
+use Rattle.tendril_errors.specs.declared.limits.TheConstants.{INLINE_LEN}
 use Rattle.tendril_storage.specs.declared.storage.BlockView.{BlockView}
 use Rattle.tendril_storage.specs.declared.storage.Held.{Held}
 use Rattle.tendril_storage.specs.declared.storage.Held.TheVariants.{Inline, View}

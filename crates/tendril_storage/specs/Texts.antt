@@ -1,6 +1,6 @@
 -- Texts as contracts see them, and the bytes that clones, slices, pops and splits may copy.
 use Rattle.std.specs.Prelude.{ℕ, ◌≡◌, ◌<◌, ◌≤◌, ◌+◌, ◌⊎◌, List, length}
-use Rattle.tendril_block.specs.declared.atomicity.TheConstants.{INLINE_LEN}
+use Rattle.tendril_errors.specs.declared.limits.TheConstants.{INLINE_LEN}
 
 -- a text: its bytes, and how many bytes were copied for it
 pub record Text : Type 0 where

@@ -1,6 +1,6 @@
 //! Bytes that share nothing, so that they may be sent to another thread: inline, or moved out of their block.
 ghost use Rattle.std.specs.Prelude.{◌≡◌, ◌<◌, ◌≤◌, ◌+◌, ◌^◌, IfOk, IfErr, length, take, drop};
-ghost use Rattle.tendril_block.specs.Outcomes.{MemoryMay};
+ghost use Rattle.tendril_errors.specs.Outcomes.{MemoryMay};
 
 use crate::storage::{BlockView, Held, Storage};
 use std::alloc::Global;

@@ -9,8 +9,8 @@ use Rattle.std.specs.Io.KnownBytes.{Consumes, IsAtEnd}
 use Rattle.std.specs.List.{FoldsTo}
 use Rattle.std.specs.Prelude.{All}
 use Rattle.tendril_text.specs.Texts.{Text}
-use Rattle.tendril_block.specs.declared.refusal.Refusal.{Refusal}
-use Rattle.tendril_block.specs.declared.refusal.Refusal.TheVariants.{Io, Memory, TooManyReads}
+use Rattle.tendril_errors.specs.declared.refusal.Refusal.{Refusal}
+use Rattle.tendril_errors.specs.declared.refusal.Refusal.TheVariants.{Io, Memory, TooManyReads}
 use Rattle.tendril_stream.proofs.Stands.{bytes_of}
 use Rattle.tendril_stream.specs.Readings.{MakesReads, Hears, Receives, ReadsAll, ReadStops, Halts}
 use Rattle.tendril_stream.specs.Reads.{OneRead, Gave, WasInterrupted, HasFailed, CameToEnd, MayReadOn, given, given_by}

@@ -6,7 +6,7 @@ use Rattle.std.proofs.KnownBytes.{Consumes-kept, Consumes-nil}
 use Rattle.std.proofs.lemmas.List.Elements.{All-nil, All-push}
 use Rattle.std.specs.Io.KnownBytes.{Consumes, ReadConsumes}
 use Rattle.std.specs.Prelude.{All}
-use Rattle.tendril_block.specs.declared.refusal.Refusal.TheVariants.{Io}
+use Rattle.tendril_errors.specs.declared.refusal.Refusal.TheVariants.{Io}
 use Rattle.tendril_stream.proofs.Fed.{given-push, MakesReads-none, MakesReads-on}
 use Rattle.tendril_stream.specs.Readings.{Fills, MakesReads}
 use Rattle.tendril_stream.specs.Reads.{OneRead, Gave, WasInterrupted, HasFailed, CameToEnd, MayReadOn, given, given_by}

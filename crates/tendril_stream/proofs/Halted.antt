@@ -2,8 +2,8 @@
 use Rattle.std.proofs.Common.{◌≡◌, ◌⊎◌, ℕ, Bool, true, false, List, [], ◌++◌, Option, sym, ap, subst, ◌∙◌, append_assoc}
 use Rattle.std.proofs.Common.{⊎_elim, inl, inr}
 use Rattle.std.specs.Prelude.{IfSome}
-use Rattle.tendril_block.specs.declared.refusal.Refusal.{Refusal}
-use Rattle.tendril_block.specs.declared.refusal.Refusal.TheVariants.{Failed}
+use Rattle.tendril_errors.specs.declared.refusal.Refusal.{Refusal}
+use Rattle.tendril_errors.specs.declared.refusal.Refusal.TheVariants.{Failed}
 use Rattle.tendril_lossy.specs.Lossy.{Told}
 use Rattle.tendril_stream.proofs.Fed.{given-push}
 use Rattle.tendril_stream.proofs.Refused.{DecoderTakes, stands_read, stops_at_piece}

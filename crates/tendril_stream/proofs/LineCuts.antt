@@ -33,9 +33,9 @@ use Rattle.std.proofs.Common.{
 use Rattle.std.proofs.lemmas.Str.{IsUtf8-append}
 use Rattle.std.specs.Prelude.{IfErr, IsUtf8, Result, Ok, Err}
 use Rattle.memchr.specs.Find.{is_byte}
-use Rattle.tendril_block.specs.declared.refusal.Refusal.{Refusal}
-use Rattle.tendril_block.specs.declared.refusal.Refusal.TheVariants.{Count}
-use Rattle.tendril_block.specs.Outcomes.{LengthMust, MemoryMay, NoneMust, Outcome, Refused}
+use Rattle.tendril_errors.specs.declared.refusal.Refusal.{Refusal}
+use Rattle.tendril_errors.specs.declared.refusal.Refusal.TheVariants.{Count}
+use Rattle.tendril_errors.specs.Outcomes.{LengthMust, MemoryMay, NoneMust, Outcome, Refused}
 use Rattle.tendril_stream.specs.LineStarts.{CompletesLine}
 use Rattle.tendril_stream.specs.Lines.{HasLongNextLine, JoinStops}
 use Rattle.tendril_text.specs.Partings.{BothLong}

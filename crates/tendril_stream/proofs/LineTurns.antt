@@ -27,7 +27,7 @@ use Rattle.std.proofs.lemmas.List.Concat.{flat_map-append}
 use Rattle.std.proofs.lemmas.List.Elements.{All-nil, All-push}
 use Rattle.std.specs.List.{FoldsTo}
 use Rattle.std.specs.Prelude.{All, IsUtf8}
-use Rattle.tendril_block.specs.declared.refusal.Refusal.{Refusal}
+use Rattle.tendril_errors.specs.declared.refusal.Refusal.{Refusal}
 use Rattle.tendril_fmt.specs.Parts.{IsEndOf}
 use Rattle.tendril_stream.specs.LineStarts.{CompletesLine, CompletionStops}
 use Rattle.tendril_stream.specs.Lines.{JoinStops, StopsInLines, in_one_text}

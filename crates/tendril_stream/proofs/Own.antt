@@ -3,9 +3,9 @@ use Rattle.std.proofs.Common.{◌≡◌, ℕ, ◌⊎◌, Bool, true, false, List
 use Rattle.std.proofs.Common.{refl}
 use Rattle.std.specs.List.{FoldsTo}
 use Rattle.tendril_text.specs.Texts.{Text}
-use Rattle.tendril_block.specs.declared.refusal.Refusal.{Refusal}
-use Rattle.tendril_block.specs.declared.refusal.Refusal.TheVariants.{Count, Failed, Io, Memory, SinkRefused}
-use Rattle.tendril_block.specs.declared.refusal.Refusal.TheVariants.{TooManyReads}
+use Rattle.tendril_errors.specs.declared.refusal.Refusal.{Refusal}
+use Rattle.tendril_errors.specs.declared.refusal.Refusal.TheVariants.{Count, Failed, Io, Memory, SinkRefused}
+use Rattle.tendril_errors.specs.declared.refusal.Refusal.TheVariants.{TooManyReads}
 use Rattle.tendril_lossy.specs.Lossy.{Told}
 use Rattle.tendril_stream.specs.Decoders.{DecodingStops, EndStops}
 use Rattle.tendril_stream.specs.Decodings.{PieceMay, utf8}

@@ -2,8 +2,8 @@
 use Rattle.std.proofs.Common.{◌≡◌, ℕ, Bool, true, false, List, [], ◌⊎◌, ⊎_elim, inl, inr, Option, sym, subst, ◌∙◌}
 use Rattle.std.proofs.Common.{true≢false}
 use Rattle.tendril_text.specs.Texts.{Text}
-use Rattle.tendril_block.specs.declared.refusal.Refusal.{Refusal}
-use Rattle.tendril_block.specs.declared.refusal.Refusal.TheVariants.{Failed}
+use Rattle.tendril_errors.specs.declared.refusal.Refusal.{Refusal}
+use Rattle.tendril_errors.specs.declared.refusal.Refusal.TheVariants.{Failed}
 use Rattle.tendril_lossy.specs.Lossy.{Told}
 use Rattle.tendril_stream.proofs.Fed.{received}
 use Rattle.tendril_stream.proofs.Own.{unfailed}

@@ -7,7 +7,7 @@ use Rattle.tendril_text.proofs.Passing.{due_left, sent_through}
 use Rattle.tendril_text.specs.Decoding.{IsHandedOn, IsRest}
 use Rattle.tendril_text.specs.Receivers.{Feeds, Interrupts, IsSentOf, Sent, Stops, no_other}
 use Rattle.tendril_text.specs.Texts.{Text, Keeps}
-use Rattle.tendril_block.specs.declared.refusal.Refusal.{Refusal}
+use Rattle.tendril_errors.specs.declared.refusal.Refusal.{Refusal}
 use Rattle.tendril_lossy.specs.Completions.{CompletesTo}
 use Rattle.tendril_lossy.specs.Lossy.{Told, closed_of, due_open}
 use Rattle.tendril_stream.specs.Decodings.{PieceMay}

@@ -19,7 +19,7 @@ use Rattle.std.specs.Prelude.{
 }
 use Rattle.std.specs.List.{Contains}
 use Rattle.std.specs.Iterator.{YieldsThen}
-use Rattle.tendril_block.specs.declared.refusal.Refusal.{Refusal}
+use Rattle.tendril_errors.specs.declared.refusal.Refusal.{Refusal}
 use Rattle.tendril_text.specs.Texts.{Text}
 use Rattle.tendril_lossy.specs.Lossy.{Told}
 use Rattle.tendril_stream.specs.Decoders.{Decodes, Ends, EndStops, StopsInPiece}

@@ -3,8 +3,8 @@ use Rattle.std.specs.Prelude.{◌≡◌, ℕ, ◌⊎◌, Bool, true, false, List
 use Rattle.tendril_text.specs.Decoding.{IsRest}
 use Rattle.tendril_text.specs.TextLists.{no_text}
 use Rattle.tendril_text.specs.Texts.{Text}
-use Rattle.tendril_block.specs.declared.refusal.Refusal.{Refusal}
-use Rattle.tendril_block.specs.declared.refusal.Refusal.TheVariants.{SinkRefused}
+use Rattle.tendril_errors.specs.declared.refusal.Refusal.{Refusal}
+use Rattle.tendril_errors.specs.declared.refusal.Refusal.TheVariants.{SinkRefused}
 use Rattle.tendril_lossy.specs.Lossy.{Told, due_open, kept}
 use Rattle.tendril_stream.specs.Decodings.{Decoding}
 use Rattle.tendril_stream.specs.Sinks.{Sent, Piece, Fault, Feeds, IsSentOf, RefusesCall, Stops}

@@ -1,6 +1,6 @@
 -- Decodings of a stream that comes in pieces, and UTF-8 as one.
 use Rattle.std.specs.Prelude.{◌≡◌, ℕ, List, [], ◌++◌}
-use Rattle.tendril_block.specs.declared.refusal.Refusal.{Refusal}
+use Rattle.tendril_errors.specs.declared.refusal.Refusal.{Refusal}
 use Rattle.tendril_lossy.specs.Lossy.{Told, due, due_open, kept}
 use Rattle.tendril_stream.specs.Sinks.{Sent, IsSent, IsSentOf}
 use Rattle.tendril_text.specs.Decoding.{LongPieceMay}

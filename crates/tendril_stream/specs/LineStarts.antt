@@ -1,6 +1,6 @@
 -- The start of a line that is completed by a text.
 use Rattle.std.specs.Prelude.{◌≡◌, ◌<◌, ℕ, ◌⊎◌, List, [], ◌++◌, length, IsUtf8}
-use Rattle.tendril_block.specs.declared.refusal.Refusal.{Refusal}
+use Rattle.tendril_errors.specs.declared.refusal.Refusal.{Refusal}
 use Rattle.tendril_fmt.specs.Parts.{IsEndOf}
 use Rattle.tendril_stream.specs.Lines.{HasLongNextLine, JoinStops}
 use Rattle.tendril_text.specs.Splits.{IsWholeLine, LacksFeed}

@@ -1,10 +1,10 @@
 -- Lines of a stream of texts.
 use Rattle.std.specs.Prelude.{◌≡◌, ◌<◌, ℕ, ◌⊎◌, List, [], ◌∷◌, ◌++◌, length, drop, flat_map, All, IsUtf8}
 use Rattle.std.specs.List.{FoldsTo}
-use Rattle.tendril_block.specs.declared.atomicity.TheConstants.{INLINE_LEN}
-use Rattle.tendril_block.specs.declared.refusal.Refusal.{Refusal}
-use Rattle.tendril_block.specs.declared.refusal.Refusal.TheVariants.{Count, SinkRefused}
-use Rattle.tendril_block.specs.Outcomes.{LengthMust, MemoryMay, Refused}
+use Rattle.tendril_errors.specs.declared.limits.TheConstants.{INLINE_LEN}
+use Rattle.tendril_errors.specs.declared.refusal.Refusal.{Refusal}
+use Rattle.tendril_errors.specs.declared.refusal.Refusal.TheVariants.{Count, SinkRefused}
+use Rattle.tendril_errors.specs.Outcomes.{LengthMust, MemoryMay, Refused}
 use Rattle.tendril_fmt.specs.Parts.{IsEndOf, IsFrontOf}
 use Rattle.tendril_lossy.specs.Lossy.{Told}
 use Rattle.tendril_stream.specs.Sinks.{Sent, Piece, Fault, IsSent, RefusesCall, told}

@@ -27,8 +27,8 @@ use Rattle.std.specs.Prelude.{
 use Rattle.std.specs.Io.KnownBytes.{Consumes, IsAtEnd}
 use Rattle.std.specs.List.{FoldsTo}
 use Rattle.tendril_text.specs.Texts.{Text}
-use Rattle.tendril_block.specs.declared.refusal.Refusal.{Refusal}
-use Rattle.tendril_block.specs.declared.refusal.Refusal.TheVariants.{Io, Memory, TooLong, TooManyReads}
+use Rattle.tendril_errors.specs.declared.refusal.Refusal.{Refusal}
+use Rattle.tendril_errors.specs.declared.refusal.Refusal.TheVariants.{Io, Memory, TooLong, TooManyReads}
 use Rattle.tendril_stream.specs.Reads.{
   OneRead,
   Gave,

@@ -3,7 +3,7 @@ use Rattle.std.specs.Prelude.{◌<◌, ◌⊎◌, List, length, Option, Some, No
 use Rattle.std.specs.List.{FoldsTo}
 use Rattle.std.specs.Iterator.{YieldsThen}
 use Rattle.tendril_text.specs.Texts.{Text}
-use Rattle.tendril_block.specs.declared.refusal.Refusal.{Refusal}
+use Rattle.tendril_errors.specs.declared.refusal.Refusal.{Refusal}
 pub use Rattle.tendril_text.specs.Receivers.{Sent, Piece, Fault, told_of, told, IsSentOf, Feeds, RefusesCall}
 pub use Rattle.tendril_text.specs.Receivers.{SinkRefuses, IsStop, Stops}
 

@@ -6,7 +6,7 @@ use crate::tracks::Tracks;
 use std::alloc::Global;
 use std::borrow::CowStr;
 use std::fmt::{self, Debug, Formatter, Write};
-use tendril_block::Refusal;
+use tendril_errors::Refusal;
 use tendril_text::fmt::UTF8;
 use tendril_text::{Atomicity, NonAtomic, Tendril};
 
@@ -83,7 +83,7 @@ impl<A: Atomicity> Debug for Accumulate<A> {
 impl<A: Atomicity> TendrilSink<Tendril<UTF8, A>> for Accumulate<A> {
     ghost use Rattle.std.specs.Prelude.{◌≡◌, List, [], ◌∷◌, ◌++◌, OnOk, IfOk, IfErr};
     ghost use Rattle.std.specs.Cow.{cow_str_bytes};
-    ghost use Rattle.tendril_block.specs.declared.refusal.Refusal.TheVariants.{Memory};
+    ghost use Rattle.tendril_errors.specs.declared.refusal.Refusal.TheVariants.{Memory};
     ghost use Rattle.tendril_stream.specs.Events.{sent};
     ghost use Rattle.tendril_stream.specs.Sinks.{Piece, Fault};
 

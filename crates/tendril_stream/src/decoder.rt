@@ -8,7 +8,7 @@ use crate::utf8::KeptUtf8;
 use std::alloc::Global;
 use std::borrow::CowStr;
 use std::marker::PhantomData;
-use tendril_block::Refusal;
+use tendril_errors::Refusal;
 use tendril_text::fmt::{Bytes, UTF8};
 use tendril_text::{Atomicity, NonAtomic, Tendril};
 
@@ -153,7 +153,7 @@ impl<
     A: Atomicity,
 > TendrilSink<Tendril<Bytes, A>> for Decoder<K, S, A> {
     ghost use Rattle.std.specs.Prelude.{◌≡◌, ◌⊎◌, true, false};
-    ghost use Rattle.tendril_block.specs.declared.refusal.Refusal.TheVariants.{Failed};
+    ghost use Rattle.tendril_errors.specs.declared.refusal.Refusal.TheVariants.{Failed};
     ghost use Rattle.tendril_stream.specs.Decoders.{Decodes, DecodingStops, Ends, EndStops};
 
     type Output = S::Output;

@@ -6,7 +6,7 @@ ghost use Rattle.tendril_stream.specs.Reads.{OneRead, given};
 
 use crate::counted_read::{CountedRead, ReadFault};
 use crate::reading::read_into;
-use tendril_block::{MAX_LEN, Refusal};
+use tendril_errors::{MAX_LEN, Refusal};
 use tendril_text::fmt::Bytes;
 use tendril_text::{Atomicity, Tendril};
 

@@ -9,7 +9,7 @@ ghost use Rattle.tendril_text.specs.Texts.{Text};
 
 use std::alloc::Global;
 use std::marker::Model;
-use tendril_block::Refusal;
+use tendril_errors::Refusal;
 use tendril_text::fmt::UTF8;
 use tendril_text::{Atomicity, Tendril};
 

@@ -10,7 +10,7 @@ use crate::sink::TendrilSink;
 use crate::tracks::Tracks;
 use std::alloc::Global;
 use std::borrow::CowStr;
-use tendril_block::Refusal;
+use tendril_errors::Refusal;
 use tendril_text::fmt::UTF8;
 use tendril_text::{Atomicity, NonAtomic, Tendril};
 
@@ -90,7 +90,7 @@ impl<S: TendrilSink<Tendril<UTF8, A>>, A: Atomicity> Lines<S, A> {
 
 impl<S: TendrilSink<Tendril<UTF8, A>>, A: Atomicity> TendrilSink<Tendril<UTF8, A>> for Lines<S, A> {
     ghost use Rattle.std.specs.Prelude.{◌≡◌, ◌⊎◌, true, false};
-    ghost use Rattle.tendril_block.specs.declared.refusal.Refusal.TheVariants.{Failed};
+    ghost use Rattle.tendril_errors.specs.declared.refusal.Refusal.TheVariants.{Failed};
     ghost use Rattle.tendril_stream.specs.Lines.{TakesForLines, RefusesForLines, FinishesLines, EndStopsLines};
 
     type Output = S::Output;

@@ -2,7 +2,7 @@
 
 use crate::sink::{StreamText, TendrilSink};
 use std::alloc::Global;
-use tendril_block::Refusal;
+use tendril_errors::Refusal;
 
 // Over the types of pieces and texts for the reason that `TendrilSink` is.
 /// What a decoder keeps of a stream between two pieces of type P, and how it decodes the next one to texts of type T.

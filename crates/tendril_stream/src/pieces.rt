@@ -13,7 +13,7 @@ use crate::decoder::Utf8LossyDecoder;
 use crate::sink::TendrilSink;
 use crate::tracks::Tracks;
 use std::alloc::Global;
-use tendril_block::Refusal;
+use tendril_errors::Refusal;
 use tendril_text::fmt::{Bytes, UTF8};
 use tendril_text::{Atomicity, Tendril};
 

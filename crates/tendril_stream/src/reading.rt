@@ -23,7 +23,7 @@ use std::alloc::Global;
 use std::error::Error;
 use std::fmt;
 use std::fs::{self, Files};
-use tendril_block::Refusal;
+use tendril_errors::Refusal;
 use tendril_text::fmt::{Bytes, UTF8};
 use tendril_text::{Atomicity, ByteTendril, Tendril};
 
@@ -41,10 +41,10 @@ pub struct Stopped<S> {
 
 /// Prints the number and the name of the error, as `9 Io`.
 impl<S: Drop> fmt::Display for Stopped<S> {
-    ghost use Rattle.std.specs.Prelude.{◌++◌, Some, codes, decimal};
-    ghost use Rattle.tendril_block.specs.Refusals.{number_of, name_of};
+    ghost use Rattle.std.specs.Prelude.{Some};
+    ghost use Rattle.tendril_errors.specs.Refusals.{refusal_text};
 
-    ghost output = { λ s. Some (decimal (number_of s.refusal) ++ codes " " ++ name_of s.refusal) };
+    ghost output = { λ s. Some (refusal_text s.refusal) };
 
     fn fmt<W: fmt::Write>(&self, f: &mut fmt::Formatter<W>) -> fmt::Result {
         write!(f, "{}", self.refusal)

@@ -7,7 +7,7 @@ ghost use Rattle.tendril_stream.specs.Sinks.{Piece, Feeds, IsSentOf, RefusesCall
 use crate::sink::TendrilSink;
 use std::alloc::Global;
 use std::borrow::CowStr;
-use tendril_block::Refusal;
+use tendril_errors::Refusal;
 use tendril_text::fmt::UTF8;
 use tendril_text::{Atomicity, Receiving, Tendril, replace_by};
 

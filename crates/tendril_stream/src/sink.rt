@@ -1,7 +1,7 @@
 //! Sinks: consumers of a stream of texts.
 
 use std::borrow::CowStr;
-use tendril_block::Refusal;
+use tendril_errors::Refusal;
 pub use tendril_text::StreamText;
 
 // Generic over the type of its texts, not over a format and an atomicity as in the Rust crate: for those two the
@@ -13,7 +13,7 @@ pub trait TendrilSink<T: StreamText>: Drop {
     ghost use Rattle.std.specs.Cow.{cow_str_bytes};
     ghost use Rattle.std.specs.List.{FoldsTo};
     ghost use Rattle.std.specs.Iterator.{IsFiniteIterable};
-    ghost use Rattle.tendril_block.specs.declared.refusal.Refusal.{Refusal};
+    ghost use Rattle.tendril_errors.specs.declared.refusal.Refusal.{Refusal};
     ghost use Rattle.tendril_stream.specs.Sinks.{Sent, Piece, Fault, AcceptsAll, AcceptsUpTo, SendsAll, SendsSome};
 
     /// What `finish` returns.

@@ -10,7 +10,7 @@ use crate::sending::{SendsToSink, replace, send};
 use crate::sink::TendrilSink;
 use std::alloc::Global;
 use std::marker::Model;
-use tendril_block::Refusal;
+use tendril_errors::Refusal;
 use tendril_text::fmt::{Bytes, UTF8};
 use tendril_text::{Atomicity, IncompleteUtf8, LastText, Tendril};
 

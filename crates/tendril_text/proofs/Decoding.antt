@@ -4,7 +4,7 @@ use Rattle.std.proofs.Common.{Some, None, IsUtf8, refl, sym, ap, subst, ◌∙�
 use Rattle.std.proofs.Common.{length-take-le, length-take}
 use Rattle.std.proofs.lemmas.List.{drop-drop}
 use Rattle.std.specs.Prelude.{IfSome, chars}
-use Rattle.tendril_block.specs.declared.refusal.Refusal.{Refusal}
+use Rattle.tendril_errors.specs.declared.refusal.Refusal.{Refusal}
 use Rattle.tendril_lossy.proofs.Completions.{IsFirstPart, rest_items, open_len}
 use Rattle.tendril_lossy.proofs.Streams.{IsLossy-lossy}
 use Rattle.tendril_lossy.specs.AfterText.{EndsWithin, items_after}

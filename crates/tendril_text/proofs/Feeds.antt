@@ -5,7 +5,7 @@ use Rattle.std.specs.List.{FoldsTo}
 use Rattle.std.proofs.lemmas.List.Elements.{All-append, All-nil, All-cons, All-weaker}
 use Rattle.tendril_lossy.specs.Lossy.{Told}
 use Rattle.tendril_text.specs.Receivers.{Sent, told, told_of, Feeds, IsStop, RefusesCall, Stops}
-use Rattle.tendril_block.specs.declared.refusal.Refusal.{Refusal}
+use Rattle.tendril_errors.specs.declared.refusal.Refusal.{Refusal}
 
 pub FoldsTo-append : {S A : Type 0} (R : S → A → S → Type 0) (a : S) (xs : List A) (b : S) (ys : List A) (c : S)
     → FoldsTo R a xs b → FoldsTo R b ys c → FoldsTo R a (xs ++ ys) c

@@ -6,7 +6,7 @@ use Rattle.std.proofs.lemmas.List.Elements.{All-cons, All-head, All-nil, All-tai
 use Rattle.std.specs.List.{All, FoldsTo}
 use Rattle.std.specs.Prelude.{MatchOption, MatchResult, chars, encode_utf8, flat_map}
 use lib.Utf8.{encode}
-use Rattle.tendril_block.specs.declared.refusal.Refusal.{Refusal}
+use Rattle.tendril_errors.specs.declared.refusal.Refusal.{Refusal}
 use Rattle.tendril_lossy.proofs.Told.{characters-append, characters-map}
 use Rattle.tendril_lossy.specs.Completions.{BreaksAt, CompletesTo}
 use Rattle.tendril_lossy.specs.Lossy.{Told, Char, IsOpen, closed_of, due_open}

@@ -8,7 +8,7 @@ use Rattle.std.proofs.lemmas.Str.{chars-nil, chars_from_encodes}
 use Rattle.std.specs.List.{FoldsTo}
 use Rattle.std.specs.Prelude.{IfSome, IsSomeAnd, chars}
 use lib.Utf8.{encode}
-use Rattle.tendril_block.specs.declared.refusal.Refusal.{Refusal}
+use Rattle.tendril_errors.specs.declared.refusal.Refusal.{Refusal}
 use Rattle.tendril_lossy.proofs.Fronts.{IsOpen-nil}
 use Rattle.tendril_lossy.proofs.Lossy.{lossy-nil}
 use Rattle.tendril_lossy.proofs.Resume.{closed-keeps, cut-keeps}

@@ -3,7 +3,7 @@ use Rattle.std.proofs.Common.{IsOk, OnOk, refl, sym, subst, ap, ◌∙◌, appen
 use Rattle.std.proofs.lemmas.List.{length-append}
 use Rattle.std.specs.Fmt.{WritesInCalls}
 use Rattle.std.specs.List.{FoldsTo, concat}
-use Rattle.tendril_block.specs.declared.refusal.Refusal.{Refusal}
+use Rattle.tendril_errors.specs.declared.refusal.Refusal.{Refusal}
 use Rattle.tendril_text.specs.Items.{LengthRefused}
 use Rattle.tendril_text.specs.Writes.{IsPrinted, TakesPiece}
 

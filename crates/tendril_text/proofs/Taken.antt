@@ -9,9 +9,9 @@ use Rattle.std.proofs.lemmas.Result.{IfOk-weaker, MatchResult-weaker}
 use Rattle.std.specs.Borrow.{Bor}
 use Rattle.std.specs.Iterator.{Yields}
 use Rattle.std.specs.Prelude.{flat_map}
-use Rattle.tendril_block.specs.declared.atomicity.TheConstants.{MAX_LEN}
-use Rattle.tendril_block.specs.declared.refusal.Refusal.{Refusal}
-use Rattle.tendril_block.specs.Outcomes.{LengthMust, MemoryMay, Outcome}
+use Rattle.tendril_errors.specs.declared.limits.TheConstants.{MAX_LEN}
+use Rattle.tendril_errors.specs.declared.refusal.Refusal.{Refusal}
+use Rattle.tendril_errors.specs.Outcomes.{LengthMust, MemoryMay, Outcome}
 use Rattle.tendril_fmt.specs.Chars.{one_byte}
 use Rattle.tendril_text.specs.Pushes.{Joins}
 use Rattle.tendril_text.specs.Items.{LengthRefused, appended, joined, cost, Takes, TakesItems, Extends, Makes}

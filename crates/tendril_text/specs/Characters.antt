@@ -1,7 +1,7 @@
 -- Characters popped off a text, and the calls of a classifier meanwhile.
 use Rattle.std.specs.Prelude.{ℕ, ◌≡◌, ◌≤◌, ◌<◌, ◌+◌, List, [], ◌∷◌, ◌++◌, length, take, drop, Bool, true, false}
 use Rattle.std.specs.List.{FoldsTo}
-use Rattle.tendril_block.specs.declared.atomicity.TheConstants.{INLINE_LEN}
+use Rattle.tendril_errors.specs.declared.limits.TheConstants.{INLINE_LEN}
 
 -- Calls of a classifier. `step f c r f'` says that the classifier f, called with the character c, may return r and
 -- become f'; `eq` compares results.

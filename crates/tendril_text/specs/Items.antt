@@ -23,9 +23,9 @@ use Rattle.std.specs.Prelude.{
   take,
 }
 use Rattle.std.specs.Iterator.{YieldsThen}
-use Rattle.tendril_block.specs.declared.atomicity.TheConstants.{MAX_LEN}
-use Rattle.tendril_block.specs.declared.refusal.Refusal.{Refusal}
-use Rattle.tendril_block.specs.Outcomes.{LengthMust, MemoryMay, Refused}
+use Rattle.tendril_errors.specs.declared.limits.TheConstants.{MAX_LEN}
+use Rattle.tendril_errors.specs.declared.refusal.Refusal.{Refusal}
+use Rattle.tendril_errors.specs.Outcomes.{LengthMust, MemoryMay, Refused}
 use Rattle.tendril_storage.specs.Texts.{Text}
 
 -- the error of a text that would have `count` bytes

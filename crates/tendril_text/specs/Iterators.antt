@@ -19,8 +19,8 @@ use Rattle.std.specs.Prelude.{
   Err,
   MatchOption,
 }
-use Rattle.tendril_block.specs.declared.refusal.Refusal.{Refusal}
-use Rattle.tendril_block.specs.declared.refusal.Refusal.TheVariants.{Count}
+use Rattle.tendril_errors.specs.declared.refusal.Refusal.{Refusal}
+use Rattle.tendril_errors.specs.declared.refusal.Refusal.TheVariants.{Count}
 use Rattle.tendril_storage.specs.Texts.{Text, Keeps, Parts}
 use Rattle.tendril_text.specs.declared.search.SetResult.{SetResult}
 use Rattle.tendril_text.specs.Characters.{AsksLongRun, AsksRun}

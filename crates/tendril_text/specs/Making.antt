@@ -1,7 +1,7 @@
 -- Texts created from bytes.
 use Rattle.std.specs.Prelude.{ℕ, ◌≡◌, List, length, Result}
-use Rattle.tendril_block.specs.declared.refusal.Refusal.{Refusal}
-use Rattle.tendril_block.specs.Outcomes.{LengthMust, BytesMust, MemoryMay, Gives}
+use Rattle.tendril_errors.specs.declared.refusal.Refusal.{Refusal}
+use Rattle.tendril_errors.specs.Outcomes.{LengthMust, BytesMust, MemoryMay, Gives}
 use Rattle.tendril_storage.specs.Texts.{Text}
 
 -- a text of the bytes b, which all count as copied

@@ -1,10 +1,10 @@
 -- Clones, slices, pops and splits of a text.
 use Rattle.std.specs.Prelude.{ℕ, ◌≡◌, ◌<◌, ◌≤◌, List, length, take, drop, Option, Result, Ok, Err}
-use Rattle.tendril_block.specs.declared.refusal.Refusal.{Refusal}
-use Rattle.tendril_block.specs.declared.refusal.Refusal.TheVariants.{ValidationFailed}
-use Rattle.tendril_block.specs.declared.subtendril_error.SubtendrilError.{SubtendrilError}
-use Rattle.tendril_block.specs.Errors.{refusal_of}
-use Rattle.tendril_block.specs.Outcomes.{
+use Rattle.tendril_errors.specs.declared.refusal.Refusal.{Refusal}
+use Rattle.tendril_errors.specs.declared.refusal.Refusal.TheVariants.{ValidationFailed}
+use Rattle.tendril_errors.specs.declared.subtendril_error.SubtendrilError.{SubtendrilError}
+use Rattle.tendril_errors.specs.Errors.{refusal_of}
+use Rattle.tendril_errors.specs.Outcomes.{
   NoneMust,
   First,
   CutMust,

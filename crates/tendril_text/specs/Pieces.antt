@@ -1,7 +1,7 @@
 -- A prefix that is removed from a text, and the bytes that end it.
 use Rattle.std.specs.Prelude.{ℕ, ◌≡◌, ◌+◌, length, take, drop, Result}
-use Rattle.tendril_block.specs.declared.refusal.Refusal.{Refusal}
-use Rattle.tendril_block.specs.Outcomes.{NoneMust, Outcome}
+use Rattle.tendril_errors.specs.declared.refusal.Refusal.{Refusal}
+use Rattle.tendril_errors.specs.Outcomes.{NoneMust, Outcome}
 use Rattle.tendril_storage.specs.Partings.{BothLong}
 use Rattle.tendril_storage.specs.Texts.{Text, Parts}
 

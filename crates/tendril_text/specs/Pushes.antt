@@ -1,7 +1,7 @@
 -- What a push does to a text, and its errors.
 use Rattle.std.specs.Prelude.{ℕ, ◌≡◌, ◌≤◌, ◌+◌, ◌++◌, List, length, max, replicate, Option, Result}
-use Rattle.tendril_block.specs.declared.refusal.Refusal.{Refusal}
-use Rattle.tendril_block.specs.Outcomes.{LengthMust, BytesMust, CharMust, MemoryMay, Outcome}
+use Rattle.tendril_errors.specs.declared.refusal.Refusal.{Refusal}
+use Rattle.tendril_errors.specs.Outcomes.{LengthMust, BytesMust, CharMust, MemoryMay, Outcome}
 use Rattle.tendril_storage.specs.Texts.{Text}
 
 -- the bytes y are appended to a text, which then has the bytes z

@@ -2,8 +2,8 @@
 use Rattle.std.specs.Prelude.{◌≡◌, ℕ, ◌⊎◌, List, [], ◌∷◌, ◌++◌, drop, map, flat_map, chars, All}
 use Rattle.std.specs.List.{FoldsTo}
 use Rattle.tendril_text.specs.Decoding.{IsHandedOn, IsRest, LongTextMay}
-use Rattle.tendril_block.specs.declared.refusal.Refusal.{Refusal}
-use Rattle.tendril_block.specs.declared.refusal.Refusal.TheVariants.{SinkRefused}
+use Rattle.tendril_errors.specs.declared.refusal.Refusal.{Refusal}
+use Rattle.tendril_errors.specs.declared.refusal.Refusal.TheVariants.{SinkRefused}
 use Rattle.tendril_lossy.specs.Lossy.{Item, Told, Char, Mark, lossy, closed_of, due_open, kept}
 use Rattle.tendril_storage.specs.Texts.{Text}
 

@@ -19,7 +19,7 @@ use Rattle.std.specs.Prelude.{
   slice_index_or,
 }
 use Rattle.memchr.specs.Find.{Nowhere, Passes}
-use Rattle.tendril_block.specs.declared.refusal.Refusal.{Refusal}
+use Rattle.tendril_errors.specs.declared.refusal.Refusal.{Refusal}
 use Rattle.tendril_storage.specs.Partings.{IsParted, BothLong}
 use Rattle.tendril_storage.specs.Texts.{Text, Keeps}
 use Rattle.tendril_text.specs.declared.byte_set.Members.{Members}

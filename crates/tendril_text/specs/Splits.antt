@@ -28,8 +28,8 @@ use Rattle.std.specs.Prelude.{
 }
 use Rattle.std.specs.Str.Iter.{LacksByte}
 use Rattle.memchr.specs.Find.{Nowhere, Passes, is_byte}
-use Rattle.tendril_block.specs.declared.refusal.Refusal.{Refusal}
-use Rattle.tendril_block.specs.Outcomes.{CountMay}
+use Rattle.tendril_errors.specs.declared.refusal.Refusal.{Refusal}
+use Rattle.tendril_errors.specs.Outcomes.{CountMay}
 use Rattle.tendril_fmt.specs.Parts.{IsEndOf}
 use Rattle.tendril_storage.specs.Partings.{BothLong}
 use Rattle.tendril_storage.specs.Texts.{Text, Parts}

@@ -1,7 +1,7 @@
 -- Texts without the white space at their ends.
 use Rattle.std.specs.Prelude.{ℕ, ◌≡◌, ◌<◌, ◌-◌, true, false, List, ◌++◌, length, slice_index, All, Result}
 use Rattle.std.specs.Char.{is_ascii_whitespace}
-use Rattle.tendril_block.specs.declared.refusal.Refusal.{Refusal}
+use Rattle.tendril_errors.specs.declared.refusal.Refusal.{Refusal}
 use Rattle.tendril_storage.specs.Texts.{Text}
 use Rattle.tendril_text.specs.Parts.{Clones}
 

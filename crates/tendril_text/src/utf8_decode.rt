@@ -8,7 +8,7 @@ ghost use Rattle.tendril_lossy.specs.Lossy.{IsOpen};
 ghost use Rattle.tendril_text.specs.Decoding.{DecodesPiece, HandsOnUpTo, IsRest, LongTextMay, PopsText, bytes_of};
 ghost use Rattle.tendril_text.specs.Decoding.{listed};
 ghost use Rattle.tendril_text.specs.Receivers.{Interrupts, PassesUpTo, Piece, RefusesCall};
-ghost use Rattle.tendril_block.specs.Outcomes.{NoneMust, Outcome};
+ghost use Rattle.tendril_errors.specs.Outcomes.{NoneMust, Outcome};
 
 mod incomplete;
 mod receiving;

@@ -4,8 +4,8 @@ use Rattle.std.proofs.Common.{subst, ◌∙◌, arith, append-nil, length-append
 use Rattle.std.proofs.lemmas.List.Elements.{All-push}
 use Rattle.std.specs.Prelude.{All}
 use Rattle.tendril_text.specs.Texts.{Text}
-use Rattle.tendril_block.specs.declared.refusal.Refusal.{Refusal}
-use Rattle.tendril_block.specs.declared.refusal.Refusal.TheVariants.{Failed, Io, Memory}
+use Rattle.tendril_errors.specs.declared.refusal.Refusal.{Refusal}
+use Rattle.tendril_errors.specs.declared.refusal.Refusal.TheVariants.{Failed, Io, Memory}
 use Rattle.tendril_lossy.specs.Lossy.{Told}
 use Rattle.tendril_stream.proofs.Fed.{given-push, MakesReads-none}
 use Rattle.tendril_stream.specs.Decoders.{Decodes, DecodingStops as Stopping, EndStops}

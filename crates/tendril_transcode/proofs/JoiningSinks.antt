@@ -4,7 +4,7 @@ use Rattle.std.proofs.Common.{append-nil, IsUtf8, chars, Result, Ok, Err, OnOk}
 use Rattle.std.proofs.lemmas.Str.{chars-append, chars-nil}
 use Rattle.std.specs.List.{FoldsTo}
 use Rattle.tendril_text.specs.Texts.{Text}
-use Rattle.tendril_block.specs.declared.refusal.Refusal.{Refusal}
+use Rattle.tendril_errors.specs.declared.refusal.Refusal.{Refusal}
 use Rattle.tendril_lossy.proofs.Told.{characters-append, characters-map}
 use Rattle.tendril_lossy.specs.Lossy.{Told, Char, characters}
 use Rattle.tendril_stream.specs.Decoders.{Decodes, Ends}

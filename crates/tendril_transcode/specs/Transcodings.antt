@@ -18,8 +18,8 @@ use Rattle.std.specs.Prelude.{
   false,
 }
 use Rattle.std.specs.Io.KnownBytes.{Appends, Consumes, IsAtEnd}
-use Rattle.tendril_block.specs.declared.refusal.Refusal.{Refusal}
-use Rattle.tendril_block.specs.declared.refusal.Refusal.TheVariants.{Memory, SinkRefused}
+use Rattle.tendril_errors.specs.declared.refusal.Refusal.{Refusal}
+use Rattle.tendril_errors.specs.declared.refusal.Refusal.TheVariants.{Memory, SinkRefused}
 use Rattle.tendril_lossy.specs.Lossy.{Told, characters}
 use Rattle.tendril_stream.specs.Decodings.{Decoding}
 use Rattle.tendril_stream.specs.Readings.{StopsBetween}

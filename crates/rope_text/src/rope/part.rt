@@ -1,6 +1,6 @@
 //! Slices and clones of ropes, which share the bytes of the rope's pieces.
 ghost use Rattle.std.specs.Prelude.{◌≡◌, ◌≤◌, ◌<◌, ◌+◌, length, min, take, drop, All, IsUtf8};
-ghost use Rattle.tendril_block.specs.Outcomes.{Gives, NoneMust};
+ghost use Rattle.tendril_errors.specs.Outcomes.{Gives, NoneMust};
 ghost use Rattle.rope_text.specs.Parts.{IsCloneOf, PartMay, SubRope, SharesPart};
 ghost use Rattle.rope_text.specs.Ropes.{piece_at, IsPiece};
 ghost use Rattle.tendril_text.specs.TextLists.{bytes_of_all};

@@ -2,7 +2,7 @@
 ghost use Rattle.std.specs.Prelude.{◌≡◌, ◌<◌, ◌≤◌, ◌+◌, ◌↔◌, [], length, take, drop, IsTrue, IsUtf8};
 ghost use Rattle.std.specs.Str.{IsCharBoundary};
 ghost use Rattle.std.specs.VecDeque.{deque_capacity, deque_len};
-ghost use Rattle.tendril_block.specs.Outcomes.{NoneMust, Outcome};
+ghost use Rattle.tendril_errors.specs.Outcomes.{NoneMust, Outcome};
 ghost use Rattle.rope_text.specs.Ropes.{piece_at};
 ghost use Rattle.rope_text.specs.Splits.{IsCutAt, SplitMay, SplitsOff};
 ghost use Rattle.tendril_text.specs.Parts.{Slices};

@@ -1,7 +1,7 @@
 //! Moving bytes to the start of their block, over those that were popped, or into a block of their own.
 ghost use Rattle.std.specs.Prelude.{◌≡◌, ◌<◌, ◌≤◌, ◌+◌, ◌++◌, ◌⊎◌, length, take, drop, true, false, IfOk, IfErr};
 ghost use Rattle.std.specs.Prelude.{IfSome, OnSome, IfNone, OnErr};
-ghost use Rattle.tendril_block.specs.Outcomes.{MemoryMay};
+ghost use Rattle.tendril_errors.specs.Outcomes.{MemoryMay};
 ghost use Rattle.tendril_block.specs.Tail.{tail_bytes};
 
 use crate::storage::{Held, Storage};

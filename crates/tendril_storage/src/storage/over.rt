@@ -2,7 +2,7 @@
 ghost use Rattle.std.specs.Prelude.{◌≡◌, ◌<◌, ◌≤◌, ◌+◌, ℕ, slice_index, length, take, drop, max, IfOk, IfErr, OnOk};
 ghost use Rattle.std.specs.Prelude.{OnErr, IfSome, OnSome, IfNone};
 ghost use Rattle.std.specs.Fn.{CalledAtMut};
-ghost use Rattle.tendril_block.specs.Outcomes.{MemoryMay};
+ghost use Rattle.tendril_errors.specs.Outcomes.{MemoryMay};
 ghost use Rattle.tendril_storage.specs.Edits.{TakesAtMut};
 
 use crate::storage::{Held, Storage, put};

@@ -1,6 +1,6 @@
 //! Slices of stored bytes: up to 8 are copied inline, more are a view of the same block.
 ghost use Rattle.std.specs.Prelude.{◌≡◌, ◌<◌, ◌≤◌, ◌+◌, ◌⊎◌, length, take, drop, IfOk, IfErr, IfSome, OnSome};
-ghost use Rattle.tendril_block.specs.Outcomes.{CountMay};
+ghost use Rattle.tendril_errors.specs.Outcomes.{CountMay};
 ghost use Rattle.tendril_storage.specs.Partings.{IsParted, TakesFew, TakesFront};
 
 use crate::storage::{Held, Storage};

@@ -1,6 +1,6 @@
 //! Spare capacity.
 ghost use Rattle.std.specs.Prelude.{◌≡◌, ◌<◌, ◌≤◌, ◌+◌, length, max, IfErr, OnOk, OnErr};
-ghost use Rattle.tendril_block.specs.Outcomes.{MemoryMay};
+ghost use Rattle.tendril_errors.specs.Outcomes.{MemoryMay};
 
 use crate::storage::{Held, Storage};
 use tendril_block::{Atomicity, INLINE_LEN, MAX_LEN, Refusal, Tail};

@@ -1,6 +1,6 @@
 //! Keeping no larger block alive than a text needs.
 ghost use Rattle.std.specs.Prelude.{◌≡◌, ◌⊎◌, length, IfErr, OnErr};
-ghost use Rattle.tendril_block.specs.Outcomes.{MemoryMay, NoneMust, Gives};
+ghost use Rattle.tendril_errors.specs.Outcomes.{MemoryMay, NoneMust, Gives};
 ghost use Rattle.tendril_text.specs.Making.{IsTextOf};
 
 use crate::tendril::Tendril;

@@ -1,6 +1,6 @@
 //! Conversions: texts that change their format and keep their bytes.
 ghost use Rattle.std.specs.Prelude.{◌≡◌, IfOk, IfErr, OnOk, OnErr};
-ghost use Rattle.tendril_block.specs.Outcomes.{ValidMust, NoneMay, Gives};
+ghost use Rattle.tendril_errors.specs.Outcomes.{ValidMust, NoneMay, Gives};
 
 use crate::tendril::Tendril;
 use crate::view::View;

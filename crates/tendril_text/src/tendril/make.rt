@@ -2,7 +2,7 @@
 ghost use Rattle.std.specs.Prelude.{◌≡◌, ◌<◌, ◌≤◌, [], length, string_bytes};
 ghost use Rattle.tendril_text.specs.Making.{IsTextOf, MakesText, MakesValidText};
 ghost use Rattle.tendril_text.specs.Parts.{Clones};
-ghost use Rattle.tendril_block.specs.Outcomes.{NoneMust, MemoryMay, Gives};
+ghost use Rattle.tendril_errors.specs.Outcomes.{NoneMust, MemoryMay, Gives};
 
 use crate::tendril::{ByteTendril, StrTendril, Tendril};
 use std::alloc::{AllocError, Global};
@@ -120,7 +120,7 @@ impl<F: Format, A: Atomicity> Tendril<F, A> {
 /// as for an `Rc`; for at most 8 bytes it doesn't fail.
 impl<F: Format, A: Atomicity> Clone for Tendril<F, A> {
     ghost use Rattle.std.specs.Prelude.{◌≤◌, length};
-    ghost use Rattle.tendril_block.specs.declared.atomicity.TheConstants.{INLINE_LEN};
+    ghost use Rattle.tendril_errors.specs.declared.limits.TheConstants.{INLINE_LEN};
     ghost use Rattle.tendril_text.specs.Parts.{IsShareOf};
 
     ghost is_clone = { λ t copy. IsShareOf t.bytes copy };

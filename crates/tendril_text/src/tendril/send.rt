@@ -1,6 +1,6 @@
 //! Texts that are sent to another thread.
 ghost use Rattle.std.specs.Prelude.{◌≡◌, IfOk, IfErr, length};
-ghost use Rattle.tendril_block.specs.Outcomes.{Gives, MemoryMay, NoneMust};
+ghost use Rattle.tendril_errors.specs.Outcomes.{Gives, MemoryMay, NoneMust};
 
 use crate::tendril::Tendril;
 use std::marker::{Model, PhantomData};

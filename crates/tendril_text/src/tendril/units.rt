@@ -1,7 +1,7 @@
 //! Texts in WTF-8 and the 16-bit units of UTF-16.
 ghost use Rattle.std.specs.Prelude.{◌≡◌, ◌≤◌, length, IfOk, IfErr};
 ghost use Rattle.tendril_fmt.specs.Wtf8.{units as units_of, wtf8};
-ghost use Rattle.tendril_block.specs.Outcomes.{MemoryMay};
+ghost use Rattle.tendril_errors.specs.Outcomes.{MemoryMay};
 ghost use Rattle.tendril_text.specs.Making.{MakesText};
 
 use crate::tendril::Tendril;

@@ -7,7 +7,7 @@ ghost use Rattle.std.specs.Io.{WritesAtMost};
 ghost use Rattle.std.specs.Io.KnownBytes.{Appends, Keeps, WriteAppends};
 ghost use Rattle.std.specs.IoError.{error_kind};
 ghost use Rattle.tendril_text.specs.Writes.{WriteRefused};
-ghost use Rattle.tendril_block.specs.Outcomes.{MemoryMay, NoneMust, Outcome};
+ghost use Rattle.tendril_errors.specs.Outcomes.{MemoryMay, NoneMust, Outcome};
 ghost use Rattle.tendril_storage.specs.Edits.{TakesAtMut};
 
 use crate::tendril::Tendril;

@@ -26,7 +26,7 @@ impl<F: Format, A: Atomicity> StreamText for Tendril<F, A> {
 /// A way to pass texts of type T and errors to an S: by calls of a closure, or of a sink.
 pub trait Receiving<S, T: StreamText> {
     ghost use Rattle.std.specs.Prelude.{◌≡◌, OnOk, IfErr};
-    ghost use Rattle.tendril_block.specs.declared.refusal.Refusal.{Refusal};
+    ghost use Rattle.tendril_errors.specs.declared.refusal.Refusal.{Refusal};
     ghost use Rattle.tendril_text.specs.Receivers.{Sent, Piece, Fault, RefusesCall};
 
     /// It may be called, now and after each call.

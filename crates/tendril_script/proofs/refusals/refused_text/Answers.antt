@@ -2,12 +2,12 @@ use Rattle.std.proofs.Common.{◌≡◌, ℕ, ◌+◌, ◌/◌, ◌%◌, ◌^◌
 use Rattle.std.proofs.Common.{codes}
 use Rattle.std.proofs.lemmas.Fmt.{decimal_digit, decimal_step}
 use Rattle.std.specs.Fmt.{decimal}
-use Rattle.tendril_block.specs.Refusals.{name_of, number_of}
-use Rattle.tendril_block.specs.declared.refusal.Refusal.{Refusal}
-use Rattle.tendril_block.specs.declared.refusal.Refusal.TheVariants.{Count, Failed, Invalid, Io, Memory, NoSuchSlot}
-use Rattle.tendril_block.specs.declared.refusal.Refusal.TheVariants.{NotInFormat, NotStarted, OutOfBounds, SinkRefused}
-use Rattle.tendril_block.specs.declared.refusal.Refusal.TheVariants.{TooLong, TooManyReads, ValidationFailed}
-use Rattle.tendril_block.specs.declared.refusal.Refusal.TheVariants.{WrongFormat}
+use Rattle.tendril_errors.specs.Refusals.{name_of, number_of}
+use Rattle.tendril_errors.specs.declared.refusal.Refusal.{Refusal}
+use Rattle.tendril_errors.specs.declared.refusal.Refusal.TheVariants.{Count, Failed, Invalid, Io, Memory, NoSuchSlot}
+use Rattle.tendril_errors.specs.declared.refusal.Refusal.TheVariants.{NotInFormat, NotStarted, OutOfBounds, SinkRefused}
+use Rattle.tendril_errors.specs.declared.refusal.Refusal.TheVariants.{TooLong, TooManyReads, ValidationFailed}
+use Rattle.tendril_errors.specs.declared.refusal.Refusal.TheVariants.{WrongFormat}
 use Rattle.tendril_script.specs.Writing.{refused_line}
 use Rattle.tendril_script.proofs.refusals.refused_text.Goals as goal
 

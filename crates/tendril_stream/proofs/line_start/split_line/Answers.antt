@@ -1,4 +1,4 @@
-use Rattle.tendril_block.specs.Errors.{refusal_of}
+use Rattle.tendril_errors.specs.Errors.{refusal_of}
 use Rattle.tendril_stream.proofs.LineCuts.{split_stops}
 use Rattle.tendril_stream.proofs.line_start.split_line.Goals as goal
 

@@ -1,5 +1,5 @@
 use Rattle.std.proofs.Common.{[], Ok}
-use Rattle.tendril_block.specs.Outcomes.{LengthMust, BytesMust}
+use Rattle.tendril_errors.specs.Outcomes.{LengthMust, BytesMust}
 use Rattle.tendril_fmt.specs.Wtf8.{wtf8}
 use Rattle.tendril_lines.specs.declared.kind.Kind.TheVariants as kind
 use Rattle.tendril_run.proofs.OneChanged.{made_added}

@@ -1,6 +1,6 @@
 use Rattle.std.proofs.Common.{◌≡◌, inl, inr, refl, rules}
 use Rattle.std.proofs.lemmas.Result.{IfOk-weaker}
-use Rattle.tendril_block.specs.declared.refusal.Refusal.TheVariants.{Memory}
+use Rattle.tendril_errors.specs.declared.refusal.Refusal.TheVariants.{Memory}
 use Rattle.tendril_script.proofs.SessionLemmas.{reply_lost}
 use Rattle.tendril_run.specs.TableAnswers.{IsSpelt, TableReplies}
 use Rattle.tendril_run.specs.WhiteSpace.{class}

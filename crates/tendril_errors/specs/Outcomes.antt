@@ -1,8 +1,8 @@
 -- How a call ends: which errors are required, which are permitted, and what holds on success.
 use Rattle.std.specs.Prelude.{ℕ, ◌≡◌, ◌<◌, ◌≤◌, ◌+◌, ◌⊎◌, List, length, take, drop, Option, Some, None, Result, Ok, Err}
-use Rattle.tendril_block.specs.declared.atomicity.TheConstants.{INLINE_LEN, MAX_LEN}
-use Rattle.tendril_block.specs.declared.refusal.Refusal.{Refusal}
-use Rattle.tendril_block.specs.declared.refusal.Refusal.TheVariants.{
+use Rattle.tendril_errors.specs.declared.limits.TheConstants.{INLINE_LEN, MAX_LEN}
+use Rattle.tendril_errors.specs.declared.refusal.Refusal.{Refusal}
+use Rattle.tendril_errors.specs.declared.refusal.Refusal.TheVariants.{
   TooLong,
   Memory,
   Count,

@@ -1,6 +1,6 @@
 //! Why a call returns an error: one list of reasons for the whole repository.
-ghost use Rattle.std.specs.Prelude.{◌≡◌, ◌++◌, Some, codes, decimal};
-ghost use Rattle.tendril_block.specs.Refusals.{number_of, name_of};
+ghost use Rattle.std.specs.Prelude.{◌≡◌, Some};
+ghost use Rattle.tendril_errors.specs.Refusals.{number_of, name_of, refusal_text};
 
 use std::alloc::{AllocError, AllocFailed};
 use std::error::Error;
@@ -43,7 +43,7 @@ pub enum Refusal {
 }
 
 impl Refusal {
-    /// The number, from 1 to 14.
+    /// The number, as 1 of `TooLong`.
     pub fn number(self) -> u8
         ensures { result ≡ number_of self }
     {
@@ -75,7 +75,7 @@ impl Refusal {
 
 /// Prints the number and the name, as `1 TooLong`.
 impl fmt::Display for Refusal {
-    ghost output = { λ r. Some (decimal (number_of r) ++ codes " " ++ name_of r) };
+    ghost output = { λ r. Some (refusal_text r) };
 
     fn fmt<W: fmt::Write>(&self, f: &mut fmt::Formatter<W>) -> fmt::Result {
         write!(f, "{} {}", self.number(), self.name())
@@ -86,7 +86,7 @@ impl Error for Refusal {}
 
 /// `Memory`, so that `?` passes up a failed allocation.
 impl From<AllocError> for Refusal {
-    ghost use Rattle.tendril_block.specs.declared.refusal.Refusal.TheVariants.{Memory};
+    ghost use Rattle.tendril_errors.specs.declared.refusal.Refusal.TheVariants.{Memory};
 
     ghost from_gives = { λ _ r. r ≡ Memory };
 
@@ -97,7 +97,7 @@ impl From<AllocError> for Refusal {
 
 /// `Memory`, so that `?` passes up a failed push onto a `Vec`. The value that wasn't stored is dropped.
 impl<T: Drop> From<AllocFailed<T>> for Refusal {
-    ghost use Rattle.tendril_block.specs.declared.refusal.Refusal.TheVariants.{Memory};
+    ghost use Rattle.tendril_errors.specs.declared.refusal.Refusal.TheVariants.{Memory};
 
     ghost from_gives = { λ _ r. r ≡ Memory };
 
@@ -111,7 +111,7 @@ impl From<io::Error> for Refusal {
     ghost use Rattle.std.specs.Prelude.{◌≢◌};
     ghost use Rattle.std.specs.IoError.{error_kind};
     ghost use Rattle.std.specs.declared.io.ErrorKind.TheVariants.{OutOfMemory};
-    ghost use Rattle.tendril_block.specs.declared.refusal.Refusal.TheVariants.{Io, Memory};
+    ghost use Rattle.tendril_errors.specs.declared.refusal.Refusal.TheVariants.{Io, Memory};
 
     ghost from_gives = { λ error r. (error_kind error ≡ OutOfMemory → r ≡ Memory)
         × (error_kind error ≢ OutOfMemory → r ≡ Io) };

@@ -19,7 +19,7 @@ pub enum SubtendrilError {
 
 impl From<SubtendrilError> for Refusal {
     ghost use Rattle.std.specs.Prelude.{◌≡◌};
-    ghost use Rattle.tendril_block.specs.Errors.{refusal_of};
+    ghost use Rattle.tendril_errors.specs.Errors.{refusal_of};
 
     ghost from_gives = { λ error refusal. refusal ≡ refusal_of error };
 
@@ -34,8 +34,8 @@ impl From<SubtendrilError> for Refusal {
 
 impl fmt::Display for SubtendrilError {
     ghost use Rattle.std.specs.Prelude.{Some};
-    ghost use Rattle.tendril_block.specs.Errors.{refusal_of};
-    ghost use Rattle.tendril_block.specs.Refusals.{name_of};
+    ghost use Rattle.tendril_errors.specs.Errors.{refusal_of};
+    ghost use Rattle.tendril_errors.specs.Refusals.{name_of};
 
     ghost output = { λ e. Some (name_of (refusal_of e)) };
 

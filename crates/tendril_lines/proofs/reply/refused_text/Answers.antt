@@ -1,6 +1,0 @@
-use Rattle.std.proofs.Common.{rules}
-use mathlib.Core.List.{append_assoc}
-use Rattle.tendril_lines.proofs.reply.refused_text.Goals as goal
-
-pub returns : goal.returns
-returns c = search (rules, append_assoc)
