@@ -7,12 +7,13 @@ use Rattle.tendril.specs.Refusal.{Refusal}
 use Rattle.tendril.specs.Texts.{Text}
 use Rattle.tendril.specs.Pushes.{Joins}
 use Rattle.tendril.specs.Decoding.{PopsText, bytes_of}
-use Rattle.tendril.specs.Lossy.{IsOpen, Item, Keep, Bad, Cut, lossy, closed_of, characters, due_open, kept, cut_bytes}
+use Rattle.tendril.specs.Lossy.{IsIncomplete, Item, Keep, Bad, Cut, lossy, closed_of, characters, due_open, kept}
+use Rattle.tendril.specs.Lossy.{cut_bytes}
 use Rattle.tendril.specs.Ending.TheVariants.{Whole, Broken, Open}
 
 -- r is what `IncompleteUtf8::new` returns for xs
 abbrev pub Takes : List ℕ → Option (List ℕ) → Type 0
-Takes xs r = MatchOption r (IsOpen xs → ⊥) (λ k. IsOpen xs × (k ≡ xs))
+Takes xs r = MatchOption r (IsIncomplete xs → ⊥) (λ k. IsIncomplete xs × (k ≡ xs))
 
 cut_after : (cs : List ℕ) (items : List Item) → cut_bytes (map Keep cs ++ items) ≡ cut_bytes items
 cut_after [] items = refl
@@ -47,7 +48,7 @@ pops_whole old new part h =
     (due_front old.bytes cs [] items ∙ append-nil cs, ap cut_bytes items ∙ cut_after cs [])
 
 pub pops_open : (old new : Text) (part : Option Text) → PopsText old part Open new
-    → (characters (due_open old.bytes) ≡ chars (bytes_of part)) × (kept old.bytes ≡ new.bytes) × IsOpen new.bytes
+    → (characters (due_open old.bytes) ≡ chars (bytes_of part)) × (kept old.bytes ≡ new.bytes) × IsIncomplete new.bytes
 pops_open old new part h =
     let cs = chars (bytes_of part) in
     let items : lossy old.bytes ≡ map Keep cs ++ Cut new.bytes ∷ [] =
@@ -76,7 +77,7 @@ turn now mid new cs more all due p q d so =
     ap (λ l. l ++ more) (q ∙ ap (λ l. l ++ 0xFFFD ∷ []) p) ∙ append_assoc (now ++ cs) (0xFFFD ∷ []) more
     ∙ append_assoc now cs (0xFFFD ∷ more) ∙ ap (λ l. now ++ l) (sym d) ∙ so
 
-pub held : (bs ks : List ℕ) (r : Option (List ℕ)) → ks ≡ bs → IsOpen bs → Takes bs r
+pub held : (bs ks : List ℕ) (r : Option (List ℕ)) → ks ≡ bs → IsIncomplete bs → Takes bs r
     → MatchOption r (ks ≡ []) (λ k. k ≡ ks)
 held bs ks None e o h = absurd (h o)
 held bs ks (Some k) e o h = h.1 ∙ sym e

@@ -11,11 +11,11 @@ use Rattle.std.proofs.lemmas.List.{take_all}
 use Rattle.std.proofs.lemmas.Str.{IsCharBoundary-from_take, IsUtf8-drop, length-encode, len_utf8_bounds}
 use Rattle.tendril_lossy.specs.Completions.{IsLongestText, CompletesTo, BreaksAt, StillOpen}
 use Rattle.tendril_lossy.specs.AfterText.{EndsWithin, items_after}
-use Rattle.tendril_lossy.specs.Lossy.{Keep, lossy, IsOpen, IsLossy, IsMaximalSubpart}
+use Rattle.tendril_lossy.specs.Lossy.{Keep, lossy, IsIncomplete, IsLossy, IsMaximalSubpart}
 use Rattle.tendril_lossy.specs.declared.search.Ending.{Ending}
 use Rattle.tendril_lossy.specs.declared.search.Ending.TheVariants.{Whole, Broken, Open}
 use Rattle.tendril_lossy.proofs.Fronts.{text_front, past_kept, ends_within}
-use Rattle.tendril_lossy.proofs.Streams.{IsLossy-lossy, IsOpen-no_char}
+use Rattle.tendril_lossy.proofs.Streams.{IsLossy-lossy, IsIncomplete-no_char}
 
 -- what `first_part` returns for bs
 pub record IsFirstPart (bs front : List ℕ) (ending : Ending) : Type 0 where
@@ -35,7 +35,7 @@ rest_items bs front ending p =
 
 -- after the longest valid prefix a character is cut off
 pub ends_open : (bs front : List ℕ) → IsFirstPart bs front Open → (length front < length bs)
-    × IsOpen (drop (length front) bs)
+    × IsIncomplete (drop (length front) bs)
 ends_open bs front p =
     let h = subst (IsLossy (drop (length front) bs)) (rest_items bs front Open p)
     (IsLossy-lossy (drop (length front) bs)) in
@@ -58,7 +58,7 @@ none_follows bs front ending p =
         → (drop (length front) bs ≡ []) ⊎ StartsWithNoChar (drop (length front) bs)
     by Whole h = inl h
     by (Broken k) h = inr h.0
-    by Open h = inr (IsOpen-no_char (drop (length front) bs) h.2)
+    by Open h = inr (IsIncomplete-no_char (drop (length front) bs) h.2)
 
 -- no longer prefix is valid
 pub longest : (bs front : List ℕ) (ending : Ending) → IsFirstPart bs front ending → IsLongestText bs front
@@ -96,7 +96,7 @@ longest bs front ending p = record {
             (all ∙ ap (λ l. l ++ drop m bs) (sym e) ∙ append_assoc (encode_utf8 c) (encode_utf8_all cs) (drop m bs))
 
 -- a proper prefix of a character's bytes has at most three
-pub open_len : (xs : List ℕ) → IsOpen xs → length xs ≤ 3
+pub open_len : (xs : List ℕ) → IsIncomplete xs → length xs ≤ 3
 open_len xs o = omega (arith, ap length o.4, length-append xs o.1, o.3, length-encode o.0, (len_utf8_bounds o.0).1)
 
 -- what follows at least all kept bytes
@@ -129,8 +129,8 @@ module _ (all : List ℕ) where
           ap (λ n. take n (encode_utf8 c ++ rest)) parts
           ∙ take-append-add (encode_utf8 c) rest (4 - length (encode_utf8 c))
 
-  not_open : (IsOpen four → ⊥) → IsOpen all → ⊥
-  not_open closed o = let n = open_len all o in closed (subst IsOpen (sym (take_all 4 all (omega arith))) o)
+  not_open : (IsIncomplete four → ⊥) → IsIncomplete all → ⊥
+  not_open closed o = let n = open_len all o in closed (subst IsIncomplete (sym (take_all 4 all (omega arith))) o)
 
   front_of_four : (m : ℕ) → m ≤ 4 → take m four ≡ take m all
   front_of_four m le = take-take m 4 all le
@@ -141,14 +141,14 @@ module _ (all : List ℕ) where
       let le : n ≤ 4 = omega (arith, length-take 4 all) in record {
         some = h.some;
         within = omega (arith, length-take 4 all);
-        front = ⊎_elim inl (λ o. inr (subst IsOpen (front_of_four n le) o)) h.front;
+        front = ⊎_elim inl (λ o. inr (subst IsIncomplete (front_of_four n le) o)) h.front;
         longest = λ m more inside o.
             let short : m ≤ 3 = omega (arith, open_len (take m all) o, length-take-le m all inside) in
             h.longest m more (omega (arith, length-take 4 all))
-            (subst IsOpen (sym (front_of_four m (omega (arith, short)))) o);
+            (subst IsIncomplete (sym (front_of_four m (omega (arith, short)))) o);
       }
 
-module _ (kept input : List ℕ) (waits : IsOpen kept) where
+module _ (kept input : List ℕ) (waits : IsIncomplete kept) where
   abbrev pub bytes : List ℕ
   bytes = take 4 (kept ++ input)
 
@@ -222,7 +222,7 @@ module _ (kept input : List ℕ) (waits : IsOpen kept) where
       let len : length b ≡ k = ap length is ∙ length-take-le k bytes within in
       let covers : length kept ≤ k =
       ⊎_elim (λ (less : k < length kept). absurd
-      (h.2.longest (length kept) less kept-within (subst IsOpen (sym front-kept) waits)))
+      (h.2.longest (length kept) less kept-within (subst IsIncomplete (sym front-kept) waits)))
       (λ (more : length kept ≤ k). more) (cases_lt k (length kept)) in
       let front_is : b ≡ take (length b) (kept ++ input) = is
       ∙ take-take k 4 (kept ++ input) (omega (arith, within, length-take 4 (kept ++ input)))

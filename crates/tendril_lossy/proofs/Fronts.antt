@@ -9,11 +9,11 @@ use Rattle.std.proofs.lemmas.Bool.{cases_lt, and_parts}
 use Rattle.std.proofs.lemmas.List.{take-append-le}
 use Rattle.std.proofs.lemmas.Str.{chars_from_encodes, length-encode, len_utf8_bounds}
 use Rattle.tendril_lossy.specs.AfterText.{EndsWithin, items_after}
-use Rattle.tendril_lossy.specs.Lossy.{Item, Keep, Bad, lossy, IsLossy, IsOpen}
+use Rattle.tendril_lossy.specs.Lossy.{Item, Keep, Bad, lossy, IsLossy, IsIncomplete}
 use Rattle.tendril_lossy.specs.declared.search.Ending.TheVariants.{Broken}
 use Rattle.tendril_lossy.proofs.Lossy.{lossy-front, lossy-bad}
 use Rattle.tendril_lossy.proofs.Subparts.{error-append, no_char-append}
-use Rattle.tendril_lossy.proofs.Streams.{IsLossy-lossy, IsOpen-no_char}
+use Rattle.tendril_lossy.proofs.Streams.{IsLossy-lossy, IsIncomplete-no_char}
 
 -- a text gives its characters, whatever follows
 pub text_first : (t rest : List ℕ) → IsUtf8 t → lossy (t ++ rest) ≡ map Keep (chars t) ++ lossy rest
@@ -26,7 +26,7 @@ pub text_front : (bs : List ℕ) (n : ℕ) → IsUtf8 (take n bs)
 text_front bs n u = ap lossy (sym (take-append-drop n bs)) ∙ text_first (take n bs) (drop n bs) u
 
 -- if the kept bytes k and those that follow begin with text, the text is longer than k
-pub past_kept : (k p : List ℕ) (n : ℕ) → IsOpen k → 0 < n → n ≤ length (k ++ p) → IsUtf8 (take n (k ++ p))
+pub past_kept : (k p : List ℕ) (n : ℕ) → IsIncomplete k → 0 < n → n ≤ length (k ++ p) → IsUtf8 (take n (k ++ p))
     → length k < n
 past_kept k p n o some within u = ⊎_elim
     (λ (h : length k < n). h)
@@ -38,7 +38,7 @@ past_kept k p n o some within u = ⊎_elim
     by (c ∷ cs) s e h =
         let parts = and_parts _ _ s in
         let front : take n k ≡ encode_utf8 c ++ encode_utf8_all cs = sym (take-append-le n k p h) ∙ sym e in
-        absurd (IsOpen-no_char k o c (encode_utf8_all cs ++ drop n k) parts.0 (sym (take-append-drop n k)
+        absurd (IsIncomplete-no_char k o c (encode_utf8_all cs ++ drop n k) parts.0 (sym (take-append-drop n k)
         ∙ ap (λ l. l ++ drop n k) front ∙ append_assoc (encode_utf8 c) (encode_utf8_all cs) (drop n k)))
 
 -- a broken sequence within the first bytes is the broken sequence of all
@@ -76,10 +76,10 @@ ends_within bs t k u e =
 
 -- the empty list is a proper prefix of a character's bytes; bytes that begin with text, which isn't empty, aren't
 
-pub IsOpen-nil : IsOpen []
-IsOpen-nil = (0x41, encode_utf8 0x41, search, omega (arith, length-encode 0x41, (len_utf8_bounds 0x41).0), refl)
+pub IsIncomplete-nil : IsIncomplete []
+IsIncomplete-nil = (0x41, encode_utf8 0x41, search, omega (arith, length-encode 0x41, (len_utf8_bounds 0x41).0), refl)
 
-pub text-not_open : (t rest : List ℕ) → IsUtf8 t → 0 < length t → IsOpen (t ++ rest) → ⊥
+pub text-not_open : (t rest : List ℕ) → IsUtf8 t → 0 < length t → IsIncomplete (t ++ rest) → ⊥
 text-not_open t rest u some o =
     let front : take (length t) ((t ++ rest) ++ []) ≡ t = ap (take (length t)) (append-nil (t ++ rest))
     ∙ take_at t rest (length t) refl in

@@ -10,11 +10,11 @@ use Rattle.std.proofs.lemmas.Bool.{cases_lt}
 use Rattle.std.proofs.lemmas.List.{nil_from_length, drop-append-le}
 use Rattle.std.proofs.lemmas.Str.{length-encode, len_utf8_bounds, encode_same}
 use Rattle.tendril_lossy.specs.Lossy.{Item, Keep, Bad, Cut, lossy, closed_of, due_of, due, due_open, cut_bytes, kept}
-use Rattle.tendril_lossy.specs.Lossy.{IsOpen, IsMaximalSubpart, IsLossy}
+use Rattle.tendril_lossy.specs.Lossy.{IsIncomplete, IsMaximalSubpart, IsLossy}
 use Rattle.tendril_lossy.proofs.Lossy.{first_item-cases, lossy-nil, lossy-char, lossy-bad, lossy-cut}
 use Rattle.tendril_lossy.proofs.Faults.{error-bounds}
-use Rattle.tendril_lossy.proofs.Subparts.{error-append, no_char-append, IsMaximalSubpart-error, IsOpen-faultless}
-use Rattle.tendril_lossy.proofs.Subparts.{IsOpen-from_none}
+use Rattle.tendril_lossy.proofs.Subparts.{error-append, no_char-append, IsMaximalSubpart-error, IsIncomplete-faultless}
+use Rattle.tendril_lossy.proofs.Subparts.{IsIncomplete-from_none}
 
 -- what bytes begin with: nothing, a character, a broken sequence, or a character that is cut off
 pub data Front (bs : List ℕ) : Type 0 where
@@ -119,9 +119,9 @@ is_step fuel b le ih (nothing e) = subst (IsLossy b) (sym (ap lossy e ∙ lossy-
 is_step fuel b le ih (char c rest s e less) = subst (IsLossy b) (sym (ap lossy e ∙ lossy-char c rest s))
     (rest, s, e, ih rest (omega arith))
 is_step fuel b le ih (fault k none some e le2 less) = subst (IsLossy b) (sym (lossy-bad b k some none e))
-    (none, IsOpen-faultless b k e, IsMaximalSubpart-error b k none e, ih (drop k b) (omega arith))
+    (none, IsIncomplete-faultless b k e, IsMaximalSubpart-error b k none e, ih (drop k b) (omega arith))
 is_step fuel b le ih (cut none some e) =
-    subst (IsLossy b) (sym (lossy-cut b some none e)) (some, refl, IsOpen-from_none b none e, refl)
+    subst (IsLossy b) (sym (lossy-cut b some none e)) (some, refl, IsIncomplete-from_none b none e, refl)
 
 is_within : (fuel : ℕ) (b : List ℕ) → length b < fuel → IsLossy b (lossy b)
 is_within zero b le = absurd (omega arith)
@@ -131,8 +131,8 @@ pub IsLossy-lossy : (b : List ℕ) → IsLossy b (lossy b)
 IsLossy-lossy b = is_within (suc (length b)) b (omega arith)
 
 -- a proper prefix of a character's bytes begins with no character
-pub IsOpen-no_char : (bs : List ℕ) → IsOpen bs → StartsWithNoChar bs
-IsOpen-no_char bs o c rest s e =
+pub IsIncomplete-no_char : (bs : List ℕ) → IsIncomplete bs → StartsWithNoChar bs
+IsIncomplete-no_char bs o c rest s e =
     let k = encode_same c o.0 (rest ++ o.1) [] (sym (append_assoc (encode_utf8 c) rest o.1)
     ∙ ap (λ l. l ++ o.1) (sym e) ∙ o.4 ∙ sym (append-nil (encode_utf8 o.0))) in
     absurd (omega (arith, ap length k.1, length-append rest o.1, o.3))
@@ -146,12 +146,12 @@ one_length bs n k a b = ⊎_elim (λ (p : n < k). absurd (longer_open bs n k a b
     (λ (p : k ≤ n). ⊎_elim (λ (q : k < n). absurd (longer_open bs k n b a q)) (λ (q : n ≤ k). omega arith)
     (cases_lt k n)) (cases_lt n k)
 
-bad_is : (b : List ℕ) (n : ℕ) (items : List Item) → StartsWithNoChar b → ¬ (IsOpen b) → IsMaximalSubpart b n
+bad_is : (b : List ℕ) (n : ℕ) (items : List Item) → StartsWithNoChar b → ¬ (IsIncomplete b) → IsMaximalSubpart b n
     → items ≡ lossy (drop n b) → Bad n ∷ items ≡ lossy b
 bad_is b n items none closed max rest = by (utf8_error_len b) refl
   where
     by : (o : Option ℕ) → utf8_error_len b ≡ o → Bad n ∷ items ≡ lossy b
-    by None e = absurd (closed (IsOpen-from_none b none e))
+    by None e = absurd (closed (IsIncomplete-from_none b none e))
     by (Some k) e =
         let pos = max.some in
         let inside = max.within in
@@ -166,5 +166,5 @@ only_lossy b (Bad n ∷ items) h = bad_is b n items h.0 h.1 h.2 (only_lossy (dro
 only_lossy b (Cut xs ∷ items) h = by (utf8_error_len b) refl
   where
     by : (o : Option ℕ) → utf8_error_len b ≡ o → Cut xs ∷ items ≡ lossy b
-    by (Some k) e = absurd (IsOpen-faultless b k e h.2)
-    by None e = ap₂ (λ x l. Cut x ∷ l) h.1 h.3 ∙ sym (lossy-cut b h.0 (IsOpen-no_char b h.2) e)
+    by (Some k) e = absurd (IsIncomplete-faultless b k e h.2)
+    by None e = ap₂ (λ x l. Cut x ∷ l) h.1 h.3 ∙ sym (lossy-cut b h.0 (IsIncomplete-no_char b h.2) e)

@@ -11,7 +11,7 @@ use Rattle.std.proofs.lemmas.Bool.{cases_lt}
 use Rattle.std.proofs.lemmas.Bool.Decides.{nat_tests}
 use Rattle.std.proofs.lemmas.List.{get_or_append_left, nil_from_length, take-append-le}
 use lib.Utf8.{scalar_cases}
-use Rattle.tendril_lossy.specs.Lossy.{IsOpen, IsMaximalSubpart}
+use Rattle.tendril_lossy.specs.Lossy.{IsIncomplete, IsMaximalSubpart}
 use Rattle.tendril_fmt.specs.Proved.Encodings.{Shape, of1, of2, of3, of4, encode_utf8_1, point_shape}
 use Rattle.tendril_fmt.specs.CodePoints.{IsContinuation}
 use Rattle.tendril_fmt.proofs.Decodings.{spelt_2, spelt_3, spelt_4}
@@ -45,8 +45,8 @@ second_4 c a b d w s l h f g j e m =
 front_at : (xs more bs : List ℕ) (i : ℕ) → xs ++ more ≡ bs → i < length xs → slice_index xs i ≡ slice_index bs i
 front_at xs more bs i e lt = sym (get_or_append_left xs more 0 i lt) ∙ ap (λ l. slice_index l i) e
 
-pub IsOpen-none : (xs : List ℕ) → IsOpen xs → utf8_error_len xs ≡ None
-IsOpen-none xs o = by (point_shape o.0 (IsCodePoint-scalar o.0 o.2))
+pub IsIncomplete-none : (xs : List ℕ) → IsIncomplete xs → utf8_error_len xs ≡ None
+IsIncomplete-none xs o = by (point_shape o.0 (IsCodePoint-scalar o.0 o.2))
   where
     by : Shape o.0 → utf8_error_len xs ≡ None
     by (of1 h e) =
@@ -154,10 +154,10 @@ list_3 (x ∷ bs) e = ap (λ l. x ∷ l) (list_2 bs (omega arith))
 seconds : (x : ℕ) → lead x ≡ true → second x (second_byte_min x) ≡ true
 seconds x h = grind (arith, nat_tests)
 
-pub IsOpen-from_none : (bs : List ℕ) → StartsWithNoChar bs → utf8_error_len bs ≡ None → IsOpen bs
-IsOpen-from_none bs none e = by (utf8_error_len bs) (fault bs) e
+pub IsIncomplete-from_none : (bs : List ℕ) → StartsWithNoChar bs → utf8_error_len bs ≡ None → IsIncomplete bs
+IsIncomplete-from_none bs none e = by (utf8_error_len bs) (fault bs) e
   where
-    some_more : (more : List ℕ) → 0 < length more → (k : Completes (bs ++ more)) → IsOpen bs
+    some_more : (more : List ℕ) → 0 < length more → (k : Completes (bs ++ more)) → IsIncomplete bs
     some_more more p k = (k.0, more, k.1, p, k.2)
 
     three_more : (x y : ℕ) (l : List ℕ) → lead x ≡ true → second x y ≡ true → 224 ≤ x → l ≡ x ∷ y ∷ []
@@ -177,7 +177,7 @@ IsOpen-from_none bs none e = by (utf8_error_len bs) (fault bs) e
         ))
         (cases_lt x 240)
 
-    by : (r : Option ℕ) → FaultOf bs r → r ≡ None → IsOpen bs
+    by : (r : Option ℕ) → FaultOf bs r → r ≡ None → IsIncomplete bs
     by r (empty p _) i = (
       0,
       0 ∷ [],
@@ -262,8 +262,8 @@ broken_front bs k i = by (utf8_error_len bs) (fault bs) i
 some_none : (r : Option ℕ) (k : ℕ) → r ≡ Some k → r ≡ None → ⊥
 some_none r k e f = cc
 
-pub IsOpen-faultless : (bs : List ℕ) (k : ℕ) → utf8_error_len bs ≡ Some k → ¬ (IsOpen bs)
-IsOpen-faultless bs k e o = some_none _ k e (IsOpen-none bs o)
+pub IsIncomplete-faultless : (bs : List ℕ) (k : ℕ) → utf8_error_len bs ≡ Some k → ¬ (IsIncomplete bs)
+IsIncomplete-faultless bs k e o = some_none _ k e (IsIncomplete-none bs o)
 
 pub IsMaximalSubpart-error : (bs : List ℕ) (k : ℕ) → StartsWithNoChar bs → utf8_error_len bs ≡ Some k
     → IsMaximalSubpart bs k
@@ -273,10 +273,11 @@ IsMaximalSubpart-error bs k none e =
       some = b.0;
       within = b.1;
       front = ⊎_elim (λ one. inl one)
-          (λ faultless. inr (IsOpen-from_none (take k bs) (no_char-take bs k none) faultless)) (broken_front bs k e);
+          (λ faultless. inr (IsIncomplete-from_none (take k bs) (no_char-take bs k none) faultless))
+          (broken_front bs k e);
       longest = λ m more le o.
           let long = length-take-le m bs le in
-          IsOpen-faultless (take m bs) k
+          IsIncomplete-faultless (take m bs) k
           (same_error bs (take m bs) k e (omega arith) (λ i p q. sym (take_at-below bs m i q le))) o;
     }
 
@@ -295,7 +296,7 @@ no_char-append bs more k none e c rest s is = ⊎_elim
     ∙ take-append-le n (encode_utf8 c) rest (omega arith) in
     let split : bs ++ drop n (encode_utf8 c) ≡ encode_utf8 c = ap (λ l. l ++ drop n (encode_utf8 c)) front
     ∙ take-append-drop n (encode_utf8 c) in
-    IsOpen-faultless bs k e (c, drop n (encode_utf8 c), s, omega (arith, length-drop n (encode_utf8 c)), split))
+    IsIncomplete-faultless bs k e (c, drop n (encode_utf8 c), s, omega (arith, length-drop n (encode_utf8 c)), split))
     (λ (long : length (encode_utf8 c) ≤ length bs).
     let n = length (encode_utf8 c) in
     let front : take n bs ≡ encode_utf8 c = sym (take-append-le n bs more long) ∙ ap (take n) is

@@ -1,6 +1,6 @@
 -- What follows the longest valid prefix of bytes.
 use Rattle.std.specs.Prelude.{ℕ, ◌+◌, ◌<◌, ◌≤◌, List, [], ◌∷◌, length, drop}
-use Rattle.tendril_lossy.specs.Lossy.{Item, Bad, Cut, IsOpen, lossy}
+use Rattle.tendril_lossy.specs.Lossy.{Item, Bad, Cut, IsIncomplete, lossy}
 use Rattle.tendril_lossy.specs.declared.search.Ending.{Ending}
 use Rattle.tendril_lossy.specs.declared.search.Ending.TheVariants.{Whole, Broken, Open}
 
@@ -14,4 +14,4 @@ items_after bs n Open = Cut (drop n bs) ∷ []
 abbrev pub EndsWithin : List ℕ → ℕ → Ending → Type 0
 EndsWithin bs n Whole = Unit {0}
 EndsWithin bs n (Broken k) = (0 < k) × (n + k ≤ length bs)
-EndsWithin bs n Open = (n < length bs) × IsOpen (drop n bs)
+EndsWithin bs n Open = (n < length bs) × IsIncomplete (drop n bs)

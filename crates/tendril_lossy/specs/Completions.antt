@@ -1,7 +1,7 @@
 -- Kept bytes that are completed from the input after them.
 use Rattle.std.specs.Prelude.{◌≡◌, ℕ, ◌<◌, ◌≤◌, ◌+◌, ◌-◌, ◌⊎◌, List, [], ◌++◌, length, take, drop, IsUtf8}
 use Rattle.std.specs.Str.{StartsWithNoChar}
-use Rattle.tendril_lossy.specs.Lossy.{IsOpen, IsMaximalSubpart}
+use Rattle.tendril_lossy.specs.Lossy.{IsIncomplete, IsMaximalSubpart}
 use Rattle.tendril_lossy.specs.declared.completion.Completion.{Completion}
 use Rattle.tendril_lossy.specs.declared.completion.Completion.TheVariants.{Text, Broken, Open}
 
@@ -25,7 +25,7 @@ pub record CompletesTo (kept input t rest : List ℕ) : Type 0 where
 pub record BreaksAt (kept input b rest : List ℕ) : Type 0 where
   pub all : kept ++ input ≡ b ++ rest
   pub none : StartsWithNoChar (kept ++ input)
-  pub closed : IsOpen (kept ++ input) → ⊥
+  pub closed : IsIncomplete (kept ++ input) → ⊥
   pub maximal : IsMaximalSubpart (kept ++ input) (length b)
   pub covers : length kept ≤ length b
   pub within : length b ≤ length kept + length input
@@ -34,7 +34,7 @@ pub record BreaksAt (kept input b rest : List ℕ) : Type 0 where
 -- `held`, the kept bytes and all of the input, is still only the beginning of a character
 pub record StillOpen (kept input held : List ℕ) : Type 0 where
   pub all : held ≡ kept ++ input
-  pub waits : IsOpen held
+  pub waits : IsIncomplete held
   pub some : 0 < length held
 
 -- what each completion says of the kept bytes and the input

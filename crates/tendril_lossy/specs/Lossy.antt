@@ -42,22 +42,23 @@ pub data Item : Type 0 where
   Cut : List ℕ → Item
 
 -- a proper prefix of some character's bytes; the empty list is one
-abbrev pub IsOpen : List ℕ → Type 0
-IsOpen xs = (c : ℕ) × (more : List ℕ) × IsScalar c × (0 < length more) × (xs ++ more ≡ encode_utf8 c)
+abbrev pub IsIncomplete : List ℕ → Type 0
+IsIncomplete xs = (c : ℕ) × (more : List ℕ) × IsScalar c × (0 < length more) × (xs ++ more ≡ encode_utf8 c)
 
 -- for bytes that begin with no character: n is the length of the longest prefix that could begin one, or 1
 pub record IsMaximalSubpart (bs : List ℕ) (n : ℕ) : Type 0 where
   pub some : 0 < n
   pub within : n ≤ length bs
-  pub front : (n ≡ 1) ⊎ IsOpen (take n bs)
-  pub longest : (m : ℕ) → n < m → m ≤ length bs → ¬ (IsOpen (take m bs))
+  pub front : (n ≡ 1) ⊎ IsIncomplete (take n bs)
+  pub longest : (m : ℕ) → n < m → m ≤ length bs → ¬ (IsIncomplete (take m bs))
 
 -- the items are those of the bytes, in order
 abbrev pub IsLossy : List ℕ → List Item → Type 0
 IsLossy bs [] = bs ≡ []
 IsLossy bs (Keep c ∷ items) = (rest : List ℕ) × IsScalar c × (bs ≡ encode_utf8 c ++ rest) × IsLossy rest items
-IsLossy bs (Bad n ∷ items) = StartsWithNoChar bs × ¬ (IsOpen bs) × IsMaximalSubpart bs n × IsLossy (drop n bs) items
-IsLossy bs (Cut xs ∷ items) = (0 < length bs) × (xs ≡ bs) × IsOpen bs × (items ≡ [])
+IsLossy bs (Bad n ∷ items) =
+    StartsWithNoChar bs × ¬ (IsIncomplete bs) × IsMaximalSubpart bs n × IsLossy (drop n bs) items
+IsLossy bs (Cut xs ∷ items) = (0 < length bs) × (xs ≡ bs) × IsIncomplete bs × (items ≡ [])
 
 -- Lossy decoding as a function, which contracts cite.
 

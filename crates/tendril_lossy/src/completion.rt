@@ -1,7 +1,7 @@
 //! Kept bytes that are completed from the input after them.
 ghost use Rattle.std.specs.Prelude.{◌≡◌, ◌≤◌, ◌++◌, length, take};
 ghost use Rattle.tendril_lossy.specs.Completions.{Completes};
-ghost use Rattle.tendril_lossy.specs.Lossy.{IsOpen};
+ghost use Rattle.tendril_lossy.specs.Lossy.{IsIncomplete};
 
 use crate::search::{Ending, first_part};
 use std::marker::Model;
@@ -61,7 +61,7 @@ pub enum Completion {
 /// Completes kept bytes from the input. Reads at most four bytes of it. A text or a maximal subpart is the kept
 /// bytes, then the first bytes of the input.
 pub fn complete(kept: &[u8], input: &[u8]) -> Completion
-    requires { IsOpen kept.now }
+    requires { IsIncomplete kept.now }
     ensures { Completes kept.now input.now result }
 {
     let filled = fill(kept, input);

@@ -3,9 +3,9 @@ use Rattle.std.proofs.Common.{◌≡◌, ℕ, ◌<◌, List, [], ◌∷◌, leng
 use Rattle.std.proofs.lemmas.List.{nil_from_length}
 use Rattle.tendril_lossy.proofs.Lossy.{lossy-nil}
 use Rattle.tendril_lossy.proofs.Streams.{only_lossy}
-use Rattle.tendril_lossy.specs.Lossy.{Cut, IsOpen, due, due_of, replaced}
+use Rattle.tendril_lossy.specs.Lossy.{Cut, IsIncomplete, due, due_of, replaced}
 
-pub due_held : (k : List ℕ) → IsOpen k → 0 < length k
+pub due_held : (k : List ℕ) → IsIncomplete k → 0 < length k
     → due k ≡ replaced (codes "incomplete byte sequence at end of stream")
 due_held k waits some = ap (flat_map due_of) (sym (only_lossy k (Cut k ∷ []) (some, refl, waits, refl)))
 

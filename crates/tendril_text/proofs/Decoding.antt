@@ -8,7 +8,7 @@ use Rattle.tendril_errors.specs.declared.refusal.Refusal.{Refusal}
 use Rattle.tendril_lossy.proofs.Completions.{IsFirstPart, rest_items, open_len}
 use Rattle.tendril_lossy.proofs.Streams.{IsLossy-lossy}
 use Rattle.tendril_lossy.specs.AfterText.{EndsWithin, items_after}
-use Rattle.tendril_lossy.specs.Lossy.{Keep, Bad, Cut, IsLossy, IsOpen, lossy}
+use Rattle.tendril_lossy.specs.Lossy.{Keep, Bad, Cut, IsLossy, IsIncomplete, lossy}
 use Rattle.tendril_lossy.specs.declared.search.Ending.{Ending}
 use Rattle.tendril_lossy.specs.declared.search.Ending.TheVariants.{Whole, Broken, Open}
 use Rattle.tendril_text.specs.Decoding.{BothShare, LongPieceMay, LongTextMay, IsHandedOn, IsRest, Leaves, PopsText}
@@ -137,7 +137,7 @@ popped old mid new front ending text p within taken end part =
     by Open w items rest =
         let h = subst (IsLossy (drop (length front) old.bytes)) items (IsLossy-lossy (drop (length front) old.bytes)) in
         let is = rest ∙ none in
-        (ap (λ l. Cut l ∷ []) (sym is), subst (λ l. 0 < length l) (sym is) h.0, subst IsOpen (sym is) h.2)
+        (ap (λ l. Cut l ∷ []) (sym is), subst (λ l. 0 < length l) (sym is) h.0, subst IsIncomplete (sym is) h.2)
 
 -- at most 8 bytes of text and the broken sequence after them are removed at once, and more than 8 bytes are left
 pub few_popped : (old new t : Text) (front : List ℕ) (k : ℕ) (text : Option Text)

@@ -9,7 +9,7 @@ use lib.Utf8.{encode}
 use Rattle.tendril_errors.specs.declared.refusal.Refusal.{Refusal}
 use Rattle.tendril_lossy.proofs.Told.{characters-append, characters-map}
 use Rattle.tendril_lossy.specs.Completions.{BreaksAt, CompletesTo}
-use Rattle.tendril_lossy.specs.Lossy.{Told, Char, IsOpen, closed_of, due_open}
+use Rattle.tendril_lossy.specs.Lossy.{Told, Char, IsIncomplete, closed_of, due_open}
 use Rattle.tendril_storage.specs.Texts.{Text}
 use Rattle.tendril_text.proofs.Passing.{passed}
 use Rattle.tendril_text.specs.Decoding.{DecodesPiece, HandsOn, HandsOnUpTo, Hands, IsHandedOn}
@@ -47,7 +47,7 @@ module _ {P : Type 0} (step : P → Text → Unit {0} → P → Type 0) where
       (hands_on piece p q h.sent h.each h.calls)
 
   pub decodes : (piece rest : Text) (p q : P) (answer : Option (List ℕ)) → PassesUpTo (CallsWith step) piece rest p q
-      → IsOpen rest.bytes → MatchOption answer (rest.bytes ≡ []) (λ k. (k ≡ rest.bytes) × (0 < length k))
+      → IsIncomplete rest.bytes → MatchOption answer (rest.bytes ≡ []) (λ k. (k ≡ rest.bytes) × (0 < length k))
       → DecodesPiece step p piece answer q
   decodes piece rest p q answer so unfinished is =
       let all = passed (CallsWith step) piece rest p q so unfinished in record {

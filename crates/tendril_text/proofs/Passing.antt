@@ -9,11 +9,12 @@ use Rattle.std.specs.List.{FoldsTo}
 use Rattle.std.specs.Prelude.{IfSome, IsSomeAnd, chars}
 use lib.Utf8.{encode}
 use Rattle.tendril_errors.specs.declared.refusal.Refusal.{Refusal}
-use Rattle.tendril_lossy.proofs.Fronts.{IsOpen-nil}
+use Rattle.tendril_lossy.proofs.Fronts.{IsIncomplete-nil}
 use Rattle.tendril_lossy.proofs.Lossy.{lossy-nil}
 use Rattle.tendril_lossy.proofs.Resume.{closed-keeps, cut-keeps}
 use Rattle.tendril_lossy.proofs.Streams.{only_lossy}
-use Rattle.tendril_lossy.specs.Lossy.{Item, Told, Keep, Bad, Cut, Char, IsOpen, lossy, closed_of, due_open, cut_bytes}
+use Rattle.tendril_lossy.specs.Lossy.{Item, Told, Keep, Bad, Cut, Char, IsIncomplete, lossy, closed_of, due_open}
+use Rattle.tendril_lossy.specs.Lossy.{cut_bytes}
 use Rattle.tendril_lossy.specs.Lossy.{kept, replaced}
 use Rattle.tendril_lossy.specs.declared.search.Ending.{Ending}
 use Rattle.tendril_lossy.specs.declared.search.Ending.TheVariants.{Whole, Broken, Open}
@@ -45,7 +46,7 @@ replacement-chars bytes is = ap chars is
     ∙ sym (chars_from_encodes (0xFFFD ∷ []) (0xEF ∷ 0xBF ∷ 0xBD ∷ []) replacement-text search)
 
 -- incomplete bytes output nothing while the stream may continue, and are kept
-pub open_kept : (b : List ℕ) → IsOpen b → (due_open b ≡ []) × (kept b ≡ b)
+pub open_kept : (b : List ℕ) → IsIncomplete b → (due_open b ≡ []) × (kept b ≡ b)
 open_kept [] is = (ap (flat_map closed_of) lossy-nil, ap cut_bytes lossy-nil)
 open_kept (x ∷ xs) is =
     let some : 0 < length (x ∷ xs) = omega arith in
@@ -92,9 +93,10 @@ popped b c text ending h = by ending h.leaves
 
 -- what is left if nothing is broken
 pub left_open : (b c : Text) (text : Option Text) (ending : Ending) → PopsText b text ending c
-    → (ending ≡ Whole) ⊎ (ending ≡ Open) → IsOpen c.bytes
+    → (ending ≡ Whole) ⊎ (ending ≡ Open) → IsIncomplete c.bytes
 left_open b c text ending h is = ⊎_elim
-    (λ w. let left = subst (λ e. Leaves e h.after c.bytes) w h.leaves in subst IsOpen (sym left.1) IsOpen-nil)
+    (λ w. let left = subst (λ e. Leaves e h.after c.bytes) w h.leaves
+    in subst IsIncomplete (sym left.1) IsIncomplete-nil)
     (λ o. let left = subst (λ e. Leaves e h.after c.bytes) o h.leaves in left.2) is
 
 -- the output of a popped text, and of what ended it
@@ -185,7 +187,7 @@ module _ {S : Type 0} (takes : S → Sent → S → Type 0) where
       (Feeds-none takes (IsSentOf b) u))
 
   -- all is passed on, but for an incomplete character at the end
-  pub passed : (piece rest : Text) (old new : S) → PassesUpTo takes piece rest old new → IsOpen rest.bytes
+  pub passed : (piece rest : Text) (old new : S) → PassesUpTo takes piece rest old new → IsIncomplete rest.bytes
       → Feeds takes (IsSentOf piece) old (due_open piece.bytes) new × (rest.bytes ≡ kept piece.bytes)
   passed piece rest old new so is =
       let left = open_kept rest.bytes is in (

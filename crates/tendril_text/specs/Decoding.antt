@@ -31,7 +31,8 @@ use Rattle.tendril_errors.specs.declared.refusal.Refusal.TheVariants.{Count}
 use Rattle.tendril_lossy.specs.declared.search.Ending.{Ending}
 use Rattle.tendril_lossy.specs.declared.search.Ending.TheVariants.{Whole, Broken, Open}
 use Rattle.tendril_lossy.specs.Completions.{BreaksAt, CompletesTo}
-use Rattle.tendril_lossy.specs.Lossy.{Item, Told, Keep, Bad, Cut, IsOpen, lossy, closed_of, characters, due_open, kept}
+use Rattle.tendril_lossy.specs.Lossy.{Item, Told, Keep, Bad, Cut, IsIncomplete, lossy, closed_of, characters, due_open}
+use Rattle.tendril_lossy.specs.Lossy.{kept}
 use Rattle.tendril_storage.specs.Texts.{Text, IsPart, Keeps}
 
 -- more than 8 bytes of text precede the first broken sequence, and with it more than 8 bytes follow
@@ -77,7 +78,7 @@ broken_len Open = 0
 abbrev pub Leaves : Ending → List Item → List ℕ → Type 0
 Leaves Whole items rest = (items ≡ []) × (rest ≡ [])
 Leaves (Broken k) items rest = (items ≡ Bad k ∷ lossy rest) × (0 < k)
-Leaves Open items rest = (items ≡ Cut rest ∷ []) × (0 < length rest) × IsOpen rest
+Leaves Open items rest = (items ≡ Cut rest ∷ []) × (0 < length rest) × IsIncomplete rest
 
 -- the longest text at the start is removed, and the broken sequence after it; the text is None if it would be empty
 pub record PopsText (old : Text) (text : Option Text) (ending : Ending) (new : Text) : Type 0 where

@@ -4,7 +4,7 @@
 //! Maximal Subparts'), as std's `from_utf8_lossy` and the WHATWG Encoding Standard do it.
 ghost use Rattle.std.specs.Prelude.{◌≡◌, ◌<◌, ◌≤◌, [], length, drop, IfOk, IfErr, IsSomeAnd, OnOk, OnErr, MatchOption};
 ghost use Rattle.std.specs.List.{FoldsTo};
-ghost use Rattle.tendril_lossy.specs.Lossy.{IsOpen};
+ghost use Rattle.tendril_lossy.specs.Lossy.{IsIncomplete};
 ghost use Rattle.tendril_text.specs.Decoding.{DecodesPiece, HandsOnUpTo, IsRest, LongTextMay, PopsText, bytes_of};
 ghost use Rattle.tendril_text.specs.Decoding.{listed};
 ghost use Rattle.tendril_text.specs.Receivers.{Interrupts, PassesUpTo, Piece, RefusesCall};
@@ -187,7 +187,7 @@ impl<A: Atomicity> Tendril<Bytes, A> {
     ) -> Result<IncompleteUtf8, Refusal>
         requires { W.is_ready receiver.old }
         ensures ok { IfOk result (λ kept. PassesUpTo W.takes self.old self.new receiver.old receiver.new
-            × IsOpen self.new.bytes × (kept ≡ self.new.bytes)) }
+            × IsIncomplete self.new.bytes × (kept ≡ self.new.bytes)) }
         ensures err { IfErr result (λ r. Interrupts W.takes W.refuses self.old self.new receiver.old r receiver.new) }
         ensures ready { W.is_ready receiver.new }
     {

@@ -2,7 +2,7 @@
 ghost use Rattle.std.specs.Prelude.{◌≡◌, [], IfSome, IfNone, OnSome, IfOk, OnOk, OnErr, MatchOption, MatchResult};
 ghost use Rattle.tendril_text.specs.Decoding.{HandsCompleted};
 ghost use Rattle.tendril_lossy.specs.Completions.{BreaksAt, CompletesTo, StillOpen};
-ghost use Rattle.tendril_lossy.specs.Lossy.{IsOpen};
+ghost use Rattle.tendril_lossy.specs.Lossy.{IsIncomplete};
 ghost use Rattle.tendril_storage.specs.Texts.{Keeps};
 
 use crate::tendril::Tendril;
@@ -22,13 +22,13 @@ pub struct IncompleteUtf8 {
 
 impl Model for IncompleteUtf8 {
     ghost use Rattle.std.specs.Prelude.{ℕ, List, refl};
-    ghost use Rattle.tendril_lossy.specs.Lossy.{IsOpen};
+    ghost use Rattle.tendril_lossy.specs.Lossy.{IsIncomplete};
 
     ghost Value = { List ℕ };
 
     ghost view = { λ k. k.bytes };
 
-    ghost invariant = { λ k. IsOpen k.bytes };
+    ghost invariant = { λ k. IsIncomplete k.bytes };
 
     ghost inverse = { λ list. record { bytes = list } };
 
@@ -46,7 +46,7 @@ impl IncompleteUtf8 {
     /// assert_eq!(rt; IncompleteUtf8::new(b"a").is_none(), true);
     /// ```
     pub fn new(bytes: &[u8]) -> Option<Self>
-        ensures { MatchOption result (IsOpen bytes.now → ⊥) (λ k. IsOpen bytes.now × (k ≡ bytes.now)) }
+        ensures { MatchOption result (IsIncomplete bytes.now → ⊥) (λ k. IsIncomplete bytes.now × (k ≡ bytes.now)) }
     {
         if bytes.is_empty() {
             return Some(Self::none());
@@ -59,7 +59,7 @@ impl IncompleteUtf8 {
 
     /// Returns the bytes as incomplete ones, which the caller proves them to be.
     pub fn new_without_validating(bytes: &[u8]) -> Self
-        requires { IsOpen bytes.now }
+        requires { IsIncomplete bytes.now }
         ensures { result ≡ bytes.now }
     {
         IncompleteUtf8 {
@@ -88,7 +88,7 @@ impl IncompleteUtf8 {
     /// ```
     pub fn kept(&self) -> &[u8]
         ensures bytes { result.now ≡ self.now }
-        ensures waits { IsOpen self.now }
+        ensures waits { IsIncomplete self.now }
     {
         self.bytes.as_slice()
     }

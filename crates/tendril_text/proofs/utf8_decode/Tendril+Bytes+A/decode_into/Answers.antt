@@ -1,6 +1,6 @@
 use Rattle.std.proofs.Common.{◌∙◌, sym, subst, inr}
 use Rattle.std.proofs.lemmas.Result.{err_from_is_err_and}
-use Rattle.tendril_lossy.specs.Lossy.{IsOpen}
+use Rattle.tendril_lossy.specs.Lossy.{IsIncomplete}
 use Rattle.tendril_lossy.specs.declared.search.Ending.TheVariants.{Broken}
 use Rattle.tendril_text.proofs.Passing.{ended, left_open, more, start, stopped, unsent}
 use Rattle.tendril_text.specs.Decoding.{PopsText}
@@ -18,7 +18,7 @@ returns-in_err-pass_some-clause-err g c =
 
 pub new_without_validating-requires : goal.new_without_validating-requires
 new_without_validating-requires g c =
-    subst IsOpen (sym c.as_byte_slice.ensures.value)
+    subst IsIncomplete (sym c.as_byte_slice.ensures.value)
     (left_open c.loop-text.self c.pop_text_after.new.self c.in_ok-text.text c.in_ok-text.ending
     c.in_ok-text.ensures.pops.1 c.in-Whole.is)
 
