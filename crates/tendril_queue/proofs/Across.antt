@@ -111,11 +111,6 @@ module _ (t : Text) (xs : List Text) (count : ℕ) (q : IsQueue t xs) (short : c
       IsUtf8-drop t.bytes count q.valid (IsCharBoundary-from_take t.bytes count q.valid within
       (subst IsUtf8 (take-append-le count t.bytes (bytes_of_all xs) within) valid))
 
-  pub left_of_all : (left : Text) → left.bytes ≡ drop count t.bytes
-      → left.bytes ++ bytes_of_all xs ≡ drop count (t.bytes ++ bytes_of_all xs)
-  left_of_all left e = ap (λ b. b ++ bytes_of_all xs) e
-      ∙ sym (drop-append-le count t.bytes (bytes_of_all xs) (omega (arith, short)))
-
   pub left_queue : (left : Text) → left.bytes ≡ drop count t.bytes → IsQueue left xs
   left_queue left e =
       let size : length left.bytes ≡ length t.bytes - count = ap length e ∙ length-drop count t.bytes in
@@ -128,16 +123,9 @@ module _ (t : Text) (xs : List Text) (count : ℕ) (q : IsQueue t xs) (short : c
       (sym (take-append-drop count t.bytes) ∙ ap (λ l. take count t.bytes ++ l) (sym e)) keeps
 
 -- all bytes of the first text were dropped, and some of the rest
-
 module _ (t : Text) (xs : List Text) (count : ℕ) (q : IsQueue t xs) (long : length t.bytes ≤ count) where
   sum : length t.bytes + (count - length t.bytes) ≡ count
   sum = omega (arith, long)
-
-  pub rest_there : count ≤ length (t.bytes ++ bytes_of_all xs) → count - length t.bytes ≤ length (bytes_of_all xs)
-  rest_there there =
-      let all : length (t.bytes ++ bytes_of_all xs) ≡ length t.bytes + length (bytes_of_all xs) =
-      length-append t.bytes (bytes_of_all xs) in
-      omega (arith, there, all)
 
   pub rest_valid : IsUtf8 (take count (t.bytes ++ bytes_of_all xs))
       → IsUtf8 (take (count - length t.bytes) (bytes_of_all xs))

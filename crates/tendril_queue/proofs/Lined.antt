@@ -289,22 +289,3 @@ module _ (first : Text) (xs : List Text) (index count : ℕ) (inside : index < l
         length-append first.bytes ends,
         length-append (bytes_of_all (take index xs)) (take count at.0.bytes),
       )) h
-
-  -- all but the last part is joined
-  module _ (t : Text) (is_t : t ≡ get_or xs index t) (before slice : List ℕ) (same : slice ≡ t.bytes)
-      (so_far : before ≡ first.bytes ++ bytes_of_all (take index xs)) where
-    pub is_joined : (line : List ℕ) → line ≡ before ++ take count slice → IsJoinedLine first xs index count line
-    is_joined line is u at =
-        is ∙ ap₂ (λ a b. a ++ take count b) so_far same
-        ∙ append_assoc first.bytes (bytes_of_all (take index xs)) (take count t.bytes)
-        ∙ ap (λ (x : Text). first.bytes ++ (bytes_of_all (take index xs) ++ take count x.bytes))
-        (is_t ∙ get_or_default xs index t u inside ∙ sym at)
-
-    pub may_join_last : (r : Refusal)
-        → Refused (LengthMust (length (before ++ take count slice))) (MemoryMay (length (before ++ take count slice))) r
-        → (line : List ℕ) → IsJoinedLine first xs index count line → JoinedLineMay (length line) r
-    may_join_last r h line is =
-        let whole = is t is_t in
-        let mine = is_joined (before ++ take count slice) refl t is_t in
-        may_grow (length (before ++ take count slice)) (length line) r
-        (omega (arith, ap length (mine ∙ sym whole))) h
