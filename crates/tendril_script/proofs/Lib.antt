@@ -1,3 +1,4 @@
+pub mod ComplaintLemmas
 pub mod EndingLemmas
 pub mod HeldBackLemmas
 pub mod SessionLemmas

@@ -1,8 +1,7 @@
 -- What a failed write leaves, and the line of an error.
 use Rattle.std.specs.Prelude.{ℕ, ◌≡◌, List, [], ◌∷◌, ◌++◌, codes, Option}
-use Rattle.std.specs.Fmt.{decimal}
 use Rattle.std.specs.Io.KnownBytes.{Appends}
-use Rattle.tendril_errors.specs.Refusals.{number_of, name_of}
+use Rattle.tendril_errors.specs.Refusals.{refusal_text}
 use Rattle.tendril_errors.specs.declared.refusal.Refusal.{Refusal}
 
 -- what a failed write leaves: a writer whose bytes are known got a prefix of these bytes
@@ -12,10 +11,6 @@ pub record AppendsFront (before after : Option (List ℕ)) (bytes : List ℕ) : 
   pub splits : bytes ≡ taken ++ rest
   pub appends : Appends before after taken
 
--- what follows a program's name in the line of an error
-abbrev pub refused_line : Refusal → List ℕ
-refused_line refusal = codes ": refused " ++ decimal (number_of refusal) ++ codes " " ++ name_of refusal ++ 10 ∷ []
-
 -- the line that a program with this name prints for an error that ends it
 abbrev pub complaint : List ℕ → Refusal → List ℕ
-complaint program refusal = program ++ refused_line refusal
+complaint program refusal = program ++ codes ": refused " ++ refusal_text refusal ++ 10 ∷ []

@@ -1,8 +1,10 @@
 //! Errors that end a program.
-ghost use Rattle.std.specs.Prelude.{◌≡◌};
-ghost use Rattle.tendril_script.specs.Writing.{AppendsFront, complaint, refused_line};
+ghost use Rattle.std.specs.Prelude.{◌≡◌, ◌++◌, OnErr, OnOk};
+ghost use Rattle.std.specs.Io.KnownBytes.{Appends};
+ghost use Rattle.tendril_script.specs.Writing.{AppendsFront, complaint};
 
 use crate::output::write_bytes;
+use itoa::Buffer;
 use std::io::Write;
 use tendril_errors::Refusal;
 
@@ -22,28 +24,19 @@ pub fn refuse<E: Write>(program: &str, refusal: Refusal, err: &mut E) -> u8
 fn write_complaint<E: Write>(program: &str, refusal: Refusal, err: &mut E) -> Result<(), Refusal>
     ensures { AppendsFront (E.contents err.old) (E.contents err.new) (complaint program.now refusal) }
 {
-    write_bytes(err, program.as_bytes())?;
-    write_bytes(err, refused_text(refusal).as_bytes())
+    let mut buffer = Buffer::new();
+    let number = buffer.format(refusal.number());
+    let name = refusal.name();
+    write_both(program, ": refused ", err)?;
+    write_both(number, " ", err)?;
+    write_both(name, "\n", err)
 }
 
-// What follows the name in an error's line.
-fn refused_text(refusal: Refusal) -> &'static str
-    ensures { result.now ≡ refused_line refusal }
+// Writes one text after the other.
+fn write_both<W: Write>(first: &str, second: &str, out: &mut W) -> Result<(), Refusal>
+    ensures ok { OnOk result (Appends (W.contents out.old) (W.contents out.new) (first.now ++ second.now)) }
+    ensures err { OnErr result (AppendsFront (W.contents out.old) (W.contents out.new) (first.now ++ second.now)) }
 {
-    match refusal {
-        Refusal::TooLong => ": refused 1 TooLong\n",
-        Refusal::Memory => ": refused 2 Memory\n",
-        Refusal::Count => ": refused 3 Count\n",
-        Refusal::Invalid => ": refused 4 Invalid\n",
-        Refusal::OutOfBounds => ": refused 5 OutOfBounds\n",
-        Refusal::ValidationFailed => ": refused 6 ValidationFailed\n",
-        Refusal::NotInFormat => ": refused 7 NotInFormat\n",
-        Refusal::TooManyReads => ": refused 8 TooManyReads\n",
-        Refusal::Io => ": refused 9 Io\n",
-        Refusal::SinkRefused => ": refused 10 SinkRefused\n",
-        Refusal::Failed => ": refused 11 Failed\n",
-        Refusal::NotStarted => ": refused 12 NotStarted\n",
-        Refusal::NoSuchSlot => ": refused 13 NoSuchSlot\n",
-        Refusal::WrongFormat => ": refused 14 WrongFormat\n",
-    }
+    write_bytes(out, first.as_bytes())?;
+    write_bytes(out, second.as_bytes())
 }

@@ -1,25 +1,30 @@
-use Rattle.std.proofs.Common.{◌∙◌, subst}
-use Rattle.std.specs.Io.KnownBytes.{Appends}
-use Rattle.tendril_script.proofs.EndingLemmas.{any_front, front_behind, front_of_first}
-use Rattle.tendril_script.specs.Writing.{AppendsFront, refused_line}
+use Rattle.std.proofs.Common.{ap, ◌∙◌}
+use Rattle.std.specs.Fmt.{decimal}
+use Rattle.tendril_script.proofs.ComplaintLemmas.{first_front, second_front, last_front}
+use Rattle.tendril_script.proofs.EndingLemmas.{any_front}
 use Rattle.tendril_script.proofs.refusals.write_complaint.Goals as goal
 
 pub returns : goal.returns
 returns g c =
     let contents = g.E.Write.contents in
-    let behind = any_front c.write_bytes-2.result (contents c.write_bytes.new.out) (contents c.write_bytes-2.new.out)
-    c.as_bytes-2.result.now c.write_bytes-2.ensures.ok c.write_bytes-2.ensures.err in
-    front_behind (contents c.args.err.now) (contents c.write_bytes.new.out) (contents c.write_bytes-2.new.out)
-    c.args.program.now (refused_line c.args.refusal)
-    (subst (Appends (contents c.args.err.now) (contents c.write_bytes.new.out)) c.as_bytes.ensures.value
-    c.in_ok-write_bytes.ensures.ok)
-    (subst (AppendsFront (contents c.write_bytes.new.out) (contents c.write_bytes-2.new.out))
-    (c.as_bytes-2.ensures.value ∙ c.refused_text.ensures) behind)
+    last_front c.args.program.now c.format-number.result.now c.name-name.result.now c.args.refusal
+    (c.format-number.ensures.text ∙ ap decimal c.number.ensures) c.name-name.ensures
+    (contents c.args.err.now) (contents c.write_both.new.out) (contents c.write_both-2.new.out)
+    (contents c.write_both-3.new.out) c.in_ok-write_both.ensures.ok c.in_ok-write_both-2.ensures.ok
+    (any_front c.write_both-3.result _ _ _ c.write_both-3.ensures.ok c.write_both-3.ensures.err)
 
-pub returns-in_err-write_bytes : goal.returns-in_err-write_bytes
-returns-in_err-write_bytes g c =
+pub returns-in_err-write_both-2 : goal.returns-in_err-write_both-2
+returns-in_err-write_both-2 g c =
     let contents = g.E.Write.contents in
-    front_of_first (contents c.args.err.now) (contents c.write_bytes.new.out) c.args.program.now
-    (refused_line c.args.refusal)
-    (subst (AppendsFront (contents c.args.err.now) (contents c.write_bytes.new.out)) c.as_bytes.ensures.value
-    c.in_err-write_bytes.ensures.err)
+    second_front c.args.program.now c.format-number.result.now c.name-name.result.now c.args.refusal
+    (c.format-number.ensures.text ∙ ap decimal c.number.ensures) c.name-name.ensures
+    (contents c.args.err.now) (contents c.write_both.new.out) (contents c.write_both-2.new.out)
+    (contents c.write_both-2.new.out) c.in_ok-write_both.ensures.ok c.in_err-write_both-2.ensures.err
+
+pub returns-in_err-write_both : goal.returns-in_err-write_both
+returns-in_err-write_both g c =
+    let contents = g.E.Write.contents in
+    first_front c.args.program.now c.format-number.result.now c.name-name.result.now c.args.refusal
+    (c.format-number.ensures.text ∙ ap decimal c.number.ensures) c.name-name.ensures
+    (contents c.args.err.now) (contents c.write_both.new.out) (contents c.write_both.new.out)
+    (contents c.write_both.new.out) c.in_err-write_both.ensures.err
