@@ -8,11 +8,11 @@ use Rattle.std.proofs.lemmas.Str.{char_from_byte, drop_past_char, len_utf8_ascii
 use Rattle.rope_text.specs.Ropes.{RopeText}
 use Rattle.tendril_text.proofs.TextLists.{unless_empty_none, unless_empty_some}
 use Rattle.tendril_text.specs.TextLists.{DropsFront, unless_empty, LosesFront}
-use Rattle.tendril_text.specs.Texts.{Text, Keeps}
+use Rattle.tendril_text.specs.Texts.{Text, PopCost}
 
 -- what is kept of what was kept
-Keeps-Keeps : (a b c : Text) → length c.bytes ≤ length b.bytes → Keeps a b → Keeps b c → Keeps a c
-Keeps-Keeps a b c h k k' = (λ long. k'.0 long ∙ k.0 (omega arith), k'.1)
+PopCost-PopCost : (a b c : Text) → length c.bytes ≤ length b.bytes → PopCost a b → PopCost b c → PopCost a c
+PopCost-PopCost a b c h k k' = (λ long. k'.0 long ∙ k.0 (omega arith), k'.1)
 
 same_head : (x y : Text) (xs ys : List Text) → x ∷ xs ≡ y ∷ ys → x ≡ y
 same_head x y xs ys e = cc
@@ -46,8 +46,8 @@ loses_twice gone kept a b c had f g = elim (cases_lt 0 (length f.left.bytes)) [
           lost = f.lost ++ g.lost;
           bytes = f.bytes ∙ ap (λ l. f.lost ++ l) (ap (λ (t : Text). t.bytes) first ∙ g.bytes)
               ∙ sym (append_assoc f.lost g.lost g.left.bytes);
-          keeps = Keeps-Keeps f.first f.left g.left (omega arith) f.keeps
-              (subst (λ t. Keeps t g.left) (sym first) g.keeps);
+          keeps = PopCost-PopCost f.first f.left g.left (omega arith) f.keeps
+              (subst (λ t. PopCost t g.left) (sym first) g.keeps);
         });
       }
   | inr none ↦

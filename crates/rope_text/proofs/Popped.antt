@@ -11,7 +11,7 @@ use Rattle.rope_text.proofs.Joined.{pieces_valid}
 use Rattle.rope_text.specs.Ropes.{AreEnds, IsPiece, IsRope}
 use Rattle.tendril_text.proofs.TextLists.{unless_empty_none, unless_empty_some}
 use Rattle.tendril_text.specs.TextLists.{LosesFront, bytes_of_all}
-use Rattle.tendril_text.specs.Texts.{Text, Keeps}
+use Rattle.tendril_text.specs.Texts.{Text, PopCost}
 
 -- the character c was popped from the pieces xs; ys are left, with this start and these ends
 pub record IsPopped (xs ys : List Text) (total c start : ℕ) (ends : List ℕ) : Type 0 where
@@ -38,7 +38,7 @@ popped xs ys total c s start had ends r each stand e front =
 
 -- the first piece has more characters
 pub IsPopped_some : (xs : List Text) (t left : Text) (total c s start : ℕ) (ends : List ℕ) → 0 < length xs
-    → t ≡ get_or xs 0 t → IsRope xs s ends total → t.bytes ≡ encode_utf8 c ++ left.bytes → Keeps t left
+    → t ≡ get_or xs 0 t → IsRope xs s ends total → t.bytes ≡ encode_utf8 c ++ left.bytes → PopCost t left
     → 0 < length left.bytes → start ≡ (s + len_utf8 c) % 2 ^ 64 → IsPopped xs (set xs 0 left) total c start ends
 IsPopped_some [] t left total c s start ends h is r e k some moved = absurd (omega arith)
 IsPopped_some (x ∷ rest) t left total c s start ends h is r e k some moved =
@@ -63,12 +63,12 @@ IsPopped_some (x ∷ rest) t left total c s start ends h is r e k some moved =
       lost = encode_utf8 c;
       bytes = f;
       keeps =
-          subst (λ y. Keeps y left) is k;
+          subst (λ y. PopCost y left) is k;
     })
 
 -- it was its last character
 pub IsPopped_all : (xs : List Text) (t left : Text) (total c s start : ℕ) (ends : List ℕ) → 0 < length xs
-    → t ≡ get_or xs 0 t → IsRope xs s ends total → t.bytes ≡ encode_utf8 c ++ left.bytes → Keeps t left
+    → t ≡ get_or xs 0 t → IsRope xs s ends total → t.bytes ≡ encode_utf8 c ++ left.bytes → PopCost t left
     → length left.bytes ≡ 0 → start ≡ (s + len_utf8 c) % 2 ^ 64
     → IsPopped xs (drop 1 (set xs 0 left)) total c start (drop 1 ends)
 IsPopped_all [] t left total c s start ends h is r e k none moved = absurd (omega arith)
@@ -88,5 +88,5 @@ IsPopped_all (x ∷ rest) t left total c s start ends h is r e k none moved =
       lost = encode_utf8 c;
       bytes = f;
       keeps =
-          subst (λ y. Keeps y left) is k;
+          subst (λ y. PopCost y left) is k;
     })

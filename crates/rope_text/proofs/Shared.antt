@@ -19,7 +19,7 @@ use Rattle.tendril_errors.specs.declared.subtendril_error.SubtendrilError.{Subte
 use Rattle.tendril_errors.specs.Errors.{refusal_of}
 use Rattle.tendril_text.specs.Parts.{Slices}
 use Rattle.tendril_text.specs.TextLists.{listed_unless_empty, unless_empty, bytes_of_all}
-use Rattle.tendril_text.specs.Texts.{Text, Shares}
+use Rattle.tendril_text.specs.Texts.{Text, ShareCost}
 
 -- the only error of a slice is Count, for more than 8 bytes
 pub slice_refused : (b : List ℕ) (offset count : ℕ) (e : SubtendrilError) → Slices b offset count (Err e)
@@ -65,11 +65,11 @@ sub_rope_from rope first from offset count (Err r) is e there valid (inl x) = ab
 sub_rope_from rope first from offset count (Err r) is e there valid (inr y) =
     inr ((there, (valid, tt)), subst (λ n. PartMay rope.pieces n count r) e y.1)
 
-shares_listed : (b : List ℕ) (t : Text) → Shares t → All Shares (listed_unless_empty b t)
-shares_listed [] t h = All-nil Shares
-shares_listed (x ∷ xs) t h = All-cons Shares t [] h (All-nil Shares)
+shares_listed : (b : List ℕ) (t : Text) → ShareCost t → All ShareCost (listed_unless_empty b t)
+shares_listed [] t h = All-nil ShareCost
+shares_listed (x ∷ xs) t h = All-cons ShareCost t [] h (All-nil ShareCost)
 
-pub shares_piece : (t : Text) → Shares t → All Shares (unless_empty t)
+pub shares_piece : (t : Text) → ShareCost t → All ShareCost (unless_empty t)
 shares_piece t h = shares_listed t.bytes t h
 
 true_not_false : true ≡ false → ⊥
@@ -104,7 +104,7 @@ sub_rope_nothing rope made offset there none no_pieces = (
   record {
     bytes = none;
     cut_so = ap (λ l. map (λ (t : Text). t.bytes) l) no_pieces ∙ sym (shares_of_none rope.pieces offset);
-    shares = subst (λ l. All Shares l) (sym no_pieces) (All-nil Shares);
+    shares = subst (λ l. All ShareCost l) (sym no_pieces) (All-nil ShareCost);
   },
 )
 

@@ -14,7 +14,7 @@ use Rattle.rope_text.specs.Ropes.{IsPiece, piece_at}
 use Rattle.rope_text.specs.Parts.{HasLongShare, shares_of}
 use Rattle.tendril_text.proofs.TextLists.{unless_empty_some}
 use Rattle.tendril_text.specs.TextLists.{bytes_of_all, unless_empty, no_text}
-use Rattle.tendril_text.specs.Texts.{Text, Shares}
+use Rattle.tendril_text.specs.Texts.{Text, ShareCost}
 
 -- The slice of `count` bytes from the offset `from` in the piece `first` on is built so far: it has the bytes `built`
 -- in these pieces, and `left` bytes are missing, from the offset `at` in the piece `index` on.
@@ -28,7 +28,7 @@ pub record IsSharing (xs : List Text) (first from count index at left : ℕ) (bu
       ≡ length (bytes_of_all (take first xs)) + from + count
   pub bytes : built ++ take left (drop at (bytes_of_all (drop index xs)))
       ≡ take count (drop from (bytes_of_all (drop first xs)))
-  pub shares : All Shares pieces
+  pub shares : All ShareCost pieces
   pub cut_so : map (λ t. t.bytes) pieces ++ shares_of (drop index xs) at left ≡ shares_of (drop first xs) from count
 
 -- if bytes are missing, there is a piece to take them from
@@ -76,7 +76,7 @@ length_built xs first from count index at left built pieces h s =
 pub IsSharing-more : (xs : List Text) (first from count index at left here : ℕ) (built : List ℕ) (part : Text)
     (pieces : List Text)
     → All IsPiece xs → 0 < left → here ≡ min left (length (piece_at xs index).bytes - at) → part.bytes
-    ≡ take here (drop at (piece_at xs index).bytes) → Shares part
+    ≡ take here (drop at (piece_at xs index).bytes) → ShareCost part
     → IsSharing xs first from count index at left built pieces
     → IsSharing xs first from count (index + 1) 0 (left - here) (built ++ part.bytes) (pieces ++ unless_empty part)
 IsSharing-more xs first from count index at left here built part pieces each some is e m s =
@@ -99,7 +99,7 @@ IsSharing-more xs first from count index at left here built part pieces each som
       bytes = append_assoc built part.bytes (take (left - here) (drop 0 q))
           ∙ ap (λ l. built ++ l) (ap (λ l. l ++ take (left - here) (drop 0 q)) e ∙ sym both.parts
           ∙ ap (λ l. take left (drop at l)) (sym same)) ∙ s.bytes;
-      shares = All-append Shares pieces (unless_empty part) s.shares (shares_piece part m);
+      shares = All-append ShareCost pieces (unless_empty part) s.shares (shares_piece part m);
       cut_so =
           let len : length part.bytes ≡ here = ap length e ∙ simp (length-take, length-drop) (omega arith) in
           let one : map (λ t. t.bytes) (pieces ++ unless_empty part) ≡ map (λ t. t.bytes) pieces ++ part.bytes ∷ [] =

@@ -18,7 +18,7 @@ use Rattle.rope_text.specs.Ropes.{AreEnds, IsPiece, IsRope, RopeText, piece_at}
 use Rattle.rope_text.specs.Splits.{HasLongFront, IsCutAt, SplitMay, SplitsOff}
 use Rattle.tendril_text.proofs.TextLists.{joined_push}
 use Rattle.tendril_text.specs.TextLists.{bytes_of_all, no_text}
-use Rattle.tendril_text.specs.Texts.{Text, Keeps, Shares}
+use Rattle.tendril_text.specs.Texts.{Text, PopCost, ShareCost}
 
 -- the rope that has these pieces
 abbrev pub rope_of : List Text → RopeText
@@ -79,8 +79,8 @@ pub split_within : (xs : List Text) (s whole within total count : ℕ) (part t l
     → whole < length xs → 0 < within → within < length (piece_at xs whole).bytes
     → length (bytes_of_all (take whole xs)) + within ≡ count
     → IsUtf8 (take within (piece_at xs whole).bytes) → IsUtf8 (drop within (piece_at xs whole).bytes) → part.bytes
-    ≡ take within (piece_at xs whole).bytes → Shares part → t ≡ piece_at xs whole → left.bytes
-    ≡ drop within t.bytes → Keeps t left → IsRope xs s ends total
+    ≡ take within (piece_at xs whole).bytes → ShareCost part → t ≡ piece_at xs whole → left.bytes
+    ≡ drop within t.bytes → PopCost t left → IsRope xs s ends total
     → IsSplit xs (take whole xs ++ part ∷ []) (set (drop whole xs) 0 left) s count total
     (take whole ends ++ ((s + count) % 2 ^ 64) ∷ []) (drop whole ends)
 split_within xs s whole within total count part t left ends h some inside is front_valid rest_valid has shares read
@@ -141,7 +141,7 @@ split_within xs s whole within total count part t left ends h some inside is fro
           rest_has = refl;
           whole = whole_bytes;
           shares = shares;
-          keeps = subst (λ u. Keeps u left) read keeps;
+          keeps = subst (λ u. PopCost u left) read keeps;
         });
       });
     }

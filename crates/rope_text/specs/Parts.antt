@@ -26,7 +26,7 @@ use Rattle.tendril_errors.specs.Outcomes.{NoneMust, SliceMust, Gives}
 use Rattle.rope_text.specs.Growth.{RoomMay}
 use Rattle.rope_text.specs.Ropes.{RopeText}
 use Rattle.tendril_text.specs.TextLists.{bytes_of_all}
-use Rattle.tendril_text.specs.Texts.{Text, Shares}
+use Rattle.tendril_text.specs.Texts.{Text, ShareCost}
 
 -- more than 8 bytes of one piece are in the slice of `count` bytes from the offset on
 pub record HasLongShare (pieces : List Text) (offset count : ℕ) : Type 0 where
@@ -61,7 +61,7 @@ shares_of (p ∷ pieces) offset count =
 pub record IsSharedRope (b : List ℕ) (cut : List (List ℕ)) (rope : RopeText) : Type 0 where
   pub bytes : rope.bytes ≡ b
   pub cut_so : map (λ t. t.bytes) rope.pieces ≡ cut
-  pub shares : All Shares rope.pieces
+  pub shares : All ShareCost rope.pieces
 
 -- a rope with the same pieces, each of which shares its bytes
 abbrev pub IsCloneOf : RopeText → RopeText → Type 0

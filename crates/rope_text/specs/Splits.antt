@@ -7,7 +7,7 @@ use Rattle.tendril_errors.specs.Outcomes.{CutMust, Outcome}
 use Rattle.rope_text.specs.Growth.{RoomMay}
 use Rattle.rope_text.specs.Ropes.{RopeText}
 use Rattle.tendril_text.specs.TextLists.{bytes_of_all}
-use Rattle.tendril_text.specs.Texts.{Text, Shares, Keeps}
+use Rattle.tendril_text.specs.Texts.{Text, ShareCost, PopCost}
 
 -- a list of pieces was cut within one of them, whose prefix shares its bytes
 pub record IsCutWithin (old front rest : List Text) : Type 0 where
@@ -20,8 +20,8 @@ pub record IsCutWithin (old front rest : List Text) : Type 0 where
   pub front_has : front ≡ before ++ (left ∷ [])
   pub rest_has : rest ≡ right ∷ after
   pub whole : piece.bytes ≡ left.bytes ++ right.bytes
-  pub shares : Shares left
-  pub keeps : Keeps piece right
+  pub shares : ShareCost left
+  pub keeps : PopCost piece right
 
 -- a rope was cut after `count` bytes, between two pieces or within one
 pub record IsCutAt (count : ℕ) (old front rest : RopeText) : Type 0 where

@@ -18,7 +18,7 @@ use Rattle.tendril_encoding.specs.declared.search.Found.TheVariants.{Marked, Pla
 use Rattle.tendril_text.proofs.Feeds.{Feeds-none, Feeds-weaker, Stops-more, Stops-weaker}
 use Rattle.tendril_stream.proofs.Remainders.{rest_kept}
 use Rattle.tendril_stream.specs.Sinks.{Sent}
-use Rattle.tendril_text.specs.Texts.{Text, Keeps}
+use Rattle.tendril_text.specs.Texts.{Text, PopCost}
 
 module _ {S : Type 0} (takes : S → Sent → S → Type 0) (refuses : S → Sent → Refusal → S → Type 0) where
   -- a short text of what was seen
@@ -41,7 +41,7 @@ module _ {S : Type 0} (takes : S → Sent → S → Type 0) (refuses : S → Sen
   -- a mark
   pub marked : (a : S) (k next : Known) (s : Sniffing) (piece rest : Text) (mark : Mark) (n : ℕ)
       → Finds s.marks s.seen piece.bytes (Marked mark n) → next ≡ after_mark mark → rest.bytes ≡ drop n piece.bytes
-      → Keeps piece rest → Begins takes a k s piece None a next rest
+      → PopCost piece rest → Begins takes a k s piece None a next rest
   marked a k next s piece rest mark n found is left keeps =
       let f = found.2 k in (
         [],

@@ -41,7 +41,7 @@ use Rattle.tendril_queue.specs.declared.eat.EatResult.TheVariants.{Eaten, NotThe
 use Rattle.tendril_queue.specs.Eating.{AreSame, Meets}
 use Rattle.tendril_queue.specs.Queues.{all_texts, IsQueue}
 use Rattle.tendril_text.specs.TextLists.{bytes_of_all, unless_empty, DropsFront}
-use Rattle.tendril_text.specs.Texts.{Text, Keeps}
+use Rattle.tendril_text.specs.Texts.{Text, PopCost}
 
 -- the first text is within the pattern
 
@@ -116,7 +116,7 @@ module _ (t : Text) (xs : List Text) (count : ℕ) (q : IsQueue t xs) (short : c
       let size : length left.bytes ≡ length t.bytes - count = ap length e ∙ length-drop count t.bytes in
       first_some left xs (subst IsUtf8 (sym e) left_valid) (omega (arith, size, short)) q.each
 
-  pub left_loses : (left : Text) → left.bytes ≡ drop count t.bytes → Keeps t left
+  pub left_loses : (left : Text) → left.bytes ≡ drop count t.bytes → PopCost t left
       → DropsFront (all_texts t xs) (all_texts left xs)
   left_loses left e keeps = loses (all_texts t xs) (all_texts left xs) t left
       (leaves_first t left xs (all_texts left xs) (omega (arith, short)) refl) (take count t.bytes)

@@ -40,7 +40,7 @@ use Rattle.std.proofs.lemmas.Str.{IsUtf8-drop, IsCharBoundary-from_take}
 use Rattle.tendril_queue.proofs.Fronts.{leaves_some, left_bytes, left_each}
 use Rattle.tendril_queue.specs.Queues.{IsQueued, AreQueued}
 use Rattle.tendril_text.specs.TextLists.{bytes_of_all, DropsFront}
-use Rattle.tendril_text.specs.Texts.{Text, Keeps}
+use Rattle.tendril_text.specs.Texts.{Text, PopCost}
 
 -- what follows a prefix in UTF-8 is UTF-8 if the prefix is
 pub valid_after : (xs ys : List ℕ) → IsUtf8 (xs ++ ys) → IsUtf8 xs → IsUtf8 ys
@@ -100,7 +100,7 @@ cuts_valid xs (y ∷ rest) t count left some is h d =
 
 -- the first text lost the last of these bytes
 pub dropped_within : (xs ys : List Text) (t cut : Text) (count left : ℕ) → 0 < length ys → t ≡ get_or ys 0 t
-    → left < length t.bytes → IsDropping xs ys count left → cut.bytes ≡ drop left t.bytes → Keeps t cut
+    → left < length t.bytes → IsDropping xs ys count left → cut.bytes ≡ drop left t.bytes → PopCost t cut
     → IsUtf8 cut.bytes
     → AreQueued (set ys 0 cut) × (bytes_of_all (set ys 0 cut) ≡ drop count (bytes_of_all xs))
     × DropsFront xs (set ys 0 cut)

@@ -40,7 +40,7 @@ use Rattle.tendril_text.proofs.TextLists.{
   unless_empty_some,
 }
 use Rattle.tendril_text.specs.TextLists.{bytes_of_all, listed_unless_empty, unless_empty, LeavesOfFirst, DropsFront}
-use Rattle.tendril_text.specs.Texts.{Text, Keeps}
+use Rattle.tendril_text.specs.Texts.{Text, PopCost}
 
 pub queued_valid : (xs : List Text) → AreQueued xs → IsUtf8 (bytes_of_all xs)
 queued_valid xs each = joined_valid IsQueued (λ t q. q.valid) xs each
@@ -98,7 +98,7 @@ module _ (xs ys : List Text) (t left : Text) (l : LeavesOfFirst xs t left ys) wh
       (All-tail IsQueued t l.rest all))
 
   -- nothing was copied for the remainder
-  pub loses : (lost : List ℕ) → t.bytes ≡ lost ++ left.bytes → Keeps t left → DropsFront xs ys
+  pub loses : (lost : List ℕ) → t.bytes ≡ lost ++ left.bytes → PopCost t left → DropsFront xs ys
   loses lost bytes keeps = record {
     gone = [];
     others = xs;

@@ -40,7 +40,7 @@ use Rattle.tendril_text.proofs.Pieces.{lacks-append}
 use Rattle.tendril_text.proofs.TextLists.{joined-append, joined_more}
 use Rattle.tendril_text.specs.Splits.{EndsFirstLine, LacksFeed}
 use Rattle.tendril_text.specs.TextLists.{DropsFront, bytes_of_all}
-use Rattle.tendril_text.specs.Texts.{Text, Parts}
+use Rattle.tendril_text.specs.Texts.{Text, SplitCost}
 
 -- a push that fails for a prefix of a line may fail for the line
 pub may_grow : (count whole : ℕ) (r : Refusal) → count ≤ whole → Refused (LengthMust count) (MemoryMay count) r
@@ -74,7 +74,7 @@ module _ (first : Text) (xs : List Text) (count : ℕ) (ends : EndsFirstLine fir
   first_some = omega (arith, line_size, ends.within)
 
   pub popped_first : (line left : Text) (ys : List Text) (old : Queued) → queued_of first xs ≡ old
-      → line.bytes ≡ take count first.bytes → left.bytes ≡ drop count first.bytes → Parts first line left
+      → line.bytes ≡ take count first.bytes → left.bytes ≡ drop count first.bytes → SplitCost first line left
       → ys ≡ all_texts left xs → PopsLine old line (record { bytes = bytes_of_all ys; texts = ys })
   popped_first line left ys old view front rest parts is =
       let new_bytes : bytes_of_all ys ≡ left.bytes ++ bytes_of_all xs = ap bytes_of_all is ∙ all_bytes left xs in

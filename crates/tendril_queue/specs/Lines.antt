@@ -9,7 +9,7 @@ use Rattle.tendril_queue.specs.Queues.{Queued}
 use Rattle.tendril_text.specs.Partings.{BothLong}
 use Rattle.tendril_text.specs.Splits.{EndsFirstLine, EndsPart, LacksFeed, TakesEnded}
 use Rattle.tendril_text.specs.TextLists.{DropsFront, LeavesOfFirst, bytes_of_all}
-use Rattle.tendril_text.specs.Texts.{Text, Parts}
+use Rattle.tendril_text.specs.Texts.{Text, SplitCost}
 
 -- the words of the first line are before its LF, and `rest` is after it
 abbrev pub TakesFeed : List ℕ → List ℕ → List ℕ → Type 0
@@ -20,7 +20,7 @@ pub record SplitsFirst (old : List Text) (line : Text) (new : List Text) : Type 
   pub first : Text
   pub left : Text
   pub leaves : LeavesOfFirst old first left new
-  pub parts : Parts first line left
+  pub parts : SplitCost first line left
 
 -- the line is longer than the first text, and was removed from the texts that it spans
 pub record SpansTexts (old : List Text) (line : Text) (new : List Text) : Type 0 where

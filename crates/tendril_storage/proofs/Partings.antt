@@ -1,10 +1,11 @@
 use Rattle.std.proofs.Common.{ℕ, ◌+◌, length, ap, arith, inr, ◌∙◌}
 use Rattle.std.proofs.lemmas.List.{length-take-le, length-drop}
-use Rattle.tendril_storage.specs.Texts.{Text, Parts}
+use Rattle.tendril_storage.specs.Texts.{Text, SplitCost}
 use Rattle.tendril_storage.specs.Partings.{IsFewTaken}
 
 -- at most 8 bytes and the more than 8 that are left are the sides of a split
-pub few_parts : (count skip : ℕ) (old front rest : Text) → IsFewTaken count skip old front rest → Parts old front rest
+pub few_parts : (count skip : ℕ) (old front rest : Text) → IsFewTaken count skip old front rest
+    → SplitCost old front rest
 few_parts count skip old front rest cut =
     let few = cut.few in
     let many = cut.many in

@@ -4,7 +4,7 @@ use Rattle.tendril_errors.specs.declared.limits.TheConstants.{INLINE_LEN}
 use Rattle.tendril_errors.specs.declared.refusal.Refusal.{Refusal}
 use Rattle.tendril_errors.specs.declared.refusal.Refusal.TheVariants.{Count}
 use Rattle.tendril_errors.specs.Outcomes.{NoneMust, Outcome}
-use Rattle.tendril_storage.specs.Texts.{Text, Parts}
+use Rattle.tendril_storage.specs.Texts.{Text, SplitCost}
 
 -- Count is permitted: both sides of a text of `total` bytes that is split after `count` have more than 8
 abbrev pub BothLong : ℕ → ℕ → Refusal → Type 0
@@ -14,7 +14,7 @@ BothLong count total r = (r ≡ Count) × (INLINE_LEN < count) × (INLINE_LEN + 
 pub record IsParted (count : ℕ) (old front rest : Text) : Type 0 where
   pub front_bytes : front.bytes ≡ take count old.bytes
   pub rest_bytes : rest.bytes ≡ drop count old.bytes
-  pub copied : Parts old front rest
+  pub copied : SplitCost old front rest
 
 abbrev pub TakesFront : ℕ → Text → Result Text Refusal → Text → Type 0
 TakesFront count old result new =

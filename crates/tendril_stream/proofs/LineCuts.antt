@@ -41,7 +41,7 @@ use Rattle.tendril_stream.specs.Lines.{HasLongNextLine, JoinStops}
 use Rattle.tendril_text.specs.Partings.{BothLong}
 use Rattle.tendril_text.proofs.Pieces.{lacks-append, line_some, whole_line}
 use Rattle.tendril_text.specs.Splits.{EndsFirstLine, IsWholeLine, LacksFeed}
-use Rattle.tendril_text.specs.Texts.{Text, Keeps}
+use Rattle.tendril_text.specs.Texts.{Text, PopCost}
 
 -- bytes without an LF before a whole line are part of the line
 pub line-append : (kept line : List ℕ) → LacksFeed kept → IsWholeLine line → IsWholeLine (kept ++ line)
@@ -108,7 +108,7 @@ keep_stops kept more old new (Err r) lacks more_lacks some h = record {
 -- the line was joined to what was kept
 pub line_joined : (kept text line rest : Text) (slice : List ℕ) (count : ℕ) → slice ≡ text.bytes
     → EndsFirstLine text.bytes count → LacksFeed kept.bytes → 0 < length kept.bytes → IsUtf8 kept.bytes
-    → line.bytes ≡ kept.bytes ++ take count slice → rest.bytes ≡ drop count text.bytes → Keeps text rest
+    → line.bytes ≡ kept.bytes ++ take count slice → rest.bytes ≡ drop count text.bytes → PopCost text rest
     → CompletesLine kept text line rest
 line_joined kept text line rest slice count same cut lacks some valid front left keeps =
     let is : line.bytes ≡ kept.bytes ++ take count text.bytes = front

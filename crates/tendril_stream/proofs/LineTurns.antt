@@ -36,7 +36,7 @@ use Rattle.tendril_text.proofs.Decoding.{part-through, rest-through}
 use Rattle.tendril_text.specs.Decoding.{IsRest}
 use Rattle.tendril_text.specs.Splits.{IsWholeLine}
 use Rattle.tendril_text.specs.TextLists.{bytes_of_all}
-use Rattle.tendril_text.specs.Texts.{Text, IsPart}
+use Rattle.tendril_text.specs.Texts.{Text, PartCost}
 
 pub joined-push : (lines : List Text) (l : Text) → bytes_of_all (lines ++ l ∷ []) ≡ bytes_of_all lines ++ l.bytes
 joined-push lines l = flat_map-append (λ t. t.bytes) lines (l ∷ []) ∙ ap (λ b. bytes_of_all lines ++ b)
@@ -47,12 +47,12 @@ some-push lines l = omega (arith, length-append lines (l ∷ []))
 
 -- one more line that shares the text's block, if nothing was kept or a line was sent
 one_text-push : (text : Text) (kept : List ℕ) (lines : List Text) (l : Text)
-    → All (IsPart text) (in_one_text kept lines) → ((kept ≡ []) ⊎ (0 < length lines) → IsPart text l)
-    → All (IsPart text) (in_one_text kept (lines ++ l ∷ []))
-one_text-push text [] lines l all part = All-push (IsPart text) lines l all (part (inl refl))
-one_text-push text (b ∷ kept) [] l all part = All-nil (IsPart text)
+    → All (PartCost text) (in_one_text kept lines) → ((kept ≡ []) ⊎ (0 < length lines) → PartCost text l)
+    → All (PartCost text) (in_one_text kept (lines ++ l ∷ []))
+one_text-push text [] lines l all part = All-push (PartCost text) lines l all (part (inl refl))
+one_text-push text (b ∷ kept) [] l all part = All-nil (PartCost text)
 one_text-push text (b ∷ kept) (x ∷ lines) l all part =
-    All-push (IsPart text) lines l all (part (inr (omega (arith))))
+    All-push (PartCost text) lines l all (part (inr (omega (arith))))
 
 module _ {S : Type 0} (takes : S → Sent → S → Type 0) (kept text : Text) (old : S) where
   -- the lines sent so far, what is kept, and what is left of the text
@@ -62,7 +62,7 @@ module _ {S : Type 0} (takes : S → Sent → S → Type 0) (kept text : Text) (
     pub each : All (λ l. IsWholeLine l.bytes) lines
     pub valid : All (λ l. IsUtf8 l.bytes) lines
     pub whole : kept.bytes ++ text.bytes ≡ bytes_of_all lines ++ (line.bytes ++ rest.bytes)
-    pub share : All (IsPart text) (in_one_text kept.bytes lines)
+    pub share : All (PartCost text) (in_one_text kept.bytes lines)
     pub none : lines ≡ [] → line ≡ kept
     pub some : 0 < length lines → line.bytes ≡ []
     pub behind : IsEndOf rest.bytes text.bytes
@@ -82,9 +82,9 @@ module _ {S : Type 0} (takes : S → Sent → S → Type 0) (kept text : Text) (
     part = inl refl;
   }
     where
-      none : (bytes : List ℕ) → All (IsPart text) (in_one_text bytes [])
-      none [] = All-nil (IsPart text)
-      none (b ∷ bytes) = All-nil (IsPart text)
+      none : (bytes : List ℕ) → All (PartCost text) (in_one_text bytes [])
+      none [] = All-nil (PartCost text)
+      none (b ∷ bytes) = All-nil (PartCost text)
 
   -- nothing is kept any more, or never was
   nothing_kept : (now : S) (line rest : Text) (so : LinesSoFar now line rest)

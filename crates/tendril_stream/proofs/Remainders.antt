@@ -6,7 +6,7 @@ use Rattle.tendril_text.proofs.Feeds.{Feeds-weaker, Grows, Stops-after, Stops-he
 use Rattle.tendril_text.proofs.Passing.{due_left, sent_through}
 use Rattle.tendril_text.specs.Decoding.{IsHandedOn, IsRest}
 use Rattle.tendril_text.specs.Receivers.{Feeds, Interrupts, IsSentOf, Sent, Stops, no_other}
-use Rattle.tendril_text.specs.Texts.{Text, Keeps}
+use Rattle.tendril_text.specs.Texts.{Text, PopCost}
 use Rattle.tendril_errors.specs.declared.refusal.Refusal.{Refusal}
 use Rattle.tendril_lossy.specs.Completions.{CompletesTo}
 use Rattle.tendril_lossy.specs.Lossy.{Told, closed_of, due_open}
@@ -71,5 +71,5 @@ short_handed piece t k input rest some h copied =
     }
 
 -- the remainder that a pop leaves
-pub rest_kept : (piece rest : Text) → Keeps piece rest → IsRest piece rest
+pub rest_kept : (piece rest : Text) → PopCost piece rest → IsRest piece rest
 rest_kept piece rest k = inr (λ long. inr (k.0 long), k.1)

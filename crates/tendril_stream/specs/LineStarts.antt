@@ -4,7 +4,7 @@ use Rattle.tendril_errors.specs.declared.refusal.Refusal.{Refusal}
 use Rattle.tendril_fmt.specs.Parts.{IsEndOf}
 use Rattle.tendril_stream.specs.Lines.{HasLongNextLine, JoinStops}
 use Rattle.tendril_text.specs.Splits.{IsWholeLine, LacksFeed}
-use Rattle.tendril_text.specs.Texts.{Text, IsPart}
+use Rattle.tendril_text.specs.Texts.{Text, PartCost}
 
 -- The first line was removed from a text, and joined to what was kept. It shares the text's block if nothing was kept.
 pub record CompletesLine (kept text line rest : Text) : Type 0 where
@@ -13,8 +13,8 @@ pub record CompletesLine (kept text line rest : Text) : Type 0 where
   pub whole : kept.bytes ++ text.bytes ≡ line.bytes ++ rest.bytes
   pub behind : IsEndOf rest.bytes text.bytes
   pub shorter : length rest.bytes < length text.bytes
-  pub share : kept.bytes ≡ [] → IsPart text line
-  pub rest_shares : IsPart text rest
+  pub share : kept.bytes ≡ [] → PartCost text line
+  pub rest_shares : PartCost text rest
 
 -- it couldn't be removed, or not be joined
 abbrev pub CompletionStops : List ℕ → List ℕ → Refusal → Type 0

@@ -11,7 +11,7 @@ use Rattle.tendril_stream.specs.Sinks.{Sent, Piece, Fault, IsSent, RefusesCall, 
 use Rattle.tendril_text.specs.Decoding.{IsRest}
 use Rattle.tendril_text.specs.Splits.{IsWholeLine, LacksFeed}
 use Rattle.tendril_text.specs.TextLists.{bytes_of_all, unless_empty}
-use Rattle.tendril_text.specs.Texts.{Text, IsPart}
+use Rattle.tendril_text.specs.Texts.{Text, PartCost}
 
 -- Bytes are whole lines, one after another, and then `rest`, the start of one more. They are so in one way only.
 pub record AreWholeLines (bytes : List ℕ) (lines : List Text) (rest : List ℕ) : Type 0 where
@@ -32,7 +32,7 @@ pub record SendsLines {S : Type 0} (takes : S → Sent → S → Type 0) (old : 
   pub sent : FoldsTo (λ s l t. takes s (Piece l) t) old lines new
   pub valid : All (λ l. IsUtf8 l.bytes) lines
   pub are : AreWholeLines (kept.bytes ++ text.bytes) lines next.bytes
-  pub share : All (IsPart text) (in_one_text kept.bytes lines)
+  pub share : All (PartCost text) (in_one_text kept.bytes lines)
   pub kept_shares : (kept.bytes ≡ []) ⊎ (0 < length lines) → IsRest text next
 
 -- Count is permitted: the next line and the bytes after it have more than 8 bytes each, and lie in the text

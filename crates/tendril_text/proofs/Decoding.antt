@@ -14,13 +14,13 @@ use Rattle.tendril_lossy.specs.declared.search.Ending.TheVariants.{Whole, Broken
 use Rattle.tendril_text.specs.Decoding.{BothShare, LongPieceMay, LongTextMay, IsHandedOn, IsRest, Leaves, PopsText}
 use Rattle.tendril_text.specs.Decoding.{broken_len, bytes_of}
 use Rattle.tendril_storage.specs.Partings.{IsFewTaken, IsParted}
-use Rattle.tendril_storage.specs.Texts.{Text, IsPart, Keeps}
+use Rattle.tendril_storage.specs.Texts.{Text, PartCost, PopCost}
 
 -- what is left after two pops
 
-pub part-through : (a b c : Text) → IsRest a b → (8 < length c.bytes → length c.bytes ≤ length b.bytes) → IsPart b c
-    → IsPart a c
-part-through a b c (inl same) within p = subst (λ x. IsPart x c) same p
+pub part-through : (a b c : Text) → IsRest a b → (8 < length c.bytes → length c.bytes ≤ length b.bytes) → PartCost b c
+    → PartCost a c
+part-through a b c (inl same) within p = subst (λ x. PartCost x c) same p
 part-through a b c (inr q) within p = (
   λ long. let w = within long in let first = q.0 in
       ⊎_elim inl (λ e. ⊎_elim (λ z. inl (e ∙ z)) (λ z. inr (e ∙ z)) (first (omega (arith, w, long)))) (p.0 long),
@@ -52,7 +52,7 @@ handed-through a b q less t h =
     }
 
 -- what is left after a pop that keeps `copied`
-pub rest-kept : (old mid new : Text) → IsRest old mid → length new.bytes ≤ length mid.bytes → Keeps mid new
+pub rest-kept : (old mid new : Text) → IsRest old mid → length new.bytes ≤ length mid.bytes → PopCost mid new
     → IsRest old new
 rest-kept old mid new q less k = inr (part-through old mid new q (λ _. less) (λ long. inr (k.0 long), k.1))
 

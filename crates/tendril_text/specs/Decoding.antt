@@ -33,7 +33,7 @@ use Rattle.tendril_lossy.specs.declared.search.Ending.TheVariants.{Whole, Broken
 use Rattle.tendril_lossy.specs.Completions.{BreaksAt, CompletesTo}
 use Rattle.tendril_lossy.specs.Lossy.{Item, Told, Keep, Bad, Cut, IsIncomplete, lossy, closed_of, characters, due_open}
 use Rattle.tendril_lossy.specs.Lossy.{kept}
-use Rattle.tendril_storage.specs.Texts.{Text, IsPart, Keeps}
+use Rattle.tendril_storage.specs.Texts.{Text, PartCost, PopCost}
 
 -- more than 8 bytes of text precede the first broken sequence, and with it more than 8 bytes follow
 pub record BothShare (b : List ℕ) : Type 0 where
@@ -58,11 +58,11 @@ pub record IsHandedOn (piece t : Text) : Type 0 where
   pub some : 0 < length t.bytes
   pub text : IsUtf8 t.bytes
   pub within : 8 < length t.bytes → length t.bytes ≤ length piece.bytes
-  pub part : IsPart piece t
+  pub part : PartCost piece t
 
 -- what is left of a piece: all of it, or one side of a split
 abbrev pub IsRest : Text → Text → Type 0
-IsRest piece rest = (rest ≡ piece) ⊎ IsPart piece rest
+IsRest piece rest = (rest ≡ piece) ⊎ PartCost piece rest
 
 abbrev pub bytes_of : Option Text → List ℕ
 bytes_of None = []
@@ -132,4 +132,4 @@ module _ {P : Type 0} (step : P → Text → Unit {0} → P → Type 0) where
     pub says : CompletesTo k input.bytes text.bytes rest.bytes
         ⊎ ((text.bytes ≡ encode_utf8 0xFFFD) × (b : List ℕ) × BreaksAt k input.bytes b rest.bytes)
     pub short : text.copied ≤ 4
-    pub copied : Keeps input rest
+    pub copied : PopCost input rest

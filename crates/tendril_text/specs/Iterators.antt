@@ -21,14 +21,14 @@ use Rattle.std.specs.Prelude.{
 }
 use Rattle.tendril_errors.specs.declared.refusal.Refusal.{Refusal}
 use Rattle.tendril_errors.specs.declared.refusal.Refusal.TheVariants.{Count}
-use Rattle.tendril_storage.specs.Texts.{Text, Keeps, Parts}
+use Rattle.tendril_storage.specs.Texts.{Text, PopCost, SplitCost}
 use Rattle.tendril_text.specs.declared.search.SetResult.{SetResult}
 use Rattle.tendril_text.specs.Characters.{AsksLongRun, AsksRun}
 use Rattle.tendril_text.specs.Search.{HasLongPartBefore, TakesPart, part_bytes}
 
 -- what is left of a text after `next` for a character: the text if it returned None, else the text after a pop
 abbrev pub IsLeftBy : Option ℕ → Text → Text → Type 0
-IsLeftBy found text rest = MatchOption found (rest ≡ text) (λ _. Keeps text rest)
+IsLeftBy found text rest = MatchOption found (rest ≡ text) (λ _. PopCost text rest)
 
 -- the most items that may follow: none after an error, else one for each byte, and one more
 abbrev pub parts_left : Bool → List ℕ → ℕ
@@ -54,7 +54,7 @@ module _ {F R : Type 0} (step : F → ℕ → R → F → Type 0) (eq : R → R 
   NextRun text classify refused None rest last then = IsOver text refused rest then × (last ≡ classify)
   NextRun text classify refused (Some (Ok run)) rest last then =
       PartComes refused then × AsksRun step eq valid chars classify run.1 text.bytes run.0.bytes rest.bytes last
-      × Parts text run.0 rest
+      × SplitCost text run.0 rest
   NextRun text classify refused (Some (Err r)) rest last then =
       IsRefusedNow text refused rest then × (r ≡ Count)
       × AsksLongRun step eq valid chars classify text.bytes last

@@ -16,7 +16,7 @@ use Rattle.tendril_errors.specs.Outcomes.{
   Outcome,
 }
 use Rattle.tendril_storage.specs.Partings.{BothLong, IsParted, TakesFront}
-use Rattle.tendril_storage.specs.Texts.{Text, Shares, Keeps}
+use Rattle.tendril_storage.specs.Texts.{Text, ShareCost, PopCost}
 
 -- a result with the `Refusal` of the same name as its error
 abbrev pub by_name : {R : Type 0} → Result R SubtendrilError → Result R Refusal
@@ -26,7 +26,7 @@ by_name (Err e) = Err (refusal_of e)
 -- a text of the bytes b that shares them
 pub record IsShareOf (b : List ℕ) (t : Text) : Type 0 where
   pub bytes : t.bytes ≡ b
-  pub copied : Shares t
+  pub copied : ShareCost t
 
 -- a text of the bytes b is cloned
 abbrev pub Clones : List ℕ → Result Text Refusal → Type 0
@@ -44,7 +44,7 @@ SlicesValid valid b offset count result =
 -- a text after a pop that leaves the bytes b
 pub record IsRestOf (old : Text) (b : List ℕ) (new : Text) : Type 0 where
   pub bytes : new.bytes ≡ b
-  pub copied : Keeps old new
+  pub copied : PopCost old new
 
 -- `count` bytes are popped off a text, if they are there and the remainder is valid
 abbrev pub PopsValid : (List ℕ → Type 0) → ℕ → List ℕ → Text → Result (Unit {0}) SubtendrilError → Text → Type 0
@@ -54,7 +54,7 @@ PopsValid valid count rest old result new =
 -- a text after all bytes from `len` on were dropped; with no more than `len` bytes it is unchanged
 pub record IsTruncated (len : ℕ) (old new : Text) : Type 0 where
   pub bytes : new.bytes ≡ take len old.bytes
-  pub copied : len < length old.bytes → Keeps old new
+  pub copied : len < length old.bytes → PopCost old new
   pub short : length old.bytes ≤ len → new ≡ old
 
 -- the required error for a text of which the bytes `front` are left

@@ -21,7 +21,7 @@ use Rattle.std.specs.Prelude.{
 use Rattle.memchr.specs.Find.{Nowhere, Passes}
 use Rattle.tendril_errors.specs.declared.refusal.Refusal.{Refusal}
 use Rattle.tendril_storage.specs.Partings.{IsParted, BothLong}
-use Rattle.tendril_storage.specs.Texts.{Text, Keeps}
+use Rattle.tendril_storage.specs.Texts.{Text, PopCost}
 use Rattle.tendril_text.specs.declared.byte_set.Members.{Members}
 use Rattle.tendril_text.specs.declared.byte_set.Members.TheVariants.{One, Two, Three, Four, Table}
 use Rattle.tendril_text.specs.declared.search.SetResult.{SetResult}
@@ -105,7 +105,7 @@ module _ {F A B : _} (chars : List ℕ → List ℕ) (encoding : ℕ → List �
   abbrev pub TakesPart : Text → SetResult F A B → Text → Type 0
   TakesPart old (FromSet c) new =
       Passes set old.bytes 0 × (old.bytes ≡ encoding c ++ new.bytes) × (chars old.bytes ≡ c ∷ chars new.bytes)
-      × Keeps old new
+      × PopCost old new
   TakesPart old (NotFromSet front) new = PartsBefore set old front new
 
 -- the bytes of what was removed from a text

@@ -32,7 +32,7 @@ use Rattle.tendril_errors.specs.declared.refusal.Refusal.{Refusal}
 use Rattle.tendril_errors.specs.Outcomes.{CountMay}
 use Rattle.tendril_fmt.specs.Parts.{IsEndOf}
 use Rattle.tendril_storage.specs.Partings.{BothLong}
-use Rattle.tendril_storage.specs.Texts.{Text, Parts}
+use Rattle.tendril_storage.specs.Texts.{Text, SplitCost}
 use Rattle.tendril_text.specs.Iterators.{IsOver, IsRefusedNow, PartComes}
 use Rattle.tendril_text.specs.Search.{HasLongPartBefore}
 
@@ -137,14 +137,14 @@ pub record HasLongSide (c : ℕ) (text : List ℕ) (r : Refusal) : Type 0 where
 abbrev pub NextSplit : (ℕ → Bool) → Text → Bool → Option (Result Text Refusal) → Text → Bool → Type 0
 NextSplit set text over None rest then = (over ≡ true) × (rest ≡ text) × (then ≡ over)
 NextSplit set text over (Some (Ok part)) rest then =
-    (over ≡ false) × TakesSplit set text.bytes part.bytes rest.bytes then × Parts text part rest
+    (over ≡ false) × TakesSplit set text.bytes part.bytes rest.bytes then × SplitCost text part rest
 NextSplit set text over (Some (Err r)) rest then = IsRefusedNow text over rest then × HasLongPartBefore set text.bytes r
 
 -- what `next` returns for lines
 abbrev pub NextLine : Text → Bool → Option (Result Text Refusal) → Text → Bool → Type 0
 NextLine text refused None rest then = IsOver text refused rest then
 NextLine text refused (Some (Ok line)) rest then =
-    PartComes refused then × TakesLine text.bytes line.bytes rest.bytes × Parts text line rest
+    PartComes refused then × TakesLine text.bytes line.bytes rest.bytes × SplitCost text line rest
 NextLine text refused (Some (Err r)) rest then = IsRefusedNow text refused rest then × HasLongLine text.bytes r
 
 -- parts were removed from a text and `rest` is left, or they are all its parts

@@ -1,6 +1,6 @@
 -- Texts one after another: those of a rope, of a queue, or of a stream's lines.
 use Rattle.std.specs.Prelude.{◌≡◌, ℕ, ◌⊎◌, List, [], ◌∷◌, ◌++◌, flat_map}
-use Rattle.tendril_storage.specs.Texts.{Text, Keeps}
+use Rattle.tendril_storage.specs.Texts.{Text, PopCost}
 
 -- the bytes of texts, one after another
 abbrev pub bytes_of_all : List Text → List ℕ
@@ -31,7 +31,7 @@ pub record LosesFront (old new : List Text) : Type 0 where
   pub leaves : LeavesOfFirst old first left new
   pub lost : List ℕ
   pub bytes : first.bytes ≡ lost ++ left.bytes
-  pub keeps : Keeps first left
+  pub keeps : PopCost first left
 
 -- some of the first texts are gone, and the first that is left may have lost a prefix
 pub record DropsFront (old new : List Text) : Type 0 where

@@ -3,7 +3,7 @@ ghost use Rattle.std.specs.Prelude.{◌≡◌, ◌<◌, ◌≤◌, ◌+◌, ◌-
 ghost use Rattle.std.specs.Prelude.{IfNone, IfOk, IfErr, OnErr, OnSome, IsOk, MatchOption};
 ghost use Rattle.tendril_text.specs.Characters.{AsksLongRun, AsksRun, EndsRun, HasLongParts, IsRun};
 ghost use Rattle.tendril_text.specs.Pushes.{Joins, JoinsChar};
-ghost use Rattle.tendril_storage.specs.Texts.{Keeps, Parts};
+ghost use Rattle.tendril_storage.specs.Texts.{PopCost, SplitCost};
 ghost use Rattle.tendril_fmt.specs.Chars.{IsFirstChar};
 
 use crate::tendril::Tendril;
@@ -37,7 +37,7 @@ impl<F: CharFormat, A: Atomicity> Tendril<F, A> {
     pub fn pop_front_char(&mut self) -> Option<char>
         ensures character { IfSome result (λ c. F.chars self.old.bytes ≡ c ∷ F.chars self.new.bytes) }
         ensures bytes { IfSome result (λ c. self.old.bytes ≡ F.encoding c ++ self.new.bytes) }
-        ensures copied { OnSome result (Keeps self.old self.new) }
+        ensures copied { OnSome result (PopCost self.old self.new) }
         ensures shorter { OnSome result (length self.new.bytes < length self.old.bytes) }
         ensures none { IfNone result ((self.old.bytes ≡ []) × (self.new ≡ self.old)) }
     {
@@ -67,7 +67,7 @@ impl<F: CharFormat, A: Atomicity> Tendril<F, A> {
         ensures run { IfOk result (λ found. IfSome found (λ run.
             IsRun C.step R.eq F.valid F.chars classify run.1 self.old.bytes run.0.bytes self.new.bytes)) }
         ensures joined { IfOk result (λ found. IfSome found (λ run. self.old.bytes ≡ run.0.bytes ++ self.new.bytes)) }
-        ensures copied { IfOk result (λ found. IfSome found (λ run. Parts self.old run.0 self.new)) }
+        ensures copied { IfOk result (λ found. IfSome found (λ run. SplitCost self.old run.0 self.new)) }
         ensures shorter { IfOk result (λ found. OnSome found (length self.new.bytes < length self.old.bytes)) }
         ensures none { IfOk result (λ found. IfNone found ((self.old.bytes ≡ []) × (self.new ≡ self.old))) }
         ensures refusal { IfErr result (λ r.
@@ -98,7 +98,7 @@ impl<F: CharFormat, A: Atomicity> Tendril<F, A> {
         ensures run { IfOk result (λ found. IfSome found (λ run. AsksRun C.step R.eq F.valid F.chars
             classify.old run.1 self.old.bytes run.0.bytes self.new.bytes classify.new)) }
         ensures joined { IfOk result (λ found. IfSome found (λ run. self.old.bytes ≡ run.0.bytes ++ self.new.bytes)) }
-        ensures copied { IfOk result (λ found. IfSome found (λ run. Parts self.old run.0 self.new)) }
+        ensures copied { IfOk result (λ found. IfSome found (λ run. SplitCost self.old run.0 self.new)) }
         ensures shorter { IfOk result (λ found. OnSome found (length self.new.bytes < length self.old.bytes)) }
         ensures none { IfOk result (λ found. IfNone found
             ((self.old.bytes ≡ []) × (self.new ≡ self.old) × (classify.new ≡ classify.old))) }

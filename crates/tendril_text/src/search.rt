@@ -5,7 +5,7 @@ ghost use Rattle.std.specs.Prelude.{◌≡◌, ◌<◌, ◌≤◌, ◌↔◌, �
 ghost use Rattle.std.specs.Prelude.{IfOk, OnErr, OnSome, IsTrue, IsFalse, IfErr};
 ghost use Rattle.memchr.specs.Find.{IsFirstByte, is_byte};
 ghost use Rattle.tendril_fmt.specs.Parts.{IsFrontOf};
-ghost use Rattle.tendril_storage.specs.Texts.{Keeps};
+ghost use Rattle.tendril_storage.specs.Texts.{PopCost};
 ghost use Rattle.tendril_text.specs.Splits.{EndsFirstLine, LacksFeed};
 ghost use Rattle.tendril_text.specs.Search.{has_byte, EndsBefore, PartsBefore, BeginsWithOne, HasLongPartBefore};
 ghost use Rattle.tendril_text.specs.Search.{IsTable, TakesPart, part_bytes};
@@ -164,7 +164,7 @@ impl<A: Atomicity> Tendril<UTF8, A> {
     /// ```
     pub fn skip_prefix(&mut self, prefix: &str) -> bool
         ensures yes { IsTrue result → self.old.bytes ≡ prefix.now ++ self.new.bytes }
-        ensures copied { IsTrue result → Keeps self.old self.new }
+        ensures copied { IsTrue result → PopCost self.old self.new }
         ensures no { IsFalse result → IsFrontOf prefix.now self.old.bytes → ⊥ }
         ensures kept { IsFalse result → self.new ≡ self.old }
     {

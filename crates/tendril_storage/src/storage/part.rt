@@ -10,14 +10,14 @@ use tendril_block::words::word_of;
 use tendril_block::{Atomicity, INLINE_LEN, MAX_LEN, Refusal};
 
 impl<A: Atomicity> Storage<A> {
-    ghost use Rattle.tendril_storage.specs.Texts.{Shares};
+    ghost use Rattle.tendril_storage.specs.Texts.{ShareCost};
 
     /// Returns a clone: up to 8 bytes are copied inline, more are another view of the same block. Returns `Count` if
     /// that has as many references as it can have.
     #[inline(always)]
     pub fn whole(&self) -> Result<Self, Refusal>
         ensures bytes { IfOk result (λ s. s.bytes ≡ self.now.bytes) }
-        ensures copied { IfOk result Shares }
+        ensures copied { IfOk result ShareCost }
         ensures refusal { IfErr result (CountMay (length self.now.bytes)) }
     {
         match &self.held {
@@ -38,7 +38,7 @@ impl<A: Atomicity> Storage<A> {
     pub fn part(&self, offset: u32, count: u32) -> Result<Self, Refusal>
         requires { offset + count ≤ length self.now.bytes }
         ensures bytes { IfOk result (λ s. s.bytes ≡ take count (drop offset self.now.bytes)) }
-        ensures copied { IfOk result Shares }
+        ensures copied { IfOk result ShareCost }
         ensures refusal { IfErr result (CountMay count) }
     {
         if count as usize <= INLINE_LEN {

@@ -3,7 +3,7 @@ ghost use Rattle.std.specs.Prelude.{◌≡◌, ◌<◌, ◌≤◌, ◌+◌, ◌+
 ghost use Rattle.std.specs.Prelude.{OnErr, IsTrue, IsFalse};
 ghost use Rattle.std.specs.Str.Iter.{LacksByte};
 ghost use Rattle.memchr.specs.Find.{is_byte};
-ghost use Rattle.tendril_storage.specs.Texts.{Parts, Shares};
+ghost use Rattle.tendril_storage.specs.Texts.{SplitCost, ShareCost};
 ghost use Rattle.tendril_text.specs.Search.{EndsBefore, HasLongPartBefore};
 ghost use Rattle.tendril_text.specs.Splits.{HasLongSide};
 
@@ -61,7 +61,7 @@ impl<F: CutsAtAscii, A: Atomicity> Tendril<F, A> {
             IsFalse field.is_last → self.old.bytes ≡ field.text.bytes ++ byte ∷ self.new.bytes) }
         ensures last { IfOk result (λ field.
             IsTrue field.is_last → (self.old.bytes ≡ field.text.bytes) × (self.new.bytes ≡ [])) }
-        ensures copied { IfOk result (λ field. Parts self.old field.text self.new) }
+        ensures copied { IfOk result (λ field. SplitCost self.old field.text self.new) }
         ensures refusal { IfErr result (HasLongPartBefore (is_byte byte) self.old.bytes) }
         ensures err { OnErr result (self.new ≡ self.old) }
     {
@@ -92,7 +92,7 @@ impl<F: CutsAtAscii, A: Atomicity> Tendril<F, A> {
         ensures joined { IfOk result (λ found. IfSome found (λ sides.
             self.now.bytes ≡ sides.0.bytes ++ byte ∷ sides.1.bytes)) }
         ensures none { IfOk result (λ found. IfNone found (LacksByte byte self.now.bytes)) }
-        ensures copied { IfOk result (λ found. IfSome found (λ sides. Shares sides.0 × Shares sides.1)) }
+        ensures copied { IfOk result (λ found. IfSome found (λ sides. ShareCost sides.0 × ShareCost sides.1)) }
         ensures refusal { IfErr result (HasLongSide byte self.now.bytes) }
     {
         let piece = first_field::<F>(self.as_byte_slice(), byte);

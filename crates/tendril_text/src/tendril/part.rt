@@ -1,7 +1,7 @@
 //! Slices and splits.
 ghost use Rattle.std.specs.Prelude.{◌≡◌, ◌<◌, ◌≤◌, ◌+◌, ◌↔◌, ◌++◌, [], length, take, drop, IfOk, IsTrue, IsUtf8};
 ghost use Rattle.tendril_storage.specs.Partings.{TakesFew};
-ghost use Rattle.tendril_storage.specs.Texts.{Keeps};
+ghost use Rattle.tendril_storage.specs.Texts.{PopCost};
 ghost use Rattle.tendril_text.specs.Parts.{Slices, SlicesValid, Splits, SplitsValid};
 
 use crate::tendril::Tendril;
@@ -162,7 +162,7 @@ impl<A: Atomicity> Tendril<Bytes, A> {
     pub(crate) fn skip(&mut self, count: u32)
         requires { count ≤ length self.old.bytes }
         ensures bytes { self.new.bytes ≡ drop count self.old.bytes }
-        ensures copied { Keeps self.old self.new }
+        ensures copied { PopCost self.old self.new }
     {
         let rest = self.len32() - count;
         self.storage.keep_part(count, rest);

@@ -8,7 +8,7 @@ use tendril_block::{Atomicity, SubtendrilError};
 use tendril_fmt::fmt::Format;
 
 impl<F: Format, A: Atomicity> Tendril<F, A> {
-    ghost use Rattle.tendril_storage.specs.Texts.{Keeps};
+    ghost use Rattle.tendril_storage.specs.Texts.{PopCost};
 
     /// Drops the first `count` bytes, if they are there and the remainder is valid in the format.
     ///
@@ -73,7 +73,7 @@ impl<F: Format, A: Atomicity> Tendril<F, A> {
         requires within { count ≤ length self.old.bytes }
         requires valid { F.valid (drop count self.old.bytes) }
         ensures bytes { self.new.bytes ≡ drop count self.old.bytes }
-        ensures copied { Keeps self.old self.new }
+        ensures copied { PopCost self.old self.new }
     {
         self.unsafe_pop_front(count);
     }
@@ -91,7 +91,7 @@ impl<F: Format, A: Atomicity> Tendril<F, A> {
         requires within { count ≤ length self.old.bytes }
         requires valid { F.valid (take (length self.old.bytes - count) self.old.bytes) }
         ensures bytes { self.new.bytes ≡ take (length self.old.bytes - count) self.old.bytes }
-        ensures copied { Keeps self.old self.new }
+        ensures copied { PopCost self.old self.new }
     {
         self.unsafe_pop_back(count);
     }
@@ -148,7 +148,7 @@ impl<F: Format, A: Atomicity> Tendril<F, A> {
         requires within { count ≤ length self.old.bytes }
         requires valid { F.valid (drop count self.old.bytes) }
         ensures bytes { self.new.bytes ≡ drop count self.old.bytes }
-        ensures copied { Keeps self.old self.new }
+        ensures copied { PopCost self.old self.new }
     {
         let rest = self.len32() - count;
         self.storage.keep_part(count, rest);
@@ -159,7 +159,7 @@ impl<F: Format, A: Atomicity> Tendril<F, A> {
         requires within { count ≤ length self.old.bytes }
         requires valid { F.valid (take (length self.old.bytes - count) self.old.bytes) }
         ensures bytes { self.new.bytes ≡ take (length self.old.bytes - count) self.old.bytes }
-        ensures copied { Keeps self.old self.new }
+        ensures copied { PopCost self.old self.new }
     {
         let rest = self.len32() - count;
         self.storage.keep_part(0, rest);

@@ -9,7 +9,7 @@ use tendril_block::{Atomicity, MAX_LEN, Refusal};
 use tendril_fmt::fmt::CutsAtAscii;
 
 impl<F: CutsAtAscii, A: Atomicity> Tendril<F, A> {
-    ghost use Rattle.tendril_storage.specs.Texts.{Keeps};
+    ghost use Rattle.tendril_storage.specs.Texts.{PopCost};
 
     /// Returns the text without the ASCII white space at both ends, as `str::trim_ascii` does: tabs, line feeds, form
     /// feeds, carriage returns and spaces.
@@ -45,7 +45,7 @@ impl<F: CutsAtAscii, A: Atomicity> Tendril<F, A> {
     /// ```
     pub fn into_trimmed(self) -> Self
         ensures joined { IsTrimOf self.bytes result.bytes }
-        ensures copied { Keeps self result }
+        ensures copied { PopCost self result }
     {
         let mut text = self;
         text.trim();
@@ -61,7 +61,7 @@ impl<F: CutsAtAscii, A: Atomicity> Tendril<F, A> {
     /// ```
     pub fn without_line_ending(self) -> Self
         ensures bytes { IsWithoutEnding self.bytes result.bytes }
-        ensures copied { Keeps self result }
+        ensures copied { PopCost self result }
     {
         let mut text = self;
         let count = line_ending_len::<F>(text.as_byte_slice());
@@ -72,7 +72,7 @@ impl<F: CutsAtAscii, A: Atomicity> Tendril<F, A> {
     // Drops the white space at both ends.
     fn trim(&mut self)
         ensures joined { IsTrimOf self.old.bytes self.new.bytes }
-        ensures copied { Keeps self.old self.new }
+        ensures copied { PopCost self.old self.new }
     {
         let (start, len) = trimmed_range::<F>(self.as_byte_slice());
         self.storage.keep_part(start, len);

@@ -3,7 +3,7 @@ ghost use Rattle.std.specs.Prelude.{◌≡◌, [], IfSome, IfNone, OnSome, IfOk,
 ghost use Rattle.tendril_text.specs.Decoding.{HandsCompleted};
 ghost use Rattle.tendril_lossy.specs.Completions.{BreaksAt, CompletesTo, StillOpen};
 ghost use Rattle.tendril_lossy.specs.Lossy.{IsIncomplete};
-ghost use Rattle.tendril_storage.specs.Texts.{Keeps};
+ghost use Rattle.tendril_storage.specs.Texts.{PopCost};
 
 use crate::tendril::Tendril;
 use crate::utf8_decode::{ClosureText, REPLACEMENT};
@@ -156,7 +156,7 @@ impl IncompleteUtf8 {
         ensures completed { IfSome result (λ found. MatchResult found
             (λ t. CompletesTo self.old piece.old.bytes t piece.new.bytes)
             (λ b. BreaksAt self.old piece.old.bytes b piece.new.bytes)) }
-        ensures copied { OnSome result (Keeps piece.old piece.new) }
+        ensures copied { OnSome result (PopCost piece.old piece.new) }
         ensures emptied { OnSome result (self.new ≡ []) }
         ensures none { IfNone result (StillOpen self.old piece.old.bytes self.new) }
         ensures piece { IfNone result (piece.new ≡ piece.old) }
