@@ -15,7 +15,7 @@
 //! | `split S N`, `left S N` | what `try_split_to` returns, and what it leaves | `slot S` |
 //! | `truncate S N`, `compact S`, `to_compact S` | a text after the call of this name, or what it returns | `slot S` |
 //! | `trimmed S`, `into_trimmed S` | a text without the white space at its ends | `slot S` |
-//! | `strip S "A"`, `take S`, `lower S`, `push_str S "A"`, `push_char S "A"`, `write_str S "A"` | changes a text of UTF-8 | `slot S` |
+//! | `take S`, `lower S`, `push_str S "A"`, `push_char S "A"`, `write_str S "A"` | changes a text of UTF-8 | `slot S` |
 //! | `write S "A"`, `write_all S "A"`, `push_without_validating S "A"`, `reverse S` | changes a text of bytes | `slot S` |
 //! | `into_send S`, `send_clone S` | sends a text there and back, itself or by a clone | `slot S` |
 //! | `view S O N`, `view_whole S`, `view_ascii S` | a text of a view | `slot S` |
@@ -23,6 +23,7 @@
 //! | `chars S`, `runs S`, `parts S "SET"` | | the items of `into_chars`, `into_char_runs`, `split_at_any` |
 //! | `fields S "A"`, `once S "A"` | | all fields by `pop_field`; both sides by `split_once`, or `none` |
 //! | `find S "SET"`, `peek S`, `eq_str S "A"`, `starts_with S "A"`, `len S` | | what the call returns |
+//! | `skip_prefix S "A"` | | what the call returns, and what is left of the text |
 //! | `block "A"`, `block_own "A"`, `block_mut "A"`, `block_grow "A"`, `block_sole "A"`, `block_full "A"` | holds a block outside of texts | its bytes |
 
 mod blocks;

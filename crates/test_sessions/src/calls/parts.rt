@@ -18,7 +18,6 @@ pub fn part<A: Atomicity>(
     match verb {
         "until"
         | "after"
-        | "strip"
         | "take"
         | "lower"
         | "push_char"
@@ -63,9 +62,6 @@ fn string_part<A: Atomicity>(
         "split" => return Ok(Some(Slot::Utf8(text.try_split_to(number_of(words)?)?))),
         "left" => {
             text.try_split_to(number_of(words)?)?;
-        }
-        "strip" => {
-            text.skip_prefix(string);
         }
         "take" => return Ok(Some(Slot::Utf8(text.take()))),
         "to_compact" => return Ok(Some(Slot::Utf8(text.to_compact()?))),

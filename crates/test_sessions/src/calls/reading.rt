@@ -28,6 +28,7 @@ pub fn reply<A: Atomicity>(
         | "find"
         | "eq_str"
         | "starts_with"
+        | "skip_prefix"
         | "peek"
         | "len" => read_string(alloc, table, verb, words),
         _ => Ok(None),
@@ -87,6 +88,7 @@ fn read_string<A: Atomicity>(
         ),
         "eq_str" => yes_or_no(alloc, text.eq_str(string)),
         "starts_with" => yes_or_no(alloc, text.starts_with(string)),
+        "skip_prefix" => skip_prefix(alloc, text.clone()?, string),
         "peek" => print(alloc, format_args!("{:?}", text.peek_front_char())),
         "len" => print(
             alloc,
@@ -100,6 +102,20 @@ fn read_string<A: Atomicity>(
 
 fn yes_or_no(alloc: Global, holds: bool) -> Result<Option<String>, Refusal> {
     print(alloc, if holds { "yes" } else { "no" })
+}
+
+// Whether a text had the prefix, and what is left of it.
+fn skip_prefix<A: Atomicity>(
+    alloc: Global,
+    mut text: Tendril<UTF8, A>,
+    prefix: &str,
+) -> Result<Option<String>, Refusal> {
+    let skipped = if text.skip_prefix(prefix) {
+        "yes"
+    } else {
+        "no"
+    };
+    print(alloc, format_args!("{skipped} {:?}", text.as_str()))
 }
 
 // The index of the first byte of a set.
