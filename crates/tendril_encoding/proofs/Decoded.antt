@@ -102,21 +102,6 @@ module _ {S : Type 0} (takes : S → Sent → S → Type 0) (refuses : S → Sen
 
   -- a mark is looked for
   module _ (s : Sniffing) (o : Option Sniffing) (is : o ≡ Some s) where
-    -- the piece ends within a mark
-    pub feeds_waits : (a b : S) (more : Sniffing) (next : Known) (rest : Text)
-        → Begins takes a k s piece (Some more) b next rest
-        → FeedsPiece any takes a (record { known = k; sniffing = o }) piece b
-        × (record { known = next; sniffing = Some more } ≡ after_state k o piece.bytes)
-    feeds_waits a b more next rest h =
-        subst (λ x. FeedsPiece any takes a (record { known = k; sniffing = x }) piece b
-        × (record { known = next; sniffing = Some more } ≡ after_state k x piece.bytes)) (sym is) (
-          subst (λ t. FeedsPiece any takes a (record { known = k; sniffing = Some s }) piece t) (sym h.0)
-              (Feeds-same takes (FitState (record { known = k; sniffing = Some s }) piece) a a []
-              (out_sniff s.marks k s.seen piece.bytes) (sym h.2)
-              (Feeds-none takes (FitState (record { known = k; sniffing = Some s }) piece) a)),
-          ap (λ (x : Known). let t : State = record { known = x; sniffing = Some more } in t) h.1 ∙ sym h.3,
-        )
-
     abbrev before : State
     before = record { known = k; sniffing = Some s }
 

@@ -7,8 +7,10 @@ pub mod MarkLaws
 pub mod Begun
 pub mod Decoded
 pub mod Joins
+pub mod Outgrown
 pub mod SingleTables
 pub mod ManyBytes
+pub mod JisScalars
 pub mod Scalars
 pub mod UnitBytes
 pub mod Shorts

@@ -31,10 +31,11 @@ use Rattle.tendril_encoding.specs.declared.mark.Mark.{Mark}
 use Rattle.tendril_encoding.specs.declared.mark.Mark.TheVariants.{OfUtf8, OfUtf16Le, OfUtf16Be}
 use Rattle.tendril_fmt.specs.Bytes.{AreBytes}
 use Rattle.tendril_fmt.specs.Proved.Bytes.{AreBytes-drop}
-use Rattle.tendril_encoding.proofs.ManyBytes.{IsFitGb18030, IsFitJis, scalar_told, scalars_both}
+use Rattle.tendril_encoding.proofs.ManyBytes.{IsFitGb18030, scalar_told, scalars_both}
 use Rattle.tendril_encoding.proofs.ManyBytes.{big5_firsts, big5_pairs, kr_firsts, kr_pairs, sjis_firsts, sjis_pairs}
-use Rattle.tendril_encoding.proofs.ManyBytes.{gb18030_end, gb18030_fits, gb18030_scalars, jis_end, jis_fits}
-use Rattle.tendril_encoding.proofs.ManyBytes.{jis_scalars, jp_end, jp_scalars, two_bytes_end, two_bytes_scalars}
+use Rattle.tendril_encoding.proofs.ManyBytes.{gb18030_end, gb18030_fits, gb18030_scalars}
+use Rattle.tendril_encoding.proofs.ManyBytes.{jp_end, jp_scalars, two_bytes_end, two_bytes_scalars}
+use Rattle.tendril_encoding.proofs.JisScalars.{IsFitJis, jis_end, jis_fits, jis_scalars}
 use Rattle.tendril_encoding.proofs.SingleTables.{few_told}
 use Rattle.tendril_lossy.proofs.Streams.{IsLossy-lossy}
 use Rattle.tendril_lossy.specs.Lossy.{Item, Keep, Bad, Cut, IsLossy, characters, closed_of, due, due_of}

@@ -9,6 +9,7 @@ pub mod StateLaws
 pub mod Choices
 pub mod Laws
 pub mod HasMarks
+pub mod Outgrown
 pub mod Wholes
 pub mod Stopping
 pub mod Outputs

@@ -18,8 +18,8 @@ const PIECE: usize = 1 << 16;
 /// Decodes a whole input, and returns the text and whether something in it was malformed. A byte order mark decides the
 /// encoding, as in `LossyDecoder::new_encoding`.
 ///
-/// Returns `Memory` or `SinkRefused` if an allocation fails, `SinkRefused` also if the text would have more than
-/// 4294967295 bytes, or `Count` if a block has as many references as it can have.
+/// Returns `Memory` if an allocation fails; `SinkRefused` if one for the text fails, which then has more than 8 bytes,
+/// or if the text would have more than 4294967295 bytes; or `Count` if a block has as many references as it can have.
 ///
 /// ```
 /// let (text, malformed) = decode_to_text(alloc, Encoding::WINDOWS_1252, b"caf\xE9")?;
@@ -32,7 +32,7 @@ pub fn decode_to_text(
     bytes: &[u8],
 ) -> Result<(StrTendril, bool), Refusal>
     ensures ok { IfOk result (λ t. DecodesInput (start_encoding encoding) bytes.now t.0.bytes t.1) }
-    ensures err { IfErr result (λ e. InputMay bytes.now e) }
+    ensures err { IfErr result (λ e. InputMay (start_encoding encoding) bytes.now e) }
 {
     let decoder = LossyDecoder::new_encoding(alloc, encoding, Whole::new(alloc));
     decode_whole(alloc, decoder, bytes)
@@ -48,7 +48,7 @@ fn decode_whole(
     requires sink { IsNewWhole decoder.decoder.inner_sink }
     requires failed { decoder.decoder.failed ≡ false }
     ensures ok { IfOk result (λ t. DecodesInput decoder.decoder.kept bytes.now t.0.bytes t.1) }
-    ensures err { IfErr result (λ e. InputMay bytes.now e) }
+    ensures err { IfErr result (λ e. InputMay decoder.decoder.kept bytes.now e) }
 {
     let mut at = 0;
     while at < bytes.len() {

@@ -30,13 +30,18 @@ impl TendrilSink<StrTendril> for Whole {
     ghost use Rattle.std.specs.Prelude.{◌≡◌, ◌++◌, ◌||◌};
     ghost use Rattle.tendril_stream.specs.SentBytes.{sent_bytes};
     ghost use Rattle.tendril_encoding.specs.HasMarks.{is_error};
+    ghost use Rattle.tendril_encoding.specs.Outgrown.{AppendRefused};
 
     type Output = (StrTendril, bool);
 
     ghost takes = { λ a e b. (b.text.bytes ≡ a.text.bytes ++ sent_bytes e)
         × (b.malformed ≡ (a.malformed || is_error e)) };
 
+    ghost refuses = { λ a e r b. AppendRefused a.text.bytes e r × (b ≡ a) };
+
     ghost finishes = { λ a out. (out.0.bytes ≡ a.text.bytes) × (out.1 ≡ a.malformed) };
+
+    ghost ends = { λ a r. ⊥ };
 
     fn process(&mut self, text: StrTendril) -> Result<(), Refusal> {
         self.text.push_tendril(&text)
