@@ -43,14 +43,14 @@ pub enum Refusal {
 }
 
 impl Refusal {
-    /// The number, as 1 of `TooLong`.
+    /// Returns the number, from 1 to 14: 1 for `TooLong`.
     pub fn number(self) -> u8
         ensures { result ≡ number_of self }
     {
         self as u8
     }
 
-    /// The name, as `TooLong`.
+    /// Returns the name, such as `TooLong`.
     pub fn name(self) -> &'static str
         ensures { result.now ≡ name_of self }
     {
@@ -73,7 +73,7 @@ impl Refusal {
     }
 }
 
-/// Prints the number and the name, as `1 TooLong`.
+/// Prints the number and the name, such as `1 TooLong`.
 impl fmt::Display for Refusal {
     ghost output = { λ r. Some (refusal_text r) };
 
