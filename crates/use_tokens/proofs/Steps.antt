@@ -59,23 +59,6 @@ pub behind : (before mid : List Token) (first rest : List ℕ) → TokensSpell b
 behind before mid first rest h = ap (λ l. l ++ rest) (sym (append-nil (joined_sources mid)) ∙ h)
     ∙ append_assoc (joined_sources before) first rest
 
--- if nothing was sent, the tokens are a prefix, whatever the bytes are
-pub none_sent : {T E : Type 0} (result : Result T E) (tokens : List Token) (bytes : List ℕ)
-    → OnErr result (TokensSpellPrefix tokens bytes tokens)
-none_sent (Ok x) tokens bytes = tt
-none_sent (Err e) tokens bytes = (bytes, refl)
-
-pub refused : {T E : Type 0} (result : Result T E) (before tokens : List Token) (bytes : List ℕ) → tokens ≡ before
-    → OnErr result (TokensSpellPrefix before bytes tokens)
-refused (Ok x) before tokens bytes same = tt
-refused (Err e) before tokens bytes same = unsent before tokens bytes same
-
--- the same, of a call that sends nothing if it fails
-pub not_sent : {T E : Type 0} (result : Result T E) (before tokens : List Token) (bytes : List ℕ)
-    → OnErr result (tokens ≡ before) → OnErr result (TokensSpellPrefix before bytes tokens)
-not_sent (Ok x) before tokens bytes same = tt
-not_sent (Err e) before tokens bytes same = unsent before tokens bytes same
-
 -- what always holds, holds after an error
 pub of_err : {T E : Type 0} (result : Result T E) (P : Type 0) → P → OnErr result P
 of_err (Ok x) P p = tt

@@ -1,5 +1,6 @@
 -- The bytes that tokens spell.
-use Rattle.std.specs.Prelude.{ℕ, ◌≡◌, List, [], ◌++◌, flat_map}
+use Rattle.std.specs.Prelude.{ℕ, ◌≡◌, ◌<◌, ◌+◌, Bool, List, [], ◌++◌, length, flat_map}
+use Rattle.std.specs.Prelude.{Result, IfOk, OnOk, OnErr, IsTrue, IsFalse}
 use Rattle.tendril.specs.Fmt.Parts.{IsFrontOf}
 use Rattle.tendril_queue.specs.Queues.{Queued}
 use Rattle.use_tokens.specs.declared.state.State.{State}
@@ -30,3 +31,13 @@ pending state input = begun_bytes state ++ input.bytes
 -- the pending bytes while a text is split: of incomplete markup, of the rest of that text, and of those after it
 abbrev pub untaken : State → List ℕ → Queued → List ℕ
 untaken state text input = begun_bytes state ++ (text ++ input.bytes)
+
+-- What a step of the tokenizer takes from a text and the texts after it, if there is more to take. After an error the
+-- sink has the tokens that it had.
+pub record TokenizerStep {E : Type 0} (tokens : List Token) (state : State) (text : List ℕ) (input : Queued)
+    (result : Result Bool E) (tokens' : List Token) (state' : State) (text' : List ℕ) (input' : Queued) : Type 0 where
+  pub ok : OnOk result (TokensSpell tokens (untaken state text input) tokens' (untaken state' text' input'))
+  pub shorter : IfOk result (λ more. IsTrue more →
+      length text' + length input'.bytes < length text + length input.bytes)
+  pub done : IfOk result (λ more. IsFalse more → text' ≡ [])
+  pub err : OnErr result (tokens' ≡ tokens)

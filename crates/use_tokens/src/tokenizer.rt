@@ -1,7 +1,7 @@
 //! A sink of texts that splits them into tokens.
 ghost use Rattle.std.specs.Prelude.{◌≡◌, ◌<◌, ◌≤◌, ◌+◌, ◌++◌, [], length, slice_index};
 ghost use Rattle.std.specs.Prelude.{IfOk, IsFalse, IsTrue, OnOk, OnErr};
-ghost use Rattle.use_tokens.specs.Spelled.{TokensSpell, TokensSpellPrefix, untaken};
+ghost use Rattle.use_tokens.specs.Spelled.{TokenizerStep, TokensSpell, untaken};
 
 use crate::joined::{append, begun_text, joined};
 use crate::markup::Markup;
@@ -54,14 +54,8 @@ impl<K: TokenSink> Tokenizer<K> {
     // Takes the next token or incomplete markup off a text, or off the next one of the input if the text is empty.
     // Returns false if that needs more input.
     fn take_part(&mut self, text: &mut StrTendril) -> Result<bool, Refusal>
-        ensures ok { OnOk result (TokensSpell (K.tokens self.old.sink)
-            (untaken self.old.state text.old.bytes self.old.input)
-            (K.tokens self.new.sink) (untaken self.new.state text.new.bytes self.new.input)) }
-        ensures shorter { IfOk result (λ more. IsTrue more → length text.new.bytes + length self.new.input.bytes
-            < length text.old.bytes + length self.old.input.bytes) }
-        ensures done { IfOk result (λ more. IsFalse more → text.new.bytes ≡ []) }
-        ensures err { OnErr result (TokensSpellPrefix (K.tokens self.old.sink)
-            (untaken self.old.state text.old.bytes self.old.input) (K.tokens self.new.sink)) }
+        ensures { TokenizerStep (K.tokens self.old.sink) self.old.state text.old.bytes self.old.input
+            result (K.tokens self.new.sink) self.new.state text.new.bytes self.new.input }
     {
         if !self.refill(text) {
             return Ok(false);
@@ -99,13 +93,8 @@ impl<K: TokenSink> Tokenizer<K> {
     fn take_text(&mut self, text: &mut StrTendril) -> Result<bool, Refusal>
         requires outside { self.old.state ≡ State.Outside }
         requires some { 0 < length text.old.bytes }
-        ensures ok { OnOk result (TokensSpell (K.tokens self.old.sink) (text.old.bytes ++ self.old.input.bytes)
-            (K.tokens self.new.sink) (untaken self.new.state text.new.bytes self.new.input)) }
-        ensures shorter { IfOk result (λ more. IsTrue more → length text.new.bytes + length self.new.input.bytes
-            < length text.old.bytes + length self.old.input.bytes) }
-        ensures done { IfOk result (λ more. IsFalse more → text.new.bytes ≡ []) }
-        ensures err { OnErr result (TokensSpellPrefix (K.tokens self.old.sink) (text.old.bytes ++ self.old.input.bytes)
-            (K.tokens self.new.sink)) }
+        ensures { TokenizerStep (K.tokens self.old.sink) self.old.state text.old.bytes self.old.input
+            result (K.tokens self.new.sink) self.new.state text.new.bytes self.new.input }
     {
         let _is_utf8 = text.as_str();
         match text.find_byte(b'<') {
@@ -126,13 +115,8 @@ impl<K: TokenSink> Tokenizer<K> {
         requires outside { self.old.state ≡ State.Outside }
         requires some { 0 < length text.old.bytes }
         requires open { slice_index text.old.bytes 0 ≡ 60 }
-        ensures ok { OnOk result (TokensSpell (K.tokens self.old.sink) (text.old.bytes ++ self.old.input.bytes)
-            (K.tokens self.new.sink) (untaken self.new.state text.new.bytes self.new.input)) }
-        ensures shorter { IfOk result (λ more. IsTrue more → length text.new.bytes + length self.new.input.bytes
-            < length text.old.bytes + length self.old.input.bytes) }
-        ensures done { IfOk result (λ more. IsFalse more → text.new.bytes ≡ []) }
-        ensures err { OnErr result (TokensSpellPrefix (K.tokens self.old.sink) (text.old.bytes ++ self.old.input.bytes)
-            (K.tokens self.new.sink)) }
+        ensures { TokenizerStep (K.tokens self.old.sink) self.old.state text.old.bytes self.old.input
+            result (K.tokens self.new.sink) self.new.state text.new.bytes self.new.input }
     {
         if text.len32() == 1 {
             return self.take_last_open(text);
@@ -151,13 +135,8 @@ impl<K: TokenSink> Tokenizer<K> {
     fn take_last_open(&mut self, text: &mut StrTendril) -> Result<bool, Refusal>
         requires outside { self.old.state ≡ State.Outside }
         requires some { 0 < length text.old.bytes }
-        ensures ok { OnOk result (TokensSpell (K.tokens self.old.sink) (text.old.bytes ++ self.old.input.bytes)
-            (K.tokens self.new.sink) (untaken self.new.state text.new.bytes self.new.input)) }
-        ensures shorter { IfOk result (λ more. IsTrue more → length text.new.bytes + length self.new.input.bytes
-            < length text.old.bytes + length self.old.input.bytes) }
-        ensures done { IfOk result (λ more. IsFalse more → text.new.bytes ≡ []) }
-        ensures err { OnErr result (TokensSpellPrefix (K.tokens self.old.sink) (text.old.bytes ++ self.old.input.bytes)
-            (K.tokens self.new.sink)) }
+        ensures { TokenizerStep (K.tokens self.old.sink) self.old.state text.old.bytes self.old.input
+            result (K.tokens self.new.sink) self.new.state text.new.bytes self.new.input }
     {
         let begun = text.take();
         let Some(next) = self.input.pop_front() else {
@@ -189,8 +168,7 @@ impl<K: TokenSink> Tokenizer<K> {
         ensures shorter { IfOk result (λ more. length text.new.bytes + length self.new.input.bytes
             < length text.old.bytes + length self.old.input.bytes) }
         ensures more { IfOk result IsTrue }
-        ensures err { OnErr result (TokensSpellPrefix (K.tokens self.old.sink)
-            (begun.bytes ++ (text.old.bytes ++ self.old.input.bytes)) (K.tokens self.new.sink)) }
+        ensures err { OnErr result (K.tokens self.new.sink ≡ K.tokens self.old.sink) }
     {
         match markup.scan(text.as_byte_slice(), start) {
             (last, Some(count)) => {

@@ -21,8 +21,11 @@ pub fn play_streams<A: Atomicity>(
     let mut counts = Counts::none();
     let mut place = Place::first(file, WAY);
     for session in text.split("\n\n") {
-        if !play_session::<A>(rt, place, session, &mut reply, &mut counts)? {
-            play_session::<A>(rt, place, session, &mut reply, &mut counts)?;
+        if !play_session::<A>(rt, place, session, &mut reply, &mut counts)?
+            && !play_session::<A>(rt, place, session, &mut reply, &mut counts)?
+        {
+            wrong(rt, place, session, "its sink got no memory twice")?;
+            counts.add_wrong();
         }
         counts.add_session();
         place = place.after(session);
