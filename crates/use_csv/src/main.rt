@@ -1,4 +1,4 @@
-//! Reads CSV on standard input, and prints each record: how many fields it has, and each field in quotes.
+//! Reads CSV on standard input to its end, then prints each record: how many fields it has, and each field in quotes.
 #![tactic(auto)]
 
 mod partial;

@@ -1,4 +1,4 @@
-//! Splits HTML on standard input into tokens, and prints each.
+//! Splits HTML on standard input into tokens, and prints them all at its end.
 #![tactic(auto)]
 
 mod joined;

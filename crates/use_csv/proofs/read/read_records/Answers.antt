@@ -50,7 +50,7 @@ returns-clause-stopped g c = IfErr-weaker c.read_decoded.result _ _ (λ s h.
             unmarked-append (record_bytes (records t.sink))
                 (partial_bytes t.partial),
           ))
-          (λ d. d.inner_sink) (λ d. d.kept) (λ d. d.failed) _ c.new.result c.new-decoder.result c.args.most h.0
+          (λ d. d.inner_sink) (λ d. d.kept) (λ d. d.failed) _ c.new.result c.new-decoder.result c.args.max_reads h.0
           s.refusal
           s.sink c.new-decoder.ensures.sink c.new-decoder.ensures.kept c.new-decoder.ensures.failed new h.2,
     )) c.read_decoded.ensures.stopped
