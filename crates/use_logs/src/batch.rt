@@ -1,7 +1,6 @@
 //! A sink that stores lines until a thread counts them.
 
 use crate::Text;
-use crate::traffic::sum;
 use std::alloc::Global;
 use std::borrow::CowStr;
 use tendril::block::Refusal;
@@ -33,7 +32,8 @@ impl TendrilSink<Text> for Batch {
     }
 
     fn error(&mut self, _words: CowStr<'static>) -> Result<(), Refusal> {
-        self.replaced = sum(self.replaced, 1)?;
+        // So many reads as would overflow the count aren't made between two batches.
+        self.replaced = self.replaced.saturating_add(1);
         Ok(())
     }
 

@@ -10,7 +10,6 @@ mod tally;
 mod tests;
 mod traffic;
 
-use anyhow::Context;
 use count::count_log;
 use report::print_report;
 use std::io::{self, BufWriter, Write};
@@ -24,7 +23,7 @@ type Text = Tendril<UTF8, Atomic>;
 fn main(rt: HostRuntime) -> anyhow::Result<()> {
     let alloc = rt.alloc();
     let mut input = Counted::new(rt.stdin());
-    let tally = count_log(&rt, alloc, &mut input).context("standard input")?;
+    let tally = count_log(&rt, alloc, &mut input)?;
     // `rt.stdout()` has no buffer: each write to it is a system call.
     let mut out = BufWriter::new(alloc, io::writer(&rt))?;
     print_report(alloc, &mut out, &tally)?;

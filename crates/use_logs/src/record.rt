@@ -18,6 +18,8 @@ pub struct Record {
 
 impl Record {
     /// Cuts a line into fields, or returns None if there are too few.
+    ///
+    /// Returns `Count` if the line's block has as many references as it can have.
     pub fn from_line(line: Text) -> Result<Option<Record>, Refusal>
         ensures { IfOk result (λ found. IfSome found (λ it. spaced_fields it ≡ line.bytes)) }
     {
@@ -40,7 +42,7 @@ impl Record {
         }))
     }
 
-    /// The target without its query.
+    /// The target without its query. Returns `Count` if the target's block has as many references as it can have.
     pub fn path(&self) -> Result<Text, Refusal>
         ensures { IfOk result (λ path. IsPathOf self.now.target.bytes path.bytes) }
     {
@@ -48,8 +50,8 @@ impl Record {
         Ok(target.pop_field(b'?')?.text)
     }
 
-    /// The number of bytes that were sent, or None if a field isn't as it has to be.
-    pub fn checked_size(&self) -> Option<u64> {
+    /// The number of bytes that were sent, or None if a field is malformed.
+    pub fn size_if_well_formed(&self) -> Option<u64> {
         self.status.parse::<u16>().ok()?;
         if self.has_empty_field() || !is_quoted(&self.agent) {
             return None;

@@ -31,7 +31,7 @@ impl Tally {
     }
 
     /// Counts each line of a batch, and returns the tally.
-    pub fn count_all(self, batch: Batch) -> Result<Tally, Refusal>
+    pub fn count_all(self, batch: Batch) -> anyhow::Result<Tally>
         ensures lines { IfOk result (λ all. lines_of all ≡ lines_of self + length batch.lines.items) }
         ensures replaced { IfOk result (λ all. all.replaced ≡ self.replaced + batch.replaced) }
     {
@@ -44,7 +44,7 @@ impl Tally {
     }
 
     /// Counts a line.
-    pub fn count_line(&mut self, line: Text) -> Result<(), Refusal>
+    pub fn count_line(&mut self, line: Text) -> anyhow::Result<()>
         ensures lines { OnOk result (lines_of self.new ≡ lines_of self.old + 1) }
         ensures replaced { self.new.replaced ≡ self.old.replaced }
     {
@@ -58,7 +58,7 @@ impl Tally {
     }
 
     /// Adds what another tally counted.
-    pub fn merge(&mut self, other: Tally) -> Result<(), Refusal>
+    pub fn merge(&mut self, other: Tally) -> anyhow::Result<()>
         ensures requests { OnOk result (requests_of self.new ≡ requests_of self.old + requests_of other) }
         ensures bytes { OnOk result (sizes_of self.new ≡ sizes_of self.old + sizes_of other) }
         ensures malformed { OnOk result (self.new.malformed ≡ self.old.malformed + other.malformed) }
@@ -78,7 +78,7 @@ impl Tally {
     }
 
     // Adds traffic of a path. A new path is compacted, since it is kept longer than its line.
-    fn add(&mut self, mut path: Text, more: Traffic) -> Result<(), Refusal>
+    fn add(&mut self, mut path: Text, more: Traffic) -> anyhow::Result<()>
         ensures sums { OnOk result ((requests_of self.new ≡ requests_of self.old + more.requests)
             × (sizes_of self.new ≡ sizes_of self.old + more.bytes)) }
         ensures malformed { self.new.malformed ≡ self.old.malformed }
@@ -99,7 +99,7 @@ fn read_request(line: Text) -> Result<Option<(Text, u64)>, Refusal> {
     let Some(record) = Record::from_line(line.without_line_ending())? else {
         return Ok(None);
     };
-    let Some(bytes) = record.checked_size() else {
+    let Some(bytes) = record.size_if_well_formed() else {
         return Ok(None);
     };
     Ok(Some((record.path()?, bytes)))

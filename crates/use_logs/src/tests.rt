@@ -17,7 +17,7 @@ fn fields_share_the_line(rt: HostRuntime) -> Result<(), Fail> {
     let path = record.path()?;
     assert_eq!(rt; path.as_str(), "/a/long/path");
     assert!(rt; path.is_shared());
-    assert_eq!(rt; record.checked_size(), Some(512));
+    assert_eq!(rt; record.size_if_well_formed(), Some(512));
     Ok(())
 }
 

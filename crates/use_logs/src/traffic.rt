@@ -1,7 +1,7 @@
 //! Requests and bytes.
 ghost use Rattle.std.specs.Prelude.{◌≡◌, ◌+◌, IfOk};
 
-use tendril::block::Refusal;
+use anyhow::bail;
 
 /// The requests of one path, and the bytes that they were sent. That with more requests is greater.
 #[derive(Clone, Copy, Debug, PartialEq, Eq, PartialOrd, Ord)]
@@ -11,8 +11,8 @@ pub struct Traffic {
 }
 
 impl Traffic {
-    /// Returns the sums.
-    pub fn plus(self, more: Traffic) -> Result<Traffic, Refusal>
+    /// Returns the sums, or an error if one doesn't fit into 64 bits.
+    pub fn plus(self, more: Traffic) -> anyhow::Result<Traffic>
         ensures requests { IfOk result (λ all. all.requests ≡ self.requests + more.requests) }
         ensures bytes { IfOk result (λ all. all.bytes ≡ self.bytes + more.bytes) }
     {
@@ -23,9 +23,12 @@ impl Traffic {
     }
 }
 
-/// Returns the sum, or TooLong if it doesn't fit.
-pub fn sum(left: u64, right: u64) -> Result<u64, Refusal>
+/// Returns the sum, or an error if it doesn't fit into 64 bits.
+pub fn sum(left: u64, right: u64) -> anyhow::Result<u64>
     ensures { IfOk result (λ all. all ≡ left + right) }
 {
-    left.checked_add(right).ok_or(Refusal::TooLong)
+    let Some(all) = left.checked_add(right) else {
+        bail!("a sum doesn't fit into 64 bits");
+    };
+    Ok(all)
 }
