@@ -27,9 +27,10 @@ pub fn nearest(alloc: Global, word: &str) -> Result<String, AllocError> {
         })?;
     }
     found.sort_by_key(|near| near.distance)?;
-    let mut names = Vec::new(alloc);
-    for near in found.iter().take(NEAREST) {
-        names.push(near.label)?;
-    }
+    let names = found
+        .iter()
+        .take(NEAREST)
+        .map(|near| near.label)
+        .collect::<Vec<&str>>(alloc)?;
     names.join(alloc, ", ")
 }

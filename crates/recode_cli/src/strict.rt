@@ -150,9 +150,7 @@ fn decode_front<R: CountedRead, W: Write>(
     reader: &mut R,
     out: &mut W,
 ) -> Result<Option<u64>, Refusal> {
-    let mut made = 0;
-    while made < MOST_READS {
-        made += 1;
+    for _ in 0..MOST_READS {
         let at_end = read_once(decoder.alloc, &mut decoder, reader)?;
         if at_end {
             decoder = decoder.finish()?;
