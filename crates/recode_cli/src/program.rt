@@ -5,7 +5,7 @@ ghost use Rattle.std.specs.Io.KnownBytes.{Keeps};
 use crate::list::list;
 use crate::nearest::nearest;
 use crate::recode::{Recoding, recode};
-use crate::request::{Options, Request, parse};
+use crate::request::{Options, Request, USAGE, parse};
 use std::alloc::Global;
 use std::env;
 use std::io::{self, ErrorKind, Read, Write};
@@ -37,7 +37,7 @@ pub fn program_with_arguments<S: Env + AllocGlobal, R: Read, W: Write, E: Write>
             return refuse(NAME, Refusal::Memory, err);
         }
         Err(_) => {
-            let _ = writeln!(err, "{NAME}: an argument isn't UTF-8");
+            let _ = writeln!(err, "{NAME}: an argument isn't UTF-8\n\nUsage: {USAGE}");
             return MISUSED;
         }
     };

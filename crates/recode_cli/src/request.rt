@@ -4,7 +4,8 @@ use clap::{Arg, ArgAction, Command, Error};
 use std::alloc::Global;
 use tendril_encoding::BomHandling;
 
-const USAGE: &str = "recode --from LABEL [--bom sniff|remove|keep] [--strict] < IN > OUT
+/// The usage of the program.
+pub const USAGE: &str = "recode --from LABEL [--bom sniff|remove|keep] [--strict] < IN > OUT
        recode --list";
 
 const BOM_WORDS: [&str; 3] = ["sniff", "remove", "keep"];

@@ -1,5 +1,6 @@
 //! The program on readers that give few bytes at a time or fail, and writers that fill up.
 
+mod arguments;
 mod listing;
 mod misuse;
 mod notes;
