@@ -131,9 +131,7 @@ fn strings_of(alloc: Global, words: &str) -> Result<Vec<&str>, Refusal> {
     let mut strings = Vec::new(alloc);
     for (index, piece) in words.split('"').enumerate() {
         if index % 2 == 1 {
-            if strings.push(piece).is_err() {
-                return Err(Refusal::Memory);
-            }
+            strings.push(piece)?;
         }
     }
     Ok(strings)

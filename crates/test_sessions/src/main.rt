@@ -73,33 +73,54 @@ type Three = AtomicUpTo<3>;
 fn main(rt: HostRuntime) -> ExitCode {
     match run(&rt) {
         Ok(status) => ExitCode::from(status),
-        // The player itself failed to read or to allocate.
+        // The error is printed already.
         Err(_) => ExitCode::from(1),
     }
 }
 
-// The exit status: 0 if each reply was the expected one, 2 for unknown words, else 3.
-fn run(rt: &(impl Env + Files + Print + AllocGlobal + Threads)) -> io::Result<u8> {
-    let mut words = env::args(rt)?.skip(1);
+// The exit status: 0 if each reply was the expected one, 2 for unknown words, else 3. The player's own error, for which
+// the status is 1, is printed.
+fn run(rt: &(impl Env + Files + Print + Eprint + AllocGlobal + Threads)) -> io::Result<u8> {
+    let mut words = told(rt, "arguments", env::args(rt))?.skip(1);
     let right = match words.next() {
         Some(way) if way.as_str() == "play" => {
             let mut right = true;
             for file in words {
-                right = play(rt, file.as_str())? && right;
+                right = told(rt, file.as_str(), play(rt, file.as_str()))? && right;
             }
             right
         }
-        Some(way) if way.as_str() == "refuse" => match (words.next(), words.next()) {
-            (Some(file), Some(count)) => refuse(rt, file.as_str(), count.as_str())?,
-            _ => return Ok(2),
-        },
+        Some(way) if way.as_str() == "refuse" => {
+            let file = words.next();
+            let count = words.next().map(|count| count.as_str().parse::<u32>());
+            match (file, count) {
+                (Some(file), Some(Ok(count))) => {
+                    told(rt, file.as_str(), refuse(rt, file.as_str(), count))?
+                }
+                _ => return Ok(usage(rt)),
+            }
+        }
         Some(way) if way.as_str() == "worker" => match words.next() {
-            Some(file) => play_in_worker(rt, file.as_str())?,
-            None => return Ok(2),
+            Some(file) => told(rt, file.as_str(), play_in_worker(rt, file.as_str()))?,
+            None => return Ok(usage(rt)),
         },
-        _ => return Ok(2),
+        _ => return Ok(usage(rt)),
     };
     Ok(if right { 0 } else { 3 })
+}
+
+// Prints an error of the player itself, and what it was at. An error while printing changes nothing.
+fn told<T: Drop>(rt: &impl Eprint, what: &str, outcome: io::Result<T>) -> io::Result<T> {
+    if let Err(error) = &outcome {
+        let _ = eprintln!(rt; "test_sessions: {what}: {error}");
+    }
+    outcome
+}
+
+// Prints how the program is called. Returns the status for unknown words.
+fn usage(rt: &impl Eprint) -> u8 {
+    let _ = eprintln!(rt; "usage: test_sessions play FILE.. | refuse FILE N | worker FILE");
+    2
 }
 
 // Plays a file in all ways. Returns whether each reply was the expected one.
@@ -154,10 +175,10 @@ fn play_decoding<A: Atomicity, B: Atomicity>(
 }
 
 // Plays a file row by row after `count` allocations, and prints how many rows got no memory.
-fn refuse(rt: &(impl Files + Print + AllocGlobal), file: &str, count: &str) -> io::Result<bool> {
+fn refuse(rt: &(impl Files + Print + AllocGlobal), file: &str, count: u32) -> io::Result<bool> {
     let text = fs::read_to_string(rt, file)?;
     let text = text.as_str();
-    make_requests(rt.alloc(), count.parse::<u32>().unwrap_or(0))?;
+    make_requests(rt.alloc(), count)?;
     let counts = match Kind::of_file(text) {
         Kind::Texts => play_twice::<Table<NonAtomic>, Table<Atomic>>(rt, file, text)?,
         Kind::TextsOverThree => play_twice::<Table<Three>, Table<Three>>(rt, file, text)?,

@@ -58,7 +58,7 @@ pub fn add<'a, T: Lined>(
     commands: &mut Vec<T::Command>,
 ) -> io::Result<bool> {
     for _ in 0..row.times {
-        match parse::<T::Command>(alloc, row.line.as_bytes()).map_err(failed)? {
+        match parse::<T::Command>(alloc, row.line.as_bytes()).map_err(out_of_memory)? {
             Some(command) => commands.push(command)?,
             None => return Ok(false),
         }
@@ -67,8 +67,8 @@ pub fn add<'a, T: Lined>(
     Ok(true)
 }
 
-/// The error of a call that the player itself needs.
-pub fn failed(_refusal: Refusal) -> io::Error {
+/// The error of the player itself, for a call that it needs. Such a call fails only without memory.
+pub fn out_of_memory(_refusal: Refusal) -> io::Error {
     io::Error::from(io::ErrorKind::OutOfMemory)
 }
 
@@ -80,7 +80,7 @@ fn play_own<T: Lined>(
 ) -> io::Result<bool> {
     let mut right = true;
     for _ in 0..row.times {
-        right = match own_reply(rt.alloc(), player, row.line).map_err(failed)? {
+        right = match own_reply(rt.alloc(), player, row.line).map_err(out_of_memory)? {
             Some(reply) => compare(rt, place, row, reply.as_str())?,
             None => compare(rt, place, row, "malformed")?,
         } && right;
@@ -96,7 +96,7 @@ fn run_all<T: Lined>(
     rows: &mut Rows,
     commands: &mut Vec<T::Command>,
 ) -> io::Result<bool> {
-    let replies = player.run(commands.as_slice()).map_err(failed)?;
+    let replies = player.run(commands.as_slice()).map_err(out_of_memory)?;
     let right = compare_all::<T>(rt, place, rows.as_slice(), replies.as_slice())?;
     rows.clear();
     commands.clear();
@@ -115,7 +115,7 @@ pub fn compare_all<T: Lined>(
     }
     let mut right = true;
     for ((index, row), reply) in rows.iter().zip(replies) {
-        let reply = T::print(rt.alloc(), reply).map_err(failed)?;
+        let reply = T::print(rt.alloc(), reply).map_err(out_of_memory)?;
         right = compare(rt, place.down(*index), *row, reply.as_str())? && right;
     }
     Ok(right)

@@ -1,5 +1,6 @@
 //! Where a row is, and what is printed about it.
 
+use std::fmt::Display;
 use std::io;
 
 /// A row of a file, and the way in which it is played.
@@ -42,18 +43,12 @@ impl<'a> Row<'a> {
     /// Reads a row. Returns None if it has no reply.
     pub fn read(row: &'a str) -> Option<Self> {
         let (line, expected) = row.split_once(" => ")?;
-        match repeated(line) {
-            Some((times, line)) => Some(Row {
-                line,
-                expected,
-                times,
-            }),
-            None => Some(Row {
-                line,
-                expected,
-                times: 1,
-            }),
-        }
+        let (times, line) = repeated(line).unwrap_or((1, line));
+        Some(Row {
+            line,
+            expected,
+            times,
+        })
     }
 }
 
@@ -132,7 +127,12 @@ pub fn compare(rt: &impl Print, place: Place, row: Row, reply: &str) -> io::Resu
 }
 
 /// Prints what is wrong with a row. Returns false, as `compare` does for a wrong reply.
-pub fn wrong(rt: &impl Print, place: Place, row: &str, why: &str) -> io::Result<bool> {
+pub fn wrong<D: Display + Drop>(
+    rt: &impl Print,
+    place: Place,
+    row: &str,
+    why: D,
+) -> io::Result<bool> {
     print_place(rt, place)?;
     println!(rt; "    {row}: {why}")?;
     Ok(false)

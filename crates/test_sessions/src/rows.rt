@@ -5,7 +5,8 @@ use crate::notes::Notes;
 use crate::own::own_reply;
 use crate::place::{Counts, Place, Row, compare, wrong};
 use std::alloc::Global;
-use std::{io, slice};
+use std::fmt::{self, Display, Formatter};
+use std::io;
 use tendril_block::Refusal;
 use tendril_lines::parse;
 
@@ -27,116 +28,147 @@ pub fn play_twice<T: Lined, U: Lined>(
     file: &str,
     text: &str,
 ) -> io::Result<Counts> {
-    let mut notes = Notes::new(rt.alloc())?;
-    let mut counts = play_file::<T>(rt, file, text, Call::Step, &mut notes)?;
+    let mut play = Play {
+        call: Call::Step,
+        notes: Notes::new(rt.alloc())?,
+        counts: Counts::none(),
+    };
+    play.file::<T>(rt, file, text)?;
+    let mut counts = play.counts;
     if counts.all_right() {
-        notes.play_again();
-        counts.add_again(play_file::<U>(rt, file, text, Call::Run, &mut notes)?);
+        play.call = Call::Run;
+        play.notes.play_again();
+        play.counts = Counts::none();
+        play.file::<U>(rt, file, text)?;
+        counts.add_again(play.counts);
     }
     Ok(counts)
 }
 
-// Plays each session of a file on a table of its own.
-fn play_file<T: Lined>(
-    rt: &(impl Print + AllocGlobal),
-    file: &str,
-    text: &str,
+/// A file that is played row by row.
+#[derive(Drop)]
+struct Play {
     call: Call,
-    notes: &mut Notes,
-) -> io::Result<Counts> {
-    let mut counts = Counts::none();
-    let mut place = Place::first(file, WAY);
-    for session in text.split("\n\n") {
-        play_session::<T>(rt, place, session, call, notes, &mut counts)?;
-        place = place.after(session);
-    }
-    Ok(counts)
+    notes: Notes,
+    counts: Counts,
 }
 
-fn play_session<T: Lined>(
-    rt: &(impl Print + AllocGlobal),
-    place: Place,
-    session: &str,
-    call: Call,
-    notes: &mut Notes,
-    counts: &mut Counts,
-) -> io::Result<()> {
-    let mut player = Player::<T>::new(rt.alloc());
-    notes.add(&player.table)?;
-    for (index, line) in session.lines().enumerate() {
-        if !line.starts_with('#') {
-            counts.add_row();
-            if !play_row(
-                rt,
-                &mut player,
-                place.down(index),
-                line,
-                call,
-                notes,
-                counts,
-            )? {
-                counts.add_wrong();
+impl Play {
+    // Plays each session of a file on a table of its own.
+    fn file<T: Lined>(
+        &mut self,
+        rt: &(impl Print + AllocGlobal),
+        file: &str,
+        text: &str,
+    ) -> io::Result<()> {
+        let mut place = Place::first(file, WAY);
+        for session in text.split("\n\n") {
+            self.session::<T>(rt, place, session)?;
+            place = place.after(session);
+        }
+        Ok(())
+    }
+
+    fn session<T: Lined>(
+        &mut self,
+        rt: &(impl Print + AllocGlobal),
+        place: Place,
+        session: &str,
+    ) -> io::Result<()> {
+        let mut player = Player::<T>::new(rt.alloc());
+        self.notes.add(&player.table)?;
+        for (index, line) in session.lines().enumerate() {
+            if !line.starts_with('#') {
+                self.counts.add_row();
+                if !self.row(rt, &mut player, place.down(index), line)? {
+                    self.counts.add_wrong();
+                }
             }
         }
+        self.counts.add_session();
+        Ok(())
     }
-    counts.add_session();
-    Ok(())
-}
 
-// Plays one row, as often as it says. Returns whether all is as expected.
-fn play_row<T: Lined>(
-    rt: &(impl Print + AllocGlobal),
-    player: &mut Player<T>,
-    place: Place,
-    line: &str,
-    call: Call,
-    notes: &mut Notes,
-    counts: &mut Counts,
-) -> io::Result<bool> {
-    let Some(row) = Row::read(line) else {
-        return wrong(rt, place, line, "no reply");
-    };
-    for _ in 0..row.times {
-        if !play_once(rt, player, place, row, call, notes, counts)? {
-            return Ok(false);
+    // Plays one row, as often as it says. Returns whether all is as expected.
+    fn row<T: Lined>(
+        &mut self,
+        rt: &(impl Print + AllocGlobal),
+        player: &mut Player<T>,
+        place: Place,
+        line: &str,
+    ) -> io::Result<bool> {
+        let Some(row) = Row::read(line) else {
+            return wrong(rt, place, line, "no reply");
+        };
+        for _ in 0..row.times {
+            if !self.once(rt, player, place, row)? {
+                return Ok(false);
+            }
+            if !self.notes.add(&player.table)? {
+                return wrong(
+                    rt,
+                    place,
+                    row.line,
+                    "another kind of table holds something else",
+                );
+            }
         }
-        if !notes.add(&player.table)? {
+        Ok(true)
+    }
+
+    fn once<T: Lined>(
+        &mut self,
+        rt: &(impl Print + AllocGlobal),
+        player: &mut Player<T>,
+        place: Place,
+        row: Row,
+    ) -> io::Result<bool> {
+        match self.reply_to(rt.alloc(), player, row.line) {
+            Ok(reply) => return compare(rt, place, row, reply.as_str()),
+            Err(Unplayed::NoMemory) => self.counts.add_refused(),
+            Err(why) => return wrong(rt, place, row.line, why),
+        }
+        if !self.notes.is_last(&player.table)? {
             return wrong(
                 rt,
                 place,
                 row.line,
-                "another kind of table holds something else",
+                "it got no memory, and the table has changed",
             );
         }
+        match self.reply_to(rt.alloc(), player, row.line) {
+            Ok(reply) => compare(rt, place, row, reply.as_str()),
+            Err(why) => wrong(rt, place, row.line, why),
+        }
     }
-    Ok(true)
-}
 
-fn play_once<T: Lined>(
-    rt: &(impl Print + AllocGlobal),
-    player: &mut Player<T>,
-    place: Place,
-    row: Row,
-    call: Call,
-    notes: &mut Notes,
-    counts: &mut Counts,
-) -> io::Result<bool> {
-    match reply_to(rt.alloc(), player, row.line, call, counts) {
-        Ok(reply) => return compare(rt, place, row, reply.as_str()),
-        Err(Unplayed::NoMemory) => counts.add_refused(),
-        Err(why) => return wrong(rt, place, row.line, why.words()),
-    }
-    if !notes.is_last(&player.table)? {
-        return wrong(
-            rt,
-            place,
-            row.line,
-            "it got no memory, and the table has changed",
-        );
-    }
-    match reply_to(rt.alloc(), player, row.line, call, counts) {
-        Ok(reply) => compare(rt, place, row, reply.as_str()),
-        Err(why) => wrong(rt, place, row.line, why.words()),
+    // The reply to a line. If the reply's text gets no memory, it is printed again.
+    fn reply_to<T: Lined>(
+        &mut self,
+        alloc: Global,
+        player: &mut Player<T>,
+        line: &str,
+    ) -> Result<String, Unplayed> {
+        let Some(command) = parse::<T::Command>(alloc, line.as_bytes()).map_err(why_unplayed)?
+        else {
+            return reply_to_other(alloc, player, line).map_err(why_unplayed);
+        };
+        let mut commands = Vec::new(alloc);
+        commands.push(command).map_err(|_| Unplayed::NoMemory)?;
+        let reply = match carry_out(player, commands.as_slice(), self.call) {
+            Ok(reply) => reply,
+            Err(_) if player.is_silent() && !line.starts_with("text ") => {
+                return Err(Unplayed::Allocated);
+            }
+            Err(refusal) => return Err(why_unplayed(refusal)),
+        };
+        match T::print(alloc, &reply) {
+            Ok(text) => Ok(text),
+            Err(_) => {
+                self.counts.add_refused();
+                T::print(alloc, &reply).map_err(why_unplayed)
+            }
+        }
     }
 }
 
@@ -146,16 +178,16 @@ enum Unplayed {
     NoMemory,
     /// A command that may not allocate did.
     Allocated,
-    /// The player has no such line, or its words are wrong.
-    NoLine,
+    /// A line of the player's own has a wrong word, or returned this error.
+    Refused(Refusal),
 }
 
-impl Unplayed {
-    fn words(self) -> &'static str {
+impl Display for Unplayed {
+    fn fmt<W: fmt::Write>(&self, f: &mut Formatter<W>) -> fmt::Result {
         match self {
-            Unplayed::NoMemory => "it got no memory twice",
-            Unplayed::Allocated => "it allocated",
-            Unplayed::NoLine => "no such line",
+            Unplayed::NoMemory => f.write_str("it got no memory twice"),
+            Unplayed::Allocated => f.write_str("it allocated"),
+            Unplayed::Refused(refusal) => write!(f, "refused {refusal}"),
         }
     }
 }
@@ -163,38 +195,7 @@ impl Unplayed {
 fn why_unplayed(refusal: Refusal) -> Unplayed {
     match refusal {
         Refusal::Memory => Unplayed::NoMemory,
-        _ => Unplayed::NoLine,
-    }
-}
-
-// The reply to a line. If the reply's text gets no memory, it is printed again.
-fn reply_to<T: Lined>(
-    alloc: Global,
-    player: &mut Player<T>,
-    line: &str,
-    call: Call,
-    counts: &mut Counts,
-) -> Result<String, Unplayed> {
-    let Some(command) = parse::<T::Command>(alloc, line.as_bytes()).map_err(why_unplayed)? else {
-        return reply_to_other(alloc, player, line);
-    };
-    let mut commands = Vec::new(alloc);
-    if commands.push(command).is_err() {
-        return Err(Unplayed::NoMemory);
-    }
-    let reply = match carry_out(player, commands.as_slice(), call) {
-        Ok(reply) => reply,
-        Err(_) if player.is_silent() && !line.starts_with("text ") => {
-            return Err(Unplayed::Allocated);
-        }
-        Err(refusal) => return Err(why_unplayed(refusal)),
-    };
-    match T::print(alloc, &reply) {
-        Ok(text) => Ok(text),
-        Err(_) => {
-            counts.add_refused();
-            T::print(alloc, &reply).map_err(why_unplayed)
-        }
+        _ => Unplayed::Refused(refusal),
     }
 }
 
@@ -220,9 +221,9 @@ fn reply_to_other<T: Lined>(
     alloc: Global,
     player: &mut Player<T>,
     line: &str,
-) -> Result<String, Unplayed> {
-    match own_reply(alloc, player, line).map_err(why_unplayed)? {
-        Some(text) => Ok(text),
-        None => String::from_str(alloc, "malformed").map_err(|_| Unplayed::NoMemory),
+) -> Result<String, Refusal> {
+    match own_reply(alloc, player, line)? {
+        Some(reply) => Ok(reply),
+        None => Ok(String::from_str(alloc, "malformed")?),
     }
 }

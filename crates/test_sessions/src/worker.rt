@@ -2,7 +2,7 @@
 
 use crate::class::Counting;
 use crate::lined::Lined;
-use crate::once::{Rows, add, compare_all, failed};
+use crate::once::{Rows, add, compare_all, out_of_memory};
 use crate::place::{Place, Row, wrong};
 use crate::slots::write_slots;
 use std::alloc::Global;
@@ -101,7 +101,7 @@ fn add_row<'a>(
     rows.clear();
     match run(&mut job.table, commands.as_slice(), &job.class) {
         Ok(_) if job.table.len() == 1 => Ok(()),
-        _ => Err(failed(Refusal::Memory)),
+        _ => Err(out_of_memory(Refusal::Memory)),
     }
 }
 

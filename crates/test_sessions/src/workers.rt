@@ -3,7 +3,7 @@
 
 use crate::class::Counting;
 use crate::lined::{Lined, Player};
-use crate::once::{Rows, add, compare_all, failed};
+use crate::once::{Rows, add, compare_all, out_of_memory};
 use crate::place::{Place, Row, wrong};
 use rope::{RopeCommand, RopeReply, RopeTable};
 use std::alloc::Global;
@@ -46,7 +46,7 @@ impl InThreads for Table<Atomic> {
         jobs.push(job(alloc, second))?;
         let mut outcomes = match run_tables(rt, alloc, jobs) {
             Ok(outcomes) => outcomes,
-            Err((refusal, _)) => return Err(failed(refusal)),
+            Err((refusal, _)) => return Err(out_of_memory(refusal)),
         };
         match (outcomes.pop(), outcomes.pop()) {
             (Some(Outcome::Done(_, second)), Some(Outcome::Done(_, first))) => {

@@ -11,14 +11,14 @@ pub fn reply<A: Atomicity>(
     verb: &str,
     words: &str,
 ) -> Result<Option<String>, Refusal> {
-    let string = string_of(words);
+    let bytes = string_of(words).as_bytes();
     let block = match verb {
-        "block" => make::<A>(alloc, string.as_bytes())?,
-        "block_own" => own::<A>(make::<A>(alloc, string.as_bytes())?)?,
-        "block_grow" => grow::<A>(make::<A>(alloc, string.as_bytes())?)?,
-        "block_sole" => again::<A>(make::<A>(alloc, string.as_bytes())?)?,
-        "block_mut" => changed::<A>(make::<A>(alloc, string.as_bytes())?)?,
-        "block_full" => full::<A>(make::<A>(alloc, string.as_bytes())?)?,
+        "block" => make::<A>(alloc, bytes)?,
+        "block_own" => own::<A>(make::<A>(alloc, bytes)?)?,
+        "block_grow" => grow::<A>(make::<A>(alloc, bytes)?, bytes)?,
+        "block_sole" => again::<A>(make::<A>(alloc, bytes)?, bytes)?,
+        "block_mut" => changed::<A>(make::<A>(alloc, bytes)?)?,
+        "block_full" => full::<A>(make::<A>(alloc, bytes)?)?,
         _ => return Ok(None),
     };
     match str::from_utf8(A::bytes(&block)) {
@@ -69,50 +69,57 @@ fn changed<A: Atomicity>(mut block: A::Block) -> Result<A::Block, Refusal> {
 }
 
 // Reserves capacity, and appends forty bytes four times.
-fn grow<A: Atomicity>(mut block: A::Block) -> Result<A::Block, Refusal> {
-    let len = A::bytes(&block).len();
+fn grow<A: Atomicity>(mut block: A::Block, bytes: &[u8]) -> Result<A::Block, Refusal> {
     let grown = match A::alone_mut(&mut block) {
         Some(body) => body.reserve(100),
         None => Err(Refusal::Invalid),
     };
     match grown {
-        Ok(()) => append::<A>(block),
-        Err(refusal) if A::bytes(&block).len() == len => Err(refusal),
+        Ok(()) => append::<A>(block, bytes),
+        Err(refusal) if A::bytes(&block) == bytes => Err(refusal),
         Err(_) => Err(Refusal::Invalid),
     }
 }
 
-fn append<A: Atomicity>(mut block: A::Block) -> Result<A::Block, Refusal> {
-    for _ in 0..4 {
-        let len = A::bytes(&block).len();
+const FORTY: &[u8] = b"0123456789012345678901234567890123456789";
+
+fn append<A: Atomicity>(mut block: A::Block, bytes: &[u8]) -> Result<A::Block, Refusal> {
+    for appended in 0..4 {
         let grown = match A::alone_mut(&mut block) {
-            Some(body) => body.append(b"0123456789012345678901234567890123456789"),
+            Some(body) => body.append(FORTY),
             None => Err(Refusal::Invalid),
         };
-        if let Err(refusal) = grown {
-            return Err(if A::bytes(&block).len() == len {
-                refusal
-            } else {
-                Refusal::Invalid
-            });
+        match grown {
+            Ok(()) => {}
+            Err(refusal) if has_appended(A::bytes(&block), bytes, appended) => return Err(refusal),
+            Err(_) => return Err(Refusal::Invalid),
         }
     }
     Ok(block)
 }
 
+// Whether a block holds these bytes, and then forty bytes so many times.
+fn has_appended(block: &[u8], bytes: &[u8], appended: usize) -> bool {
+    let mut rest = block.strip_prefix(bytes);
+    for _ in 0..appended {
+        rest = rest.and_then(|rest| rest.strip_prefix(FORTY));
+    }
+    rest.is_some_and(|rest| rest.is_empty())
+}
+
 // Takes the bytes out of a block with one reference, and creates a block of them.
-fn again<A: Atomicity>(block: A::Block) -> Result<A::Block, Refusal> {
+fn again<A: Atomicity>(block: A::Block, bytes: &[u8]) -> Result<A::Block, Refusal> {
     match A::into_sole(block) {
-        Ok(sole) => back::<A>(sole),
+        Ok(sole) => back::<A>(sole, bytes),
         Err(_) => Err(Refusal::Invalid),
     }
 }
 
-fn back<A: Atomicity>(sole: Sole) -> Result<A::Block, Refusal> {
+fn back<A: Atomicity>(sole: Sole, bytes: &[u8]) -> Result<A::Block, Refusal> {
     match A::from_sole(sole) {
         Ok(block) => Ok(block),
-        Err((refusal, sole)) if sole.as_slice().is_empty() => Err(Refusal::Invalid),
-        Err((refusal, _)) => Err(refusal),
+        Err((refusal, sole)) if sole.as_slice() == bytes => Err(refusal),
+        Err(_) => Err(Refusal::Invalid),
     }
 }
 

@@ -17,7 +17,7 @@ pub fn string<A: Atomicity>(
     let made = match verb {
         "from_slice" => Tendril::<UTF8, A>::from_slice(alloc, string),
         "from_str" => Tendril::<UTF8, A>::from_str(alloc, string),
-        "str_to_tendril" => sent(str_to_tendril(alloc, string)?),
+        "str_to_tendril" => round_trip(str_to_tendril(alloc, string)?),
         "from_string" => Tendril::<UTF8, A>::from_string(alloc, roomy_string(alloc, words)?),
         "from_chars" => Tendril::<UTF8, A>::from_chars(alloc, string.chars()),
         "from_char" => Tendril::<UTF8, A>::from_char(alloc, string.chars().next().unwrap_or('?')),
@@ -51,9 +51,9 @@ pub fn bytes<A: Atomicity>(
 ) -> Result<Option<Tendril<Bytes, A>>, Refusal> {
     let bytes = string_of(words).as_bytes();
     let made = match verb {
-        "slice_to_tendril" => sent(slice_to_tendril(alloc, bytes)?),
-        "sent" => sent(roomy_text::<A>(alloc, words)?),
-        "sent_after_clone" => sent(cloned(Tendril::<Bytes, A>::from_slice(alloc, bytes)?)?),
+        "slice_to_tendril" => round_trip(slice_to_tendril(alloc, bytes)?),
+        "sent" => round_trip(roomy_text::<A>(alloc, words)?),
+        "sent_after_clone" => round_trip(cloned(Tendril::<Bytes, A>::from_slice(alloc, bytes)?)?),
         "from_byte_slice" => Tendril::<Bytes, A>::from_slice(alloc, bytes),
         "from_byte_slice_without_validating" => {
             Tendril::from_byte_slice_without_validating(alloc, bytes)
@@ -80,7 +80,7 @@ fn cloned<A: Atomicity>(text: Tendril<Bytes, A>) -> Result<Tendril<Bytes, A>, Re
 }
 
 // Makes a text sendable and converts it back. It is the only reference to its block, so this allocates nothing.
-fn sent<F: Format, A: Atomicity, B: Atomicity>(
+fn round_trip<F: Format, A: Atomicity, B: Atomicity>(
     text: Tendril<F, A>,
 ) -> Result<Tendril<F, B>, Refusal> {
     match text.into_send() {

@@ -64,8 +64,9 @@ impl<A: Atomicity> Stream<A> {
         self.calls.get().is_out_of_memory
     }
 
-    /// Whether the decoder, if there is one, returns `Failed` from now on and doesn't call its sink.
-    pub fn has_failed(&mut self) -> bool {
+    /// Ends the decoder, if there is one, after a piece and an error. Returns whether each of these calls returned
+    /// `Failed`, and none called its sink.
+    pub fn ends_failed(&mut self) -> bool {
         let calls = self.calls.get().count;
         let Some(mut decoder) = self.decoder.take() else {
             return true;

@@ -110,7 +110,9 @@ impl<A: Atomicity> Stream<A> {
         reply: &mut Reply,
     ) -> Result<(), Refusal> {
         let (path, max_reads) = words.split_once(' ').unwrap_or((words, ""));
-        let max_reads = max_reads.parse::<u64>().unwrap_or(0);
+        let Ok(max_reads) = max_reads.parse::<u64>() else {
+            return reply.item("malformed");
+        };
         match text_of_file::<A>(files, self.alloc, path, max_reads) {
             Ok(text) => reply.text(&text),
             Err(refusal) => decode_stopped(refusal, reply),

@@ -1,7 +1,7 @@
 //! Sessions of streams, row by row. A row that gets no memory is played again; if the decoder's sink got none, so is
 //! the session.
 
-use crate::once::failed;
+use crate::once::out_of_memory;
 use crate::place::{Counts, Place, Row, compare, wrong};
 use crate::stream::Stream;
 use crate::stream::reply::Reply;
@@ -41,7 +41,7 @@ fn play_session<A: Atomicity>(
     reply: &mut Reply,
     counts: &mut Counts,
 ) -> io::Result<bool> {
-    let mut stream = Stream::<A>::new(rt.alloc()).map_err(failed)?;
+    let mut stream = Stream::<A>::new(rt.alloc()).map_err(out_of_memory)?;
     for (index, line) in session.lines().enumerate() {
         if !line.starts_with('#') {
             counts.add_row();
@@ -89,11 +89,11 @@ fn play_once<A: Atomicity>(
     if stream.answer(rt, row.line, reply).is_err() {
         counts.add_refused();
         reply.clear();
-        stream.answer(rt, row.line, reply).map_err(failed)?;
+        stream.answer(rt, row.line, reply).map_err(out_of_memory)?;
     }
     let right = if !stream.is_out_of_memory() {
         compare(rt, place, row, reply.as_str())?
-    } else if is_beginning(reply.as_str(), row.expected) && stream.has_failed() {
+    } else if is_beginning(reply.as_str(), row.expected) && stream.ends_failed() {
         counts.add_refused();
         return Ok(false);
     } else {
