@@ -1,5 +1,5 @@
-//! Tests of formats, texts, blocks and streams that no line of a session can express; and `Notes`, in which tests
-//! collect differences from the expected.
+//! Tests of formats, texts, blocks and streams that no line of a session can express; and `Notes`, in which a test
+//! notes the first difference from the expected, to fail with it at its end.
 #![tactic(auto)]
 
 mod notes;

@@ -1,4 +1,4 @@
-//! Notes of differences from the expected. A test that notes one continues, and fails at its end.
+//! The first difference from the expected. A test that notes one continues, and fails at its end.
 
 use std::fmt::{Debug, Display, InlineText};
 use std::test::Fail;
@@ -6,7 +6,7 @@ use std::test::Fail;
 /// The maximal length of a note, in bytes. Longer ones are cut.
 const LONGEST: usize = 400;
 
-/// The first difference from the expected. It can't be dropped, so a test has to call `end`.
+/// The first difference from the expected; later ones aren't kept. It can't be dropped, so a test has to call `end`.
 pub struct Notes {
     first: Option<InlineText<LONGEST>>,
 }
@@ -65,7 +65,7 @@ impl Notes {
         }
     }
 
-    /// Fails with the first note, if there is one.
+    /// Fails with the note, if there is one.
     pub fn end(self) -> Result<(), Fail> {
         let Notes { first } = self;
         match first {

@@ -1,7 +1,8 @@
 //! Each file tests one subject, over both kinds of block. Expected values come from Unicode's tables, from std, or from
 //! rows written by hand, never from what the calls returned.
 //!
-//! A test notes failures and reports them at its end: each early return would be one more path to prove.
+//! A test notes its first failure, continues, and reports it at its end: each early return would be one more path to
+//! prove.
 
 mod blocks;
 mod classified;

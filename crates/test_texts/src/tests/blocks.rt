@@ -11,7 +11,7 @@ const DIGITS: &[u8] = b"0123456789";
 fn digits<A: Atomicity>(notes: &mut Notes, alloc: Global) -> Option<A::Block> {
     let bytes = notes.or(0, Vec::from_slice(alloc, DIGITS), Vec::new(alloc));
     let block = A::make(bytes).ok();
-    notes.holds(0, block.is_some(), "a block");
+    notes.holds(0, block.is_some(), "there is memory for a block");
     block
 }
 
@@ -25,7 +25,11 @@ fn fill<A: Atomicity>(
     let mut holders: Vec<A::Block> = Vec::new(alloc);
     for _ in 0..most {
         match A::share(block) {
-            Ok(holder) => notes.holds(0, holders.push(holder).is_ok(), "memory"),
+            Ok(holder) => notes.holds(
+                0,
+                holders.push(holder).is_ok(),
+                "there is memory for a reference",
+            ),
             Err(refusal) => return (Some(refusal), holders),
         }
     }
@@ -142,21 +146,5 @@ fn the_only_holder_writes(rt: HostRuntime) -> Result<(), Fail> {
     let mut notes = Notes::new();
     check_body::<NonAtomic>(&mut notes, rt.alloc());
     check_body::<Atomic>(&mut notes, rt.alloc());
-    notes.end()
-}
-
-#[test]
-fn refusals_print_their_number_and_name(rt: HostRuntime) -> Result<(), Fail> {
-    let mut notes = Notes::new();
-    let rows = [
-        (Refusal::TooLong, "1 TooLong"),
-        (Refusal::Io, "9 Io"),
-        (Refusal::NoSuchSlot, "13 NoSuchSlot"),
-    ];
-    for (row, (refusal, text)) in rows.iter().enumerate() {
-        let none = String::new(rt.alloc());
-        let printed = notes.or(row, format!(in rt.alloc(); "{refusal}"), none);
-        notes.same(row, printed.as_str(), *text);
-    }
     notes.end()
 }

@@ -124,7 +124,11 @@ fn characters_from_each_of_their_bytes(_rt: HostRuntime) -> Result<(), Fail> {
     let mut notes = Notes::new();
     for code in (0..0x11_0000).step_by(17).chain(BORDERS) {
         if let Some(character) = char::from_u32(code) {
-            notes.holds(code as usize, is_character_found(character), "it is found");
+            notes.holds(
+                code as usize,
+                is_character_found(character),
+                "the character is found from each of its bytes",
+            );
         }
     }
     notes.end()
@@ -134,7 +138,11 @@ fn characters_from_each_of_their_bytes(_rt: HostRuntime) -> Result<(), Fail> {
 fn each_surrogate_from_each_of_its_bytes(_rt: HostRuntime) -> Result<(), Fail> {
     let mut notes = Notes::new();
     for index in 0..0x800_u16 {
-        notes.holds(index as usize, is_surrogate_found(index), "it is found");
+        notes.holds(
+            index as usize,
+            is_surrogate_found(index),
+            "the surrogate is found from each of its bytes",
+        );
     }
     notes.end()
 }

@@ -88,16 +88,20 @@ fn every_scalar_has_its_bytes(_rt: HostRuntime) -> Result<(), Fail> {
     for code in 0..0x11_0000 {
         if let Some(character) = char::from_u32(code) {
             let row = code as usize;
-            notes.holds(row, has_its_bytes(character), "its bytes in UTF-8");
+            notes.holds(
+                row,
+                has_its_bytes(character),
+                "the character has its bytes in UTF-8",
+            );
             notes.holds(
                 row,
                 is_of_one_byte::<ASCII>(character, 0x80),
-                "its byte in ASCII",
+                "the character has its byte in ASCII, or none",
             );
             notes.holds(
                 row,
                 is_of_one_byte::<Latin1>(character, 0x100),
-                "its byte in Latin-1",
+                "the character has its byte in Latin-1, or none",
             );
         }
     }

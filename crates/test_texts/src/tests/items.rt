@@ -13,7 +13,7 @@ fn join_halves<A: Atomicity>(notes: &mut Notes, alloc: Global) {
     for half in [b"\xed\xa0\xbd", b"\xed\xb2\xa9", b"\xed\xa0\xbd"] {
         let half = Tendril::try_from_byte_slice(alloc, half);
         let half = notes.or(0, half, Tendril::new(alloc));
-        notes.holds(0, halves.push(half).is_ok(), "memory");
+        notes.holds(0, halves.push(half).is_ok(), "there is memory for a text");
     }
     let made = Tendril::<WTF8, A>::from_tendrils(alloc, halves.iter());
     let mut text = notes.or(1, made, Tendril::new(alloc));

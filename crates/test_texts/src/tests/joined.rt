@@ -34,12 +34,16 @@ fn surrogates_that_meet(_rt: HostRuntime) -> Result<(), Fail> {
     notes.same(0, fixup_of::<WTF8>(&LEAD[1..], &TRAIL[..3]), pair);
     notes.same(1, fixup_of::<WTF8>(LEAD, TRAIL), pair);
     // A trail before a lead, a lead before a lead, one side without a surrogate, empty sides.
-    notes.holds(2, is_plain::<WTF8>(&TRAIL[..3], &LEAD[1..]), "plain");
-    notes.holds(3, is_plain::<WTF8>(LEAD, &LEAD[1..]), "plain");
-    notes.holds(4, is_plain::<WTF8>(LEAD, &TRAIL[3..]), "plain");
-    notes.holds(5, is_plain::<WTF8>(&LEAD[..1], TRAIL), "plain");
-    notes.holds(6, is_plain::<WTF8>(&[], TRAIL), "plain");
-    notes.holds(7, is_plain::<WTF8>(LEAD, &[]), "plain");
+    notes.holds(
+        2,
+        is_plain::<WTF8>(&TRAIL[..3], &LEAD[1..]),
+        "no byte changes",
+    );
+    notes.holds(3, is_plain::<WTF8>(LEAD, &LEAD[1..]), "no byte changes");
+    notes.holds(4, is_plain::<WTF8>(LEAD, &TRAIL[3..]), "no byte changes");
+    notes.holds(5, is_plain::<WTF8>(&LEAD[..1], TRAIL), "no byte changes");
+    notes.holds(6, is_plain::<WTF8>(&[], TRAIL), "no byte changes");
+    notes.holds(7, is_plain::<WTF8>(LEAD, &[]), "no byte changes");
     notes.end()
 }
 
@@ -68,7 +72,11 @@ fn every_pair_is_joined_to_its_character(_rt: HostRuntime) -> Result<(), Fail> {
     let mut notes = Notes::new();
     for code in 0x1_0000..0x11_0000 {
         if let Some(character) = char::from_u32(code) {
-            notes.holds(code as usize, is_met(code, character), "it is joined");
+            notes.holds(
+                code as usize,
+                is_met(code, character),
+                "the pair is joined to its character",
+            );
         }
     }
     notes.end()
@@ -78,9 +86,9 @@ fn every_pair_is_joined_to_its_character(_rt: HostRuntime) -> Result<(), Fail> {
 fn the_other_formats_keep_their_bytes(_rt: HostRuntime) -> Result<(), Fail> {
     laws();
     let mut notes = Notes::new();
-    notes.holds(0, is_plain::<Bytes>(LEAD, TRAIL), "plain");
-    notes.holds(1, is_plain::<Latin1>(LEAD, TRAIL), "plain");
-    notes.holds(2, is_plain::<ASCII>(b"ab", b"c"), "plain");
-    notes.holds(3, is_plain::<UTF8>(b"ab", b"c"), "plain");
+    notes.holds(0, is_plain::<Bytes>(LEAD, TRAIL), "no byte changes");
+    notes.holds(1, is_plain::<Latin1>(LEAD, TRAIL), "no byte changes");
+    notes.holds(2, is_plain::<ASCII>(b"ab", b"c"), "no byte changes");
+    notes.holds(3, is_plain::<UTF8>(b"ab", b"c"), "no byte changes");
     notes.end()
 }

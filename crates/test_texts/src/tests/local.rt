@@ -83,8 +83,12 @@ fn ends_of_slices(_rt: HostRuntime) -> Result<(), Fail> {
         notes.same(row, utf8_ends(first, last), *in_utf8);
         notes.same(row, wtf8_ends(first, last), *in_wtf8);
     }
-    notes.holds(6, are_accepted::<Bytes>(b"\xFF"), "bytes are not looked at");
-    notes.holds(7, are_accepted::<Latin1>(b"\xFF"), "nor those of Latin-1");
-    notes.holds(8, are_accepted::<ASCII>(b"abc"), "nor those of ASCII");
+    notes.holds(6, are_accepted::<Bytes>(b"\xFF"), "FF is accepted in Bytes");
+    notes.holds(
+        7,
+        are_accepted::<Latin1>(b"\xFF"),
+        "FF is accepted in Latin-1",
+    );
+    notes.holds(8, are_accepted::<ASCII>(b"abc"), "abc is accepted in ASCII");
     notes.end()
 }

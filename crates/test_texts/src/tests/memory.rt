@@ -64,9 +64,9 @@ fn a_queue_holds_no_more_memory_the_longer_it_runs(rt: HostRuntime) -> Result<()
     let before = resident_pages(&rt);
     turn(&mut notes, &mut queue, 1_000_000);
     notes.same(1, queue.len32(), 128);
-    notes.holds(2, before > 0, "pages are told");
+    notes.holds(2, before > 0, "Linux reports the resident pages");
     // All pushed bytes together would be some 2000 pages.
     let more = resident_pages(&rt).saturating_sub(before);
-    notes.same(3, more.min(200), more);
+    notes.holds(3, more <= 200, "a million turns add at most 200 pages");
     notes.end()
 }

@@ -16,7 +16,7 @@ fn digit_run<A: Atomicity>(
 ) {
     match text.pop_front_char_run(|c: char| c.to_digit(10)) {
         Ok(Some((run, digit))) => notes.same(0, (run.as_str(), digit), expected),
-        _ => notes.holds(0, false, "a run"),
+        _ => notes.holds(0, false, "there is a run"),
     }
 }
 

@@ -2,12 +2,11 @@
 //! of errors.
 
 use crate::notes::Notes;
-use std::alloc::{AllocError, Global};
+use std::alloc::Global;
 use std::collections::{BTreeMap, HashMap};
 use std::convert::{AsSlice, AsStr};
 use std::default::MadeWith;
 use std::fmt::Debug;
-use std::io::{self, ErrorKind};
 use std::test::Fail;
 use tendril::block::Refusal;
 use tendril::fmt::{ASCII, Bytes, Format, UTF8};
@@ -194,19 +193,6 @@ fn names_of_refusals(rt: HostRuntime) -> Result<(), Fail> {
         let printed = notes.or(row, format!(in rt.alloc(); "{refusal}"), none);
         notes.same(row, printed.as_str(), *name);
     }
-    notes.end()
-}
-
-#[test]
-fn errors_that_become_refusals(rt: HostRuntime) -> Result<(), Fail> {
-    let mut notes = Notes::new();
-    let text = Tendril::<UTF8, NonAtomic>::new(rt.alloc());
-    notes.same(0, Refusal::from((Refusal::Count, text)), Refusal::Count);
-    notes.same(1, Refusal::from(AllocError), Refusal::Memory);
-    let error = io::Error::from(ErrorKind::OutOfMemory);
-    notes.same(2, Refusal::from(error), Refusal::Memory);
-    let error = io::Error::from(ErrorKind::NotFound);
-    notes.same(3, Refusal::from(error), Refusal::Io);
     notes.end()
 }
 

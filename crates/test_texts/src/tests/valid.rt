@@ -40,7 +40,7 @@ fn what_the_table_accepts(_rt: HostRuntime) -> Result<(), Fail> {
             notes.holds(
                 number as usize,
                 is_by_the_table(len, number),
-                "as the table has it",
+                "UTF-8 and WTF-8 accept what the table has",
             );
         }
     }

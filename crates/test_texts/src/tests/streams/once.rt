@@ -85,16 +85,32 @@ fn values_in_debug(rt: HostRuntime) -> Result<(), Fail> {
     let text = StrTendril::from_short_str(alloc, "a");
     let event: Event = Event::Text(text);
     let is_text = prints(&event, "Text(Tendril<UTF8>(inline: \"a\"))");
-    notes.holds(0, is_text, "a text that was sent");
+    notes.holds(0, is_text, "Debug prints a text that was sent");
     let fault: Event = Event::Error(CowStr::Borrowed("noise"));
-    notes.holds(1, prints(&fault, "Error(\"noise\")"), "an error");
+    notes.holds(
+        1,
+        prints(&fault, "Error(\"noise\")"),
+        "Debug prints an error",
+    );
     let none: Accumulate = Accumulate::new(alloc);
-    notes.holds(2, prints(&none, "Accumulate { events: [] }"), "a sink");
+    notes.holds(
+        2,
+        prints(&none, "Accumulate { events: [] }"),
+        "Debug prints a sink",
+    );
     let stopped: Stopped<Accumulate> = Stopped {
         refusal: Refusal::Io,
         sink: Some(none),
     };
-    notes.holds(3, prints(&stopped, "Stopped(Io)"), "where reading stopped");
-    notes.holds(4, Refusal::from(stopped) == Refusal::Io, "why it did");
+    notes.holds(
+        3,
+        prints(&stopped, "Stopped(Io)"),
+        "Debug prints where reading stopped",
+    );
+    notes.holds(
+        4,
+        Refusal::from(stopped) == Refusal::Io,
+        "the reason that reading stopped becomes its Refusal",
+    );
     notes.end()
 }

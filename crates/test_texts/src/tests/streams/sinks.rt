@@ -1,4 +1,4 @@
-//! A sink that returns an error from one of its calls, alone and behind a decoder. It isn't called again after that.
+//! A sink that returns an error from one of its calls. It isn't called again after that.
 
 use crate::notes::Notes;
 use std::alloc::Global;
