@@ -1,6 +1,5 @@
 //! The program on readers that give few bytes at a time or fail, and writers that fill up.
 
-mod arguments;
 mod listing;
 mod misuse;
 mod notes;

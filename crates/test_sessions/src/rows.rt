@@ -123,20 +123,20 @@ impl Play {
         place: Place,
         row: Row,
     ) -> io::Result<bool> {
-        match self.reply_to(rt.alloc(), player, row.line) {
-            Ok(reply) => return compare(rt, place, row, reply.as_str()),
-            Err(Unplayed::NoMemory) => self.counts.add_refused(),
-            Err(why) => return wrong(rt, place, row.line, why),
+        let mut reply = self.reply_to(rt.alloc(), player, row.line);
+        if let Err(Unplayed::NoMemory) = reply {
+            self.counts.add_refused();
+            if !self.notes.is_last(&player.table)? {
+                return wrong(
+                    rt,
+                    place,
+                    row.line,
+                    "it got no memory, and the table has changed",
+                );
+            }
+            reply = self.reply_to(rt.alloc(), player, row.line);
         }
-        if !self.notes.is_last(&player.table)? {
-            return wrong(
-                rt,
-                place,
-                row.line,
-                "it got no memory, and the table has changed",
-            );
-        }
-        match self.reply_to(rt.alloc(), player, row.line) {
+        match reply {
             Ok(reply) => compare(rt, place, row, reply.as_str()),
             Err(why) => wrong(rt, place, row.line, why),
         }

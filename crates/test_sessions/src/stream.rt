@@ -37,8 +37,8 @@ mod rows;
 mod script;
 mod text;
 
+use crate::own::number;
 use crate::words::read_bytes;
-use incomplete::{complete, kept};
 use recorder::{Calls, Recorder, Sent};
 use reply::Reply;
 pub use rows::play_streams;
@@ -46,12 +46,11 @@ use script::{Script, Step};
 use std::alloc::Global;
 use std::cell::Cell;
 use std::fs::Files;
-use std::mem;
 use std::rc::Rc;
 use tendril_block::{Atomicity, Refusal};
 use tendril_stream::Utf8LossyDecoder;
+use tendril_text::Tendril;
 use tendril_text::fmt::{Bytes, UTF8};
-use tendril_text::{IncompleteUtf8, Tendril};
 
 type Decoder<A> = Utf8LossyDecoder<Recorder<A>, A>;
 
@@ -96,85 +95,64 @@ impl<A: Atomicity> Stream<A> {
         line: &str,
         reply: &mut Reply,
     ) -> Result<(), Refusal> {
-        let (verb, rest) = line.split_once(' ').unwrap_or((line, ""));
-        match verb {
-            "piece" | "text" | "give" | "kept" => self.answer_bytes(verb, rest, reply),
-            "complete" | "hand" => self.answer_kept(verb, rest, reply),
-            "file" => self.file(files, rest, reply),
-            "lossy" if rest == "dropping" => self.lossy_dropping(reply),
-            "pieces" => self.pieces(rest, reply),
-            "refusing" | "read" | "collect" | "decode" | "hold" | "release" => {
-                match rest.parse::<u32>() {
-                    Ok(number) => self.answer_number(verb, number, reply),
-                    Err(_) => reply.item("malformed"),
-                }
-            }
-            _ if rest.is_empty() => self.answer_word(verb, reply),
-            _ => reply.item("malformed"),
+        match self.carry_out(files, line, reply) {
+            Err(Refusal::Invalid) => reply.item("malformed"),
+            outcome => outcome,
         }
     }
 
-    fn answer_word(&mut self, verb: &str, reply: &mut Reply) -> Result<(), Refusal> {
+    // Returns Invalid for a line that isn't in the table above.
+    fn carry_out(
+        &mut self,
+        files: &impl Files,
+        line: &str,
+        reply: &mut Reply,
+    ) -> Result<(), Refusal> {
+        let (verb, words) = line.split_once(' ').unwrap_or((line, ""));
         match verb {
-            "send" => {
-                let piece = mem::replace(&mut self.text, Tendril::new(self.alloc));
-                self.process(piece, reply)
-            }
+            "piece" => self.piece(words, reply),
+            "refusing" => self.refusing(number(words)?, reply),
+            "give" => self.give(words, reply),
+            "read" => self.read(number(words)?, reply),
+            "collect" => self.collect(number(words)?, reply),
+            "decode" => self.decode(number(words)?, reply),
+            "pieces" => self.pieces(words, reply),
+            "file" => self.file(files, words, reply),
+            "text" => self.set_text(words, reply),
+            "hold" => self.hold(number(words)?, reply),
+            "release" => self.release(number(words)?, reply),
+            "kept" => self.kept(words, reply),
+            "complete" => self.complete(words, reply),
+            "hand" => self.hand(words, reply),
+            _ => self.carry_out_word(line, reply),
+        }
+    }
+
+    // Carries out a line that names no bytes and no number.
+    fn carry_out_word(&mut self, line: &str, reply: &mut Reply) -> Result<(), Refusal> {
+        match line {
+            "send" => self.send(reply),
             "error" => self.error(reply),
             "end" => self.end(reply),
             "calls" => reply.item(self.calls.get().count),
-            "reads" => reply.item(self.script.reads),
             "interrupt" => self.step(Step::Interrupt, reply),
             "fail" => self.step(Step::Fail, reply),
+            "reads" => reply.item(self.script.reads),
             "held" => self.held(reply),
             "lossy" => self.lossy(reply),
+            "lossy dropping" => self.lossy_dropping(reply),
             "pop" => self.pop(reply),
-            _ => reply.item("malformed"),
+            _ => Err(Refusal::Invalid),
         }
     }
 
-    fn answer_number(&mut self, verb: &str, number: u32, reply: &mut Reply) -> Result<(), Refusal> {
-        match verb {
-            "refusing" => self.refusing(number, reply),
-            "read" => self.read(number, reply),
-            "collect" => self.collect(number, reply),
-            "decode" => self.decode(number, reply),
-            "hold" => self.hold(number, reply),
-            _ => self.release(number, reply),
-        }
+    // The bytes that the words spell.
+    fn bytes(&self, words: &str) -> Result<Vec<u8>, Refusal> {
+        read_bytes(self.alloc, words)?.ok_or(Refusal::Invalid)
     }
 
-    fn answer_bytes(&mut self, verb: &str, words: &str, reply: &mut Reply) -> Result<(), Refusal> {
-        let Some(bytes) = read_bytes(self.alloc, words)? else {
-            return reply.item("malformed");
-        };
-        match verb {
-            "piece" => {
-                let piece = Tendril::<Bytes, A>::from_slice(self.alloc, bytes.as_slice())?;
-                self.process(piece, reply)
-            }
-            "text" => {
-                self.text = Tendril::<Bytes, A>::from_slice(self.alloc, bytes.as_slice())?;
-                reply.item("ok")
-            }
-            "give" => self.step(Step::Give(bytes), reply),
-            _ => kept(bytes.as_slice(), reply),
-        }
-    }
-
-    fn answer_kept(&mut self, verb: &str, words: &str, reply: &mut Reply) -> Result<(), Refusal> {
-        let (held, input) = words.split_once(' ').unwrap_or((words, "-"));
-        let held = read_bytes(self.alloc, held)?;
-        let input = read_bytes(self.alloc, input)?;
-        let (Some(held), Some(input)) = (held, input) else {
-            return reply.item("malformed");
-        };
-        let Some(held) = IncompleteUtf8::new(held.as_slice()) else {
-            return reply.item("malformed");
-        };
-        match verb {
-            "complete" => complete(held, input.as_slice(), reply),
-            _ => self.hand(held, input.as_slice(), reply),
-        }
+    // A text of these bytes.
+    fn text_of(&self, words: &str) -> Result<Tendril<Bytes, A>, Refusal> {
+        Tendril::<Bytes, A>::from_slice(self.alloc, self.bytes(words)?.as_slice())
     }
 }

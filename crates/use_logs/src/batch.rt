@@ -32,7 +32,7 @@ impl TendrilSink<Text> for Batch {
     }
 
     fn error(&mut self, _words: CowStr<'static>) -> Result<(), Refusal> {
-        // So many reads as would overflow the count aren't made between two batches.
+        // It never saturates: no input has 2^64 broken sequences.
         self.replaced = self.replaced.saturating_add(1);
         Ok(())
     }

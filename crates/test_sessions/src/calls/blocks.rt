@@ -98,7 +98,7 @@ fn append<A: Atomicity>(mut block: A::Block, bytes: &[u8]) -> Result<A::Block, R
     Ok(block)
 }
 
-// Whether a block holds these bytes, and then forty bytes so many times.
+// Whether a block holds these bytes, followed by FORTY `appended` times.
 fn has_appended(block: &[u8], bytes: &[u8], appended: usize) -> bool {
     let mut rest = block.strip_prefix(bytes);
     for _ in 0..appended {

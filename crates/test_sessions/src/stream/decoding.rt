@@ -3,17 +3,24 @@
 use crate::stream::Stream;
 use crate::stream::reply::Reply;
 use std::borrow::CowStr;
+use std::mem;
 use tendril_block::{Atomicity, Refusal};
 use tendril_stream::TendrilSink;
 use tendril_text::Tendril;
 use tendril_text::fmt::Bytes;
 
 impl<A: Atomicity> Stream<A> {
-    pub(super) fn process(
-        &mut self,
-        piece: Tendril<Bytes, A>,
-        reply: &mut Reply,
-    ) -> Result<(), Refusal> {
+    pub(super) fn piece(&mut self, words: &str, reply: &mut Reply) -> Result<(), Refusal> {
+        let piece = self.text_of(words)?;
+        self.process(piece, reply)
+    }
+
+    pub(super) fn send(&mut self, reply: &mut Reply) -> Result<(), Refusal> {
+        let piece = mem::replace(&mut self.text, Tendril::new(self.alloc));
+        self.process(piece, reply)
+    }
+
+    fn process(&mut self, piece: Tendril<Bytes, A>, reply: &mut Reply) -> Result<(), Refusal> {
         let Some(decoder) = &mut self.decoder else {
             return reply.item("no decoder");
         };

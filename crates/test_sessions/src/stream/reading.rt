@@ -1,20 +1,24 @@
 //! Lines over a reader, and those that decode by one call.
 
+use crate::own::number;
 use crate::stream::joined::text_of_file;
 use crate::stream::reply::Reply;
 use crate::stream::script::{Script, Step};
 use crate::stream::{Decoder, Stream};
-use crate::words::{Hex, read_bytes};
+use crate::words::Hex;
 use std::fs::Files;
 use std::mem;
 use tendril_block::{Atomicity, Refusal};
 use tendril_stream::{
     Counted, Event, ReadExt, Stopped, decode_pieces, decode_reader, read_decoded,
 };
-use tendril_text::Tendril;
-use tendril_text::fmt::Bytes;
 
 impl<A: Atomicity> Stream<A> {
+    pub(super) fn give(&mut self, words: &str, reply: &mut Reply) -> Result<(), Refusal> {
+        let bytes = self.bytes(words)?;
+        self.step(Step::Give(bytes), reply)
+    }
+
     pub(super) fn step(&mut self, step: Step, reply: &mut Reply) -> Result<(), Refusal> {
         self.script.push(step)?;
         reply.item("ok")
@@ -78,11 +82,7 @@ impl<A: Atomicity> Stream<A> {
     pub(super) fn pieces(&mut self, words: &str, reply: &mut Reply) -> Result<(), Refusal> {
         let mut pieces = Vec::new(self.alloc);
         for word in words.split(' ') {
-            let Some(bytes) = read_bytes(self.alloc, word)? else {
-                return reply.item("malformed");
-            };
-            let piece = Tendril::<Bytes, A>::from_slice(self.alloc, bytes.as_slice())?;
-            pieces.push(piece)?;
+            pieces.push(self.text_of(word)?)?;
         }
         match decode_pieces(self.alloc, pieces) {
             Ok(events) => print_events(&events, reply),
@@ -110,9 +110,7 @@ impl<A: Atomicity> Stream<A> {
         reply: &mut Reply,
     ) -> Result<(), Refusal> {
         let (path, max_reads) = words.split_once(' ').unwrap_or((words, ""));
-        let Ok(max_reads) = max_reads.parse::<u64>() else {
-            return reply.item("malformed");
-        };
+        let max_reads = u64::from(number(max_reads)?);
         match text_of_file::<A>(files, self.alloc, path, max_reads) {
             Ok(text) => reply.text(&text),
             Err(refusal) => decode_stopped(refusal, reply),

@@ -17,97 +17,117 @@ pub fn play_streams<A: Atomicity>(
     file: &str,
     text: &str,
 ) -> io::Result<Counts> {
-    let mut reply = Reply::new(rt.alloc())?;
-    let mut counts = Counts::none();
+    let mut play = Play {
+        reply: Reply::new(rt.alloc())?,
+        counts: Counts::none(),
+    };
     let mut place = Place::first(file, WAY);
     for session in text.split("\n\n") {
-        if !play_session::<A>(rt, place, session, &mut reply, &mut counts)?
-            && !play_session::<A>(rt, place, session, &mut reply, &mut counts)?
-        {
-            wrong(rt, place, session, "its sink got no memory twice")?;
-            counts.add_wrong();
-        }
-        counts.add_session();
+        play.session::<A>(rt, place, session)?;
         place = place.after(session);
     }
-    Ok(counts)
+    Ok(play.counts)
 }
 
-// Returns whether the session was played to its end.
-fn play_session<A: Atomicity>(
-    rt: &(impl Files + Print + AllocGlobal),
-    place: Place,
-    session: &str,
-    reply: &mut Reply,
-    counts: &mut Counts,
-) -> io::Result<bool> {
-    let mut stream = Stream::<A>::new(rt.alloc()).map_err(out_of_memory)?;
-    for (index, line) in session.lines().enumerate() {
-        if !line.starts_with('#') {
-            counts.add_row();
-            if !play_row(rt, &mut stream, place.down(index), line, reply, counts)? {
+/// A file that is played row by row.
+#[derive(Drop)]
+struct Play {
+    /// The reply to the last row.
+    reply: Reply,
+    counts: Counts,
+}
+
+impl Play {
+    fn session<A: Atomicity>(
+        &mut self,
+        rt: &(impl Files + Print + AllocGlobal),
+        place: Place,
+        session: &str,
+    ) -> io::Result<()> {
+        if !self.rows::<A>(rt, place, session)? && !self.rows::<A>(rt, place, session)? {
+            wrong(rt, place, session, "its sink got no memory twice")?;
+            self.counts.add_wrong();
+        }
+        self.counts.add_session();
+        Ok(())
+    }
+
+    // Plays the rows of a session. Returns whether it was played to its end.
+    fn rows<A: Atomicity>(
+        &mut self,
+        rt: &(impl Files + Print + AllocGlobal),
+        place: Place,
+        session: &str,
+    ) -> io::Result<bool> {
+        let mut stream = Stream::<A>::new(rt.alloc()).map_err(out_of_memory)?;
+        for (index, line) in session.lines().enumerate() {
+            if !line.starts_with('#') {
+                self.counts.add_row();
+                if !self.row(rt, &mut stream, place.down(index), line)? {
+                    return Ok(false);
+                }
+            }
+        }
+        Ok(true)
+    }
+
+    // Plays one row, as often as it says. Returns whether the stream can go on.
+    fn row<A: Atomicity>(
+        &mut self,
+        rt: &(impl Files + Print),
+        stream: &mut Stream<A>,
+        place: Place,
+        line: &str,
+    ) -> io::Result<bool> {
+        let Some(row) = Row::read(line) else {
+            wrong(rt, place, line, "no reply")?;
+            self.counts.add_wrong();
+            return Ok(true);
+        };
+        for _ in 0..row.times {
+            if !self.once(rt, stream, place, row)? {
                 return Ok(false);
             }
         }
+        Ok(true)
     }
-    Ok(true)
-}
 
-// Plays one row, as often as it says. Returns whether the stream can go on.
-fn play_row<A: Atomicity>(
-    rt: &(impl Files + Print),
-    stream: &mut Stream<A>,
-    place: Place,
-    line: &str,
-    reply: &mut Reply,
-    counts: &mut Counts,
-) -> io::Result<bool> {
-    let Some(row) = Row::read(line) else {
-        wrong(rt, place, line, "no reply")?;
-        counts.add_wrong();
-        return Ok(true);
-    };
-    for _ in 0..row.times {
-        if !play_once(rt, stream, place, row, reply, counts)? {
-            return Ok(false);
+    // Returns whether the stream can go on. If its sink got no memory, what was sent to it before must be a prefix of
+    // what is expected, and the stream must have failed for good.
+    fn once<A: Atomicity>(
+        &mut self,
+        rt: &(impl Files + Print),
+        stream: &mut Stream<A>,
+        place: Place,
+        row: Row,
+    ) -> io::Result<bool> {
+        self.reply.clear();
+        if stream.answer(rt, row.line, &mut self.reply).is_err() {
+            self.counts.add_refused();
+            self.reply.clear();
+            stream
+                .answer(rt, row.line, &mut self.reply)
+                .map_err(out_of_memory)?;
         }
+        let reply = self.reply.as_str();
+        let right = if !stream.is_out_of_memory() {
+            compare(rt, place, row, reply)?
+        } else if is_beginning(reply, row.expected) && stream.ends_failed() {
+            self.counts.add_refused();
+            return Ok(false);
+        } else {
+            wrong(
+                rt,
+                place,
+                row.line,
+                "its sink got no memory, and the stream goes on",
+            )?
+        };
+        if !right {
+            self.counts.add_wrong();
+        }
+        Ok(true)
     }
-    Ok(true)
-}
-
-// Returns whether the stream can go on. If its sink got no memory, what was sent to it before must be a prefix of what
-// is expected, and the stream must have failed for good.
-fn play_once<A: Atomicity>(
-    rt: &(impl Files + Print),
-    stream: &mut Stream<A>,
-    place: Place,
-    row: Row,
-    reply: &mut Reply,
-    counts: &mut Counts,
-) -> io::Result<bool> {
-    reply.clear();
-    if stream.answer(rt, row.line, reply).is_err() {
-        counts.add_refused();
-        reply.clear();
-        stream.answer(rt, row.line, reply).map_err(out_of_memory)?;
-    }
-    let right = if !stream.is_out_of_memory() {
-        compare(rt, place, row, reply.as_str())?
-    } else if is_beginning(reply.as_str(), row.expected) && stream.ends_failed() {
-        counts.add_refused();
-        return Ok(false);
-    } else {
-        wrong(
-            rt,
-            place,
-            row.line,
-            "its sink got no memory, and the stream goes on",
-        )?
-    };
-    if !right {
-        counts.add_wrong();
-    }
-    Ok(true)
 }
 
 const SINK_REFUSED: &str = "refused 10 SinkRefused";

@@ -13,6 +13,11 @@ use tendril_text::{IncompleteUtf8, Tendril};
 const TEXTS: usize = 16;
 
 impl<A: Atomicity> Stream<A> {
+    pub(super) fn set_text(&mut self, words: &str, reply: &mut Reply) -> Result<(), Refusal> {
+        self.text = self.text_of(words)?;
+        reply.item("ok")
+    }
+
     pub(super) fn hold(&mut self, count: u32, reply: &mut Reply) -> Result<(), Refusal> {
         self.clones.reserve(count as usize)?;
         for _ in 0..count {
