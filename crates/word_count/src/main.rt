@@ -1,13 +1,15 @@
-//! Counts the words of standard input, then prints the parts of a text and the fields of a header.
+//! Counts the words of standard input, then prints the parts of a text, the fields of a header and what a sink counted.
 #![tactic(auto)]
 
 mod fields;
 mod parts;
+mod sink;
 #[cfg(test)]
 mod tests;
 
 use fields::print_fields;
 use parts::print_parts;
+use sink::print_counts;
 use std::alloc::Global;
 use std::collections::BTreeMap;
 use std::io::Read;
@@ -22,7 +24,8 @@ fn main(rt: HostRuntime) -> anyhow::Result<()> {
         println!(rt; "{word}: {times}")?;
     }
     print_parts(&rt)?;
-    print_fields(&rt)
+    print_fields(&rt)?;
+    print_counts(&rt)
 }
 
 // The number of occurrences of each word. Long words share the text's block.
