@@ -4,7 +4,7 @@ use Rattle.std.proofs.lemmas.List.{length-take-le, drop-drop}
 use Rattle.rope_text.specs.Fronts.{CutsLine}
 use Rattle.rope_text.specs.Ropes.{RopeText}
 use Rattle.rope_text.specs.Splits.{IsCutAt}
-use Rattle.tendril_text.specs.Splits.{TakesLine}
+use Rattle.tendril_fmt.specs.Cuts.{TakesLine}
 use Rattle.tendril_text.specs.TextLists.{DropsFront}
 
 -- a rope was cut after its line, and the line ending was dropped

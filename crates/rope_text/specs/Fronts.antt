@@ -21,8 +21,8 @@ use Rattle.tendril_errors.specs.declared.refusal.Refusal.{Refusal}
 use Rattle.rope_text.specs.Ropes.{RopeText}
 use Rattle.rope_text.specs.Splits.{IsCutAt, SplitMay}
 use Rattle.tendril_text.specs.Iterators.{PartComes}
-use Rattle.tendril_text.specs.Search.{EndsBefore}
-use Rattle.tendril_text.specs.Splits.{TakesLine}
+use Rattle.tendril_fmt.specs.Sets.{EndsBefore}
+use Rattle.tendril_fmt.specs.Cuts.{TakesLine}
 use Rattle.tendril_text.specs.TextLists.{DropsFront}
 
 -- a rope was cut before its first byte of the set, or at its end if it has none; it doesn't begin with that byte

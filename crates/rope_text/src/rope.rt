@@ -3,12 +3,12 @@
 //! Contracts see a `Rope<A>` as its bytes and its pieces: the texts, none of them empty, that have these bytes. The
 //! pieces are part of its value: from the bytes alone a contract couldn't say that a slice copies nothing, or how many
 //! pieces it has.
-ghost use Rattle.std.specs.Prelude.{◌≡◌, [], length};
+ghost use Rattle.std.specs.Prelude.{◌≡◌, ◌↔◌, [], length, IsTrue};
 
 mod compare;
 mod lines;
-mod list;
 mod part;
+mod pieces;
 mod place;
 mod pop;
 mod print;
@@ -86,5 +86,19 @@ impl<A: Atomicity> Rope<A> {
         ensures { result ≡ length self.now.bytes }
     {
         self.total
+    }
+
+    /// Returns whether the rope has no bytes, and so no pieces.
+    ///
+    /// ```
+    /// let mut rope = Rope::new(alloc);
+    /// rope.push_tendril(StrTendril::new(alloc))?;
+    /// assert_eq!(rt; rope.is_empty(), true);
+    /// ```
+    pub fn is_empty(&self) -> bool
+        ensures bytes { IsTrue result ↔ (self.now.bytes ≡ []) }
+        ensures pieces { IsTrue result ↔ (self.now.pieces ≡ []) }
+    {
+        self.total == 0
     }
 }

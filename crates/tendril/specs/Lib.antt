@@ -12,6 +12,9 @@ pub use Rattle.tendril_text.specs.Receivers
 pub use Rattle.tendril_text.specs.Items
 pub use Rattle.tendril_text.specs.Writes
 pub use Rattle.tendril_text.specs.Search
+pub use Rattle.tendril_fmt.specs.Cuts
+pub use Rattle.tendril_fmt.specs.Runs
+pub use Rattle.tendril_fmt.specs.Sets
 pub use Rattle.tendril_text.specs.Splits
 pub use Rattle.tendril_text.specs.TextLists
 pub use Rattle.tendril_text.specs.Trims
@@ -31,7 +34,7 @@ pub use Rattle.tendril_stream.specs.Lines
 pub use Rattle.tendril_lossy.specs.Lossy
 pub use Rattle.tendril_lossy.specs.Completions
 pub use Rattle.tendril_lossy.specs.declared.search.Ending
-pub use Rattle.tendril_text.specs.declared.byte_set.Members as SetMembers
+pub use Rattle.tendril_fmt.specs.declared.cuts.byte_set.Members as SetMembers
 pub use Rattle.tendril_errors.specs.Outcomes
 pub use Rattle.tendril_errors.specs.Refusals
 pub use Rattle.tendril_errors.specs.declared.refusal.Refusal

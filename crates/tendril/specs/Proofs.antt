@@ -2,8 +2,8 @@
 -- 16-bit units, what is sent to a sink, a sink after a decoder, and reading.
 pub use Rattle.tendril_fmt.proofs.Parts
 pub use Rattle.tendril_fmt.proofs.Splits
-pub use Rattle.tendril_text.proofs.SetBytes
-pub use Rattle.tendril_text.proofs.Splits as TextSplits
+pub use Rattle.tendril_fmt.proofs.SetBytes
+pub use Rattle.tendril_fmt.proofs.TextSplits
 pub use Rattle.tendril_fmt.proofs.UnitCounts
 pub use Rattle.tendril_fmt.proofs.UnitSplits
 pub use Rattle.tendril_fmt.proofs.Wtf8Joins

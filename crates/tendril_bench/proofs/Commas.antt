@@ -3,7 +3,7 @@ use Rattle.std.proofs.Common.{◌≡◌, ℕ, Bool, true, List, map, sym, subst,
 use Rattle.std.proofs.lemmas.List.Elements.{All-map, All-push}
 use Rattle.std.specs.Prelude.{All}
 use Rattle.std.specs.Str.Iter.{LacksByte}
-use Rattle.tendril.specs.Splits.{AreParts, LacksSet}
+use Rattle.tendril.specs.Cuts.{AreParts, LacksSet}
 
 -- a part without a byte of a set lacks each byte that is in the set
 lacks_one : (set : ℕ → Bool) (c : ℕ) → set c ≡ true → (part : List ℕ) → LacksSet set part → LacksByte c part

@@ -1,6 +1,6 @@
 //! The lines of a text.
 ghost use Rattle.std.specs.Prelude.{map, IfOk};
-ghost use Rattle.tendril.specs.Splits.{AreLines};
+ghost use Rattle.tendril.specs.Cuts.{AreLines};
 
 use std::alloc::Global;
 use tendril::StrTendril;

@@ -1,6 +1,6 @@
 //! A set of bytes in a constant.
 ghost use Rattle.std.specs.Prelude.{◌≡◌, ◌↔◌, ◌⊎◌, ℕ, true};
-ghost use Rattle.tendril.specs.Search.{has_byte};
+ghost use Rattle.tendril.specs.Sets.{has_byte};
 
 use tendril::{ByteSet, Members};
 

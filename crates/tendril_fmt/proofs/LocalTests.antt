@@ -17,7 +17,7 @@ use Rattle.tendril_fmt.specs.Local.{IsWhole, IsWholeOrSurrogate, StandsAccepted,
 use Rattle.tendril_fmt.specs.Local.{FrontTestIsWhole, EndTestIsWhole, SliceTestIsWhole}
 use Rattle.tendril_fmt.proofs.Parts.{last_of}
 use Rattle.tendril_fmt.specs.Proved.Cuts.{Opens, cut}
-use Rattle.tendril_fmt.proofs.Cuts.{cut_after, first_byte}
+use Rattle.tendril_fmt.proofs.CodePointCuts.{cut_after, first_byte}
 use Rattle.tendril_fmt.specs.Proved.Encodings.{IsCodePoint-scalar, IsScalar-from_bounds}
 use Rattle.tendril_fmt.specs.Proved.Units.{IsWtf8-from_points, points_of}
 use Rattle.tendril_fmt.specs.Proved.Unpaired.{AreUnpaired, AreUnpaired-points, AreUnpaired-front, AreUnpaired-end}

@@ -14,7 +14,7 @@ use Rattle.tendril_fmt.specs.Proved.Encodings.{chars-code_points}
 use Rattle.tendril_fmt.specs.Proved.Units.{code_points-units, pair_units, one_unit, wtf8-units, points_of}
 use Rattle.tendril_fmt.specs.Proved.Unpaired.{IsApart, IsApart-nil, AreUnpaired, AreUnpaired-points, AreUnpaired-append}
 use Rattle.tendril_fmt.specs.Proved.Cuts.{Opens, cut}
-use Rattle.tendril_fmt.proofs.Cuts.{first_byte}
+use Rattle.tendril_fmt.proofs.CodePointCuts.{first_byte}
 use Rattle.tendril_fmt.proofs.Parts.{last_of}
 
 flat-append : (xs ys : List ℕ) → flat_map encode_utf16 (xs ++ ys) ≡ flat_map encode_utf16 xs ++ flat_map encode_utf16 ys

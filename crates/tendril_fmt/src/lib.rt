@@ -6,5 +6,6 @@
 #![tactic(auto)]
 
 pub mod blocks;
+pub mod cuts;
 pub mod fmt;
 pub mod futf;

@@ -1,5 +1,5 @@
 -- Which bytes `utf8_error_len` reads, and what it returns for them.
-use Rattle.std.proofs.Common.{◌≡◌, ◌⊎◌, ℕ, suc, ◌-◌, ◌<◌, ◌≤◌, min, Bool, true, false, cond, nat_lt, List, length}
+use Rattle.std.proofs.Common.{◌≡◌, ◌⊎◌, ℕ, suc, ◌<◌, ◌≤◌, min, Bool, true, false, cond, nat_lt, List, length}
 use Rattle.std.proofs.Common.{slice_index, Some, None, refl, sym, ap, ap₂, subst, ◌∙◌, arith, inl, inr, ⊎_elim}
 use Rattle.std.proofs.Common.{true≢false}
 use Rattle.std.specs.Prelude.{Option, ◌==◌}

@@ -23,14 +23,7 @@ use Rattle.std.proofs.Common.{
 }
 use Rattle.std.specs.Prelude.{IsUtf8}
 use Rattle.std.proofs.Math.Seq.{take-append-add, drop-append-add}
-use Rattle.std.proofs.lemmas.List.{
-  length-append,
-  length-take-le,
-  length-drop,
-  take-append-drop,
-  take-append-le,
-  drop-append-le,
-}
+use Rattle.std.proofs.lemmas.List.{length-append, length-take-le, length-drop, take-append-drop, take-append-le}
 use Rattle.std.proofs.lemmas.Str.{IsUtf8-drop, IsCharBoundary-from_take}
 use Rattle.tendril_queue.proofs.Dropped.{valid_after}
 use Rattle.tendril_queue.proofs.Fronts.{all_bytes, all_none, first_some, leaves_first, loses}

@@ -36,9 +36,9 @@ use Rattle.tendril_queue.proofs.Fronts.{all_bytes, all_some, leaves_first, some_
 use Rattle.tendril_queue.specs.Lines.{HasFirstFeed, IsJoinedLine, JoinedLineMay, LineRefused, PopsLine, TakesFeed}
 use Rattle.tendril_queue.specs.Queues.{IsQueue, Queued, all_texts, queued_of}
 use Rattle.tendril_text.specs.Partings.{BothLong}
-use Rattle.tendril_text.proofs.Pieces.{lacks-append}
+use Rattle.tendril_fmt.proofs.Pieces.{lacks-append}
 use Rattle.tendril_text.proofs.TextLists.{joined-append, joined_more}
-use Rattle.tendril_text.specs.Splits.{EndsFirstLine, LacksFeed}
+use Rattle.tendril_fmt.specs.Cuts.{EndsFirstLine, LacksFeed}
 use Rattle.tendril_text.specs.TextLists.{DropsFront, bytes_of_all}
 use Rattle.tendril_text.specs.Texts.{Text, SplitCost}
 

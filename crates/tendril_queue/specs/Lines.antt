@@ -7,7 +7,7 @@ use Rattle.tendril_errors.specs.declared.refusal.Refusal.TheVariants.{TooLong}
 use Rattle.tendril_errors.specs.Outcomes.{MemoryMay}
 use Rattle.tendril_queue.specs.Queues.{Queued}
 use Rattle.tendril_text.specs.Partings.{BothLong}
-use Rattle.tendril_text.specs.Splits.{EndsFirstLine, EndsPart, LacksFeed, TakesEnded}
+use Rattle.tendril_fmt.specs.Cuts.{EndsFirstLine, EndsPart, LacksFeed, TakesEnded}
 use Rattle.tendril_text.specs.TextLists.{DropsFront, LeavesOfFirst, bytes_of_all}
 use Rattle.tendril_text.specs.Texts.{Text, SplitCost}
 

@@ -1,7 +1,7 @@
 //! Lines at the front of a queue, across its texts.
 ghost use Rattle.std.specs.Prelude.{◌≡◌, List, ℕ, length, IfSome, IfNone, IfOk, IfErr, OnErr};
 ghost use Rattle.tendril_queue.specs.Lines.{PopsLine, LineRefused, HasFirstFeed, IsJoinedLine, JoinedLineMay};
-ghost use Rattle.tendril_text.specs.Splits.{LacksFeed};
+ghost use Rattle.tendril_fmt.specs.Cuts.{LacksFeed};
 ghost use Rattle.tendril_text.specs.TextLists.{bytes_of_all};
 
 use crate::eat::drop_front;

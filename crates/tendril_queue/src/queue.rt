@@ -3,11 +3,11 @@
 //! Contracts see a `TextQueue<A>` as its bytes and the texts that have them. No text in it is empty.
 //!
 //! The first text is a field of its own, since nearly all calls read from it; in a `VecDeque` each would look it up.
-ghost use Rattle.std.specs.Prelude.{◌≡◌, ◌<◌, ◌↔◌, ◌++◌, ◌∷◌, [], ℕ, List, length, chars, encode_utf8, IsTrue};
-ghost use Rattle.std.specs.Prelude.{IfSome, IfNone, IfOk, IfErr, OnOk, OnErr, OnSome};
-ghost use Rattle.tendril_queue.specs.Queues.{all_texts, AreQueued, IsQueue};
-ghost use Rattle.tendril_queue.specs.Queues.{TakesFirst, HasLongFirst};
-ghost use Rattle.tendril_text.specs.Search.{has_byte, part_bytes};
+ghost use Rattle.std.specs.Prelude.{◌≡◌, ◌<◌, ◌↔◌, ◌++◌, ◌∷◌, [], ℕ, List, length, chars, encode_utf8, IsTrue, IfSome};
+ghost use Rattle.std.specs.Prelude.{IfNone, IfOk, IfErr, OnOk, OnErr, OnSome};
+ghost use Rattle.tendril_queue.specs.Queues.{all_texts, AreQueued, IsQueue, TakesFirst, HasLongFirst};
+ghost use Rattle.tendril_text.specs.Search.{part_bytes};
+ghost use Rattle.tendril_fmt.specs.Sets.{has_byte};
 ghost use Rattle.tendril_text.specs.TextLists.{unless_empty, DropsFront};
 
 use std::alloc::Global;

@@ -6,7 +6,8 @@ use Rattle.std.proofs.lemmas.List.Sums.{take_while-cons}
 use Rattle.std.specs.List.{FoldsTo, take_while}
 use Rattle.std.specs.Option.{MatchOption, IfSome, IfNone}
 use Rattle.std.specs.Result.{IfOk, IfErr, OnErr}
-use Rattle.tendril_text.specs.Characters.{SaysClass, SaysOther, IsAsked, IsRun, HasLongParts}
+use Rattle.tendril_text.specs.Characters.{HasLongParts}
+use Rattle.tendril_fmt.specs.Runs.{SaysClass, SaysOther, IsAsked, IsRun}
 use Rattle.tendril_errors.specs.declared.refusal.Refusal.{Refusal}
 use Rattle.tendril_errors.specs.declared.refusal.Refusal.TheVariants.{Count}
 use Rattle.tendril_fmt.specs.Chars.{encodings}

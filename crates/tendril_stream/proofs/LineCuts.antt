@@ -1,35 +1,7 @@
 -- Bytes with and without an LF.
-use Rattle.std.proofs.Common.{
-  ◌≡◌,
-  ◌↔◌,
-  ℕ,
-  ◌<◌,
-  Bool,
-  true,
-  false,
-  List,
-  [],
-  ◌∷◌,
-  ◌++◌,
-  length,
-  take,
-  drop,
-  IsTrue,
-  refl,
-  sym,
-  ap,
-  ap₂,
-  subst,
-  ◌∙◌,
-  arith,
-  inl,
-  inr,
-  append_assoc,
-  length-take-le,
-  length-drop,
-  take-append-drop,
-  true≢false,
-}
+use Rattle.std.proofs.Common.{◌≡◌, ◌↔◌, ℕ, ◌<◌, Bool, false, List, [], ◌∷◌, ◌++◌, length, take, drop, IsTrue, refl, sym}
+use Rattle.std.proofs.Common.{ap, ap₂, subst, ◌∙◌, arith, inl, inr, append_assoc, length-take-le, length-drop}
+use Rattle.std.proofs.Common.{take-append-drop, true≢false}
 use Rattle.std.proofs.lemmas.Str.{IsUtf8-append}
 use Rattle.std.specs.Prelude.{IfErr, IsUtf8, Result, Ok, Err}
 use Rattle.memchr.specs.Find.{is_byte}
@@ -39,8 +11,8 @@ use Rattle.tendril_errors.specs.Outcomes.{LengthMust, MemoryMay, NoneMust, Outco
 use Rattle.tendril_stream.specs.LineStarts.{CompletesLine}
 use Rattle.tendril_stream.specs.Lines.{HasLongNextLine, JoinStops}
 use Rattle.tendril_text.specs.Partings.{BothLong}
-use Rattle.tendril_text.proofs.Pieces.{lacks-append, line_some, whole_line}
-use Rattle.tendril_text.specs.Splits.{EndsFirstLine, IsWholeLine, LacksFeed}
+use Rattle.tendril_fmt.proofs.Pieces.{lacks-append, line_some, whole_line}
+use Rattle.tendril_fmt.specs.Cuts.{EndsFirstLine, IsWholeLine, LacksFeed}
 use Rattle.tendril_text.specs.Texts.{Text, PopCost}
 
 -- bytes without an LF before a whole line are part of the line

@@ -40,8 +40,8 @@ use Rattle.tendril_stream.specs.Lines.{
 }
 use Rattle.tendril_stream.specs.Sinks.{Sent, Piece, Fault, IsSent}
 use Rattle.memchr.specs.Find.{is_byte}
-use Rattle.tendril_text.proofs.Pieces.{lacks-nil}
-use Rattle.tendril_text.specs.Splits.{IsWholeLine}
+use Rattle.tendril_fmt.proofs.Pieces.{lacks-nil}
+use Rattle.tendril_fmt.specs.Cuts.{IsWholeLine}
 use Rattle.tendril_text.specs.TextLists.{bytes_of_all, listed_unless_empty}
 use Rattle.tendril_text.specs.Texts.{Text}
 

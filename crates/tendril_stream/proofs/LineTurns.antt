@@ -34,7 +34,7 @@ use Rattle.tendril_stream.specs.Lines.{JoinStops, StopsInLines, in_one_text}
 use Rattle.tendril_stream.specs.Sinks.{Sent, Piece, RefusesCall}
 use Rattle.tendril_text.proofs.Decoding.{part-through, rest-through}
 use Rattle.tendril_text.specs.Decoding.{IsRest}
-use Rattle.tendril_text.specs.Splits.{IsWholeLine}
+use Rattle.tendril_fmt.specs.Cuts.{IsWholeLine}
 use Rattle.tendril_text.specs.TextLists.{bytes_of_all}
 use Rattle.tendril_text.specs.Texts.{Text, PartCost}
 

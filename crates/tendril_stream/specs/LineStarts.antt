@@ -3,7 +3,7 @@ use Rattle.std.specs.Prelude.{◌≡◌, ◌<◌, ℕ, ◌⊎◌, List, [], ◌+
 use Rattle.tendril_errors.specs.declared.refusal.Refusal.{Refusal}
 use Rattle.tendril_fmt.specs.Parts.{IsEndOf}
 use Rattle.tendril_stream.specs.Lines.{HasLongNextLine, JoinStops}
-use Rattle.tendril_text.specs.Splits.{IsWholeLine, LacksFeed}
+use Rattle.tendril_fmt.specs.Cuts.{IsWholeLine, LacksFeed}
 use Rattle.tendril_text.specs.Texts.{Text, PartCost}
 
 -- The first line was removed from a text, and joined to what was kept. It shares the text's block if nothing was kept.

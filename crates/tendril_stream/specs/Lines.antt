@@ -9,7 +9,7 @@ use Rattle.tendril_fmt.specs.Parts.{IsEndOf, IsFrontOf}
 use Rattle.tendril_lossy.specs.Lossy.{Told}
 use Rattle.tendril_stream.specs.Sinks.{Sent, Piece, Fault, IsSent, RefusesCall, told}
 use Rattle.tendril_text.specs.Decoding.{IsRest}
-use Rattle.tendril_text.specs.Splits.{IsWholeLine, LacksFeed}
+use Rattle.tendril_fmt.specs.Cuts.{IsWholeLine, LacksFeed}
 use Rattle.tendril_text.specs.TextLists.{bytes_of_all, unless_empty}
 use Rattle.tendril_text.specs.Texts.{Text, PartCost}
 

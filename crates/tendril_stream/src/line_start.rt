@@ -4,7 +4,7 @@
 ghost use Rattle.std.specs.Prelude.{◌≡◌, ◌<◌, ◌++◌, [], length, IfOk, IfErr, OnOk, IsUtf8};
 ghost use Rattle.tendril_stream.specs.LineStarts.{CompletesLine, CompletionStops, KeepsMore};
 ghost use Rattle.tendril_stream.specs.Lines.{HasLongNextLine, JoinStops};
-ghost use Rattle.tendril_text.specs.Splits.{EndsFirstLine, LacksFeed};
+ghost use Rattle.tendril_fmt.specs.Cuts.{EndsFirstLine, LacksFeed};
 ghost use Rattle.tendril_text.specs.Texts.{Text};
 
 use std::alloc::Global;
@@ -20,7 +20,7 @@ pub(crate) struct LineStart<A: Atomicity> {
 }
 
 impl<A: Atomicity> Model for LineStart<A> {
-    ghost use Rattle.tendril_text.specs.Splits.{LacksFeed};
+    ghost use Rattle.tendril_fmt.specs.Cuts.{LacksFeed};
     ghost use Rattle.tendril_text.specs.Texts.{Text};
 
     ghost Value = { Text };

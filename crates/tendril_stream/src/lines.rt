@@ -2,7 +2,7 @@
 ghost use Rattle.std.specs.Prelude.{◌≡◌, ◌<◌, [], false, length, IfErr, OnOk};
 ghost use Rattle.tendril_stream.specs.Lines.{ComposesLines, SendsLast, SendsLines, StopsInLines};
 ghost use Rattle.tendril_stream.specs.Sinks.{Piece, RefusesCall};
-ghost use Rattle.tendril_text.specs.Splits.{LacksFeed};
+ghost use Rattle.tendril_fmt.specs.Cuts.{LacksFeed};
 
 use crate::line_start::LineStart;
 use crate::sending::send;

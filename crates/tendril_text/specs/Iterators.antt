@@ -23,7 +23,8 @@ use Rattle.tendril_errors.specs.declared.refusal.Refusal.{Refusal}
 use Rattle.tendril_errors.specs.declared.refusal.Refusal.TheVariants.{Count}
 use Rattle.tendril_storage.specs.Texts.{Text, PopCost, SplitCost}
 use Rattle.tendril_text.specs.declared.search.SetResult.{SetResult}
-use Rattle.tendril_text.specs.Characters.{AsksLongRun, AsksRun}
+use Rattle.tendril_text.specs.Characters.{AsksLongRun}
+use Rattle.tendril_fmt.specs.Runs.{AsksRun}
 use Rattle.tendril_text.specs.Search.{HasLongPartBefore, TakesPart, part_bytes}
 
 -- what is left of a text after `next` for a character: the text if it returned None, else the text after a pop

@@ -1,14 +1,15 @@
 //! Characters at the start and the end of texts, and runs of characters.
-ghost use Rattle.std.specs.Prelude.{◌≡◌, ◌<◌, ◌≤◌, ◌+◌, ◌-◌, ◌++◌, ◌∷◌, [], ℕ, List, length, drop, encode_utf8, IfSome};
-ghost use Rattle.std.specs.Prelude.{IfNone, IfOk, IfErr, OnErr, OnSome, IsOk, MatchOption};
-ghost use Rattle.tendril_text.specs.Characters.{AsksLongRun, AsksRun, EndsRun, HasLongParts, IsRun};
+ghost use Rattle.std.specs.Prelude.{◌≡◌, ◌<◌, ◌≤◌, ◌++◌, ◌∷◌, [], ℕ, List, length, encode_utf8, IfSome, IfNone, IfOk};
+ghost use Rattle.std.specs.Prelude.{IfErr, OnErr, OnSome, IsOk};
+ghost use Rattle.tendril_text.specs.Characters.{AsksLongRun, HasLongParts};
+ghost use Rattle.tendril_fmt.specs.Runs.{AsksRun, IsRun};
 ghost use Rattle.tendril_text.specs.Pushes.{Joins, JoinsChar};
 ghost use Rattle.tendril_storage.specs.Texts.{PopCost, SplitCost};
-ghost use Rattle.tendril_fmt.specs.Chars.{IsFirstChar};
 
 use crate::tendril::Tendril;
 use std::alloc::Global;
 use tendril_block::{Atomicity, INLINE_LEN, MAX_LEN, Refusal};
+use tendril_fmt::cuts::run_end;
 use tendril_fmt::fmt::{CharFormat, UTF8};
 
 impl<F: CharFormat, A: Atomicity> Tendril<F, A> {
@@ -166,40 +167,4 @@ impl<A: Atomicity> Tendril<UTF8, A> {
     {
         self.try_push_char(character)
     }
-}
-
-// Returns the end of the first run of characters of one class, and the class. It borrows the classifier, so that the
-// contract can state its final state: it was called once for each character of the run and the one after it, and for no
-// other.
-fn run_end<F: CharFormat, C: FnMut(char) -> R, R: PartialEq + Drop>(
-    bytes: &[u8],
-    classify: &mut C,
-) -> Option<(usize, R)>
-    requires valid { F.valid bytes.now }
-    requires callable { C.IsAlwaysCallable classify.old }
-    ensures ends { MatchOption result
-        ((bytes.now ≡ []) × (classify.new ≡ classify.old))
-        (λ found. EndsRun C.step R.eq F.valid F.chars classify.old found.1 bytes.now found.0 classify.new) }
-    ensures callable { C.IsAlwaysCallable classify.new }
-{
-    let (first, mut end) = F::first_char(bytes)?;
-    let class = classify(first);
-    while let Some((character, count)) = char_at::<F>(bytes, end) {
-        if class != classify(character) {
-            return Some((end, class));
-        }
-        end += count;
-    }
-    Some((end, class))
-}
-
-// The character at an offset that is between two characters.
-fn char_at<F: CharFormat>(bytes: &[u8], at: usize) -> Option<(char, usize)>
-    requires within { at ≤ length bytes.now }
-    requires valid { F.valid (drop at bytes.now) }
-    ensures first { IfSome result (λ found.
-        IsFirstChar F.valid F.chars F.encodes F.encoding (drop at bytes.now) found.0 found.1) }
-    ensures none { IfNone result (drop at bytes.now ≡ []) }
-{
-    F::first_char(&bytes[at..])
 }

@@ -14,6 +14,5 @@ mod split;
 pub use crate::iter::chars::IntoChars;
 pub use crate::iter::lines::IntoLines;
 pub use crate::iter::parts::SplitAtAny;
-pub(crate) use crate::iter::pieces::Piece;
 pub use crate::iter::runs::IntoCharRuns;
 pub use crate::iter::split::IntoSplit;

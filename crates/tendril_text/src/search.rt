@@ -1,20 +1,20 @@
 //! Searching for bytes in a text, and removing what is before them; testing for a prefix, and removing it.
 //!
 //! Make a `ByteSet` once: as a constant if it has one to four bytes, else outside the loop.
-ghost use Rattle.std.specs.Prelude.{◌≡◌, ◌<◌, ◌≤◌, ◌↔◌, ◌++◌, [], List, length, take, drop, IsUtf8, IfSome, IfNone};
-ghost use Rattle.std.specs.Prelude.{IfOk, OnErr, OnSome, IsTrue, IsFalse, IfErr};
+ghost use Rattle.std.specs.Prelude.{◌≡◌, ◌<◌, ◌↔◌, ◌++◌, [], length, IfSome, IfNone, IfOk, OnErr, OnSome, IsTrue};
+ghost use Rattle.std.specs.Prelude.{IsFalse, IfErr};
 ghost use Rattle.memchr.specs.Find.{IsFirstByte, is_byte};
 ghost use Rattle.tendril_fmt.specs.Parts.{IsFrontOf};
 ghost use Rattle.tendril_storage.specs.Texts.{PopCost};
-ghost use Rattle.tendril_text.specs.Splits.{EndsFirstLine, LacksFeed};
-ghost use Rattle.tendril_text.specs.Search.{has_byte, EndsBefore, PartsBefore, BeginsWithOne, HasLongPartBefore};
-ghost use Rattle.tendril_text.specs.Search.{IsTable, TakesPart, part_bytes};
+ghost use Rattle.tendril_fmt.specs.Cuts.{EndsFirstLine, LacksFeed};
+ghost use Rattle.tendril_text.specs.Search.{PartsBefore, HasLongPartBefore, TakesPart, part_bytes};
+ghost use Rattle.tendril_fmt.specs.Sets.{has_byte, BeginsWithOne, IsTable};
 
-use crate::byte_set::ByteSet;
 use crate::tendril::Tendril;
 use memchr::memchr;
 use std::fmt::{self, Debug, Formatter, Write};
 use tendril_block::{Atomicity, NonAtomic, Refusal};
+use tendril_fmt::cuts::{ByteSet, begins_with, first_part};
 use tendril_fmt::fmt::{CharFormat, CutsAtAscii, Format, UTF8};
 
 impl<F: Format, A: Atomicity> Tendril<F, A> {
@@ -96,7 +96,7 @@ impl<F: CutsAtAscii, A: Atomicity> Tendril<F, A> {
         ensures refusal { IfErr result (HasLongPartBefore (has_byte set.now) self.old.bytes) }
         ensures err { OnErr result (self.new ≡ self.old) }
     {
-        let count = front_end::<F>(self.as_byte_slice(), set);
+        let count = first_part::<F>(self.as_byte_slice(), set).len;
         if count == 0 {
             return Ok(None);
         }
@@ -190,28 +190,4 @@ impl<A: Atomicity> Tendril<UTF8, A> {
         let at = memchr(b'\n', self.as_byte_slice())?;
         Some(at as u32 + 1)
     }
-}
-
-// The index of the first byte that is in the set, or the end.
-fn front_end<F: CutsAtAscii>(bytes: &[u8], set: &ByteSet) -> usize
-    requires { F.valid bytes.now }
-    ensures ends { EndsBefore (has_byte set.now) bytes.now result }
-    ensures front_valid { F.valid (take result bytes.now) }
-    ensures rest_valid { F.valid (drop result bytes.now) }
-{
-    match set.find_in(bytes) {
-        Some(at) => at,
-        None => bytes.len(),
-    }
-}
-
-// Whether a text begins with the prefix. If it does, the remainder is valid too.
-fn begins_with(bytes: &[u8], prefix: &str) -> bool
-    requires { IsUtf8 bytes.now }
-    ensures begins { IsTrue result ↔ IsFrontOf prefix.now bytes.now }
-    ensures bytes { IsTrue result → bytes.now ≡ prefix.now ++ drop (length prefix.now) bytes.now }
-    ensures valid { IsTrue result → IsUtf8 (drop (length prefix.now) bytes.now) }
-    ensures within { IsTrue result → length prefix.now ≤ length bytes.now }
-{
-    bytes.starts_with(prefix.as_bytes())
 }

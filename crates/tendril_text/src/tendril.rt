@@ -16,18 +16,17 @@ mod read;
 mod send;
 mod trim;
 mod units;
+mod view;
 mod write;
 
 pub use field::Field;
-pub(crate) use make::share;
 pub use make::{slice_to_tendril, str_to_tendril};
-pub(crate) use part::try_part;
-pub(crate) use print::debug;
 pub use send::SendTendril;
 use std::marker::{Model, PhantomData};
 use tendril_block::{Atomicity, NonAtomic};
 use tendril_fmt::fmt::{Bytes, Format, UTF8};
 use tendril_storage::Storage;
+pub use view::View;
 
 /// A text that is valid in the format `F`, of at most 4294967295 bytes.
 ///

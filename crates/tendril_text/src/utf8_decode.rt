@@ -18,16 +18,7 @@ pub use crate::utf8_decode::incomplete::IncompleteUtf8;
 pub use crate::utf8_decode::receiving::{CallsClosure, Receiving, StreamText, replace_by};
 use tendril_block::{Atomicity, Refusal};
 use tendril_fmt::fmt::{Bytes, Format, UTF8};
-use tendril_lossy::{Ending, first_part_by};
-
-// After less text than this between two broken sequences, the next one is expected to be near.
-const FEW_BEFORE: u32 = 16;
-
-// After this much text no broken sequence is expected to be near.
-const MANY_BEFORE: u32 = 1024;
-
-// After this much text none is expected in the next 4096 bytes.
-const MOST_BEFORE: u32 = 2048;
+use tendril_lossy::{Ending, FEW_BEFORE, LastText, first_part_by};
 
 const REPLACEMENT: &str = "\u{FFFD}";
 
@@ -54,41 +45,6 @@ impl<F: Format, A: Atomicity> ClosureText<Tendril<F, A>> for Tendril<F, A> {
         ensures { result ≡ self }
     {
         self
-    }
-}
-
-/// The length of the text that `pop_text_after` returned last: an estimate of how far off the next broken sequence is.
-#[derive(Clone, Copy, Debug)]
-pub struct LastText {
-    len: u32,
-}
-
-impl LastText {
-    /// Returns the value for the start of a stream: no text yet, and no broken sequence expected near.
-    ///
-    /// ```
-    /// let mut last = LastText::none();
-    /// let mut piece = ByteTendril::from_slice(alloc, b"text")?;
-    /// let (text, _) = piece.pop_text_after(&mut last)?;
-    /// assert_eq!(rt; text.is_some_and(|text| text.eq_str("text")), true);
-    /// ```
-    pub fn none() -> Self
-        ensures { result.len ≡ MANY_BEFORE }
-    {
-        LastText { len: MANY_BEFORE }
-    }
-
-    // The number of bytes that are searched first for a broken sequence.
-    #[inline(always)]
-    fn first_window(self) -> usize
-        ensures { 4 ≤ result }
-    {
-        match self.len {
-            0..FEW_BEFORE => 16,
-            FEW_BEFORE..MANY_BEFORE => 128,
-            MANY_BEFORE..MOST_BEFORE => 1024,
-            _ => 4096,
-        }
     }
 }
 

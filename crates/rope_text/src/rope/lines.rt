@@ -4,7 +4,7 @@ ghost use Rattle.std.specs.Prelude.{IsTrue, IsUtf8, IfSome, IfNone, OnSome, IfOk
 ghost use Rattle.std.specs.Iterator.{at_most};
 ghost use Rattle.rope_text.specs.Fronts.{CutsLine, CutLineMay, NextCutLine};
 ghost use Rattle.tendril_text.specs.Iterators.{parts_left};
-ghost use Rattle.tendril_text.specs.Splits.{TakesLine};
+ghost use Rattle.tendril_fmt.specs.Cuts.{TakesLine};
 ghost use Rattle.tendril_text.specs.TextLists.{DropsFront};
 
 use crate::rope::Rope;

@@ -3,7 +3,7 @@ ghost use Rattle.std.specs.Prelude.{◌≡◌, ◌<◌, ◌++◌, length, take, 
 ghost use Rattle.std.specs.Str.{IsCharBoundary};
 ghost use Rattle.memchr.specs.Find.{IsFirstByte, is_byte};
 ghost use Rattle.rope_text.specs.Fronts.{CutsBefore, CutBeforeMay};
-ghost use Rattle.tendril_text.specs.Search.{has_byte, BeginsWithOne, EndsBefore};
+ghost use Rattle.tendril_fmt.specs.Sets.{has_byte, BeginsWithOne, EndsBefore};
 
 use crate::rope::Rope;
 use tendril_text::block::Refusal;

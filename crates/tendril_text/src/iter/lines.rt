@@ -1,13 +1,12 @@
 //! The lines of a text, one by one.
-ghost use Rattle.std.specs.Prelude.{◌≡◌, ◌≤◌, ◌<◌, ◌+◌, ◌-◌, ◌↔◌, false, length, take, drop, slice_index, IsTrue};
+ghost use Rattle.std.specs.Prelude.{◌≡◌, false};
 ghost use Rattle.std.specs.Iterator.{at_most};
 ghost use Rattle.tendril_text.specs.Iterators.{parts_left};
-ghost use Rattle.tendril_text.specs.Splits.{NextLine, TakesLine};
+ghost use Rattle.tendril_text.specs.Splits.{NextLine};
 
-use crate::iter::pieces::Piece;
 use crate::tendril::Tendril;
-use memchr::memchr;
-use tendril_block::{Atomicity, MAX_LEN, Refusal};
+use tendril_block::{Atomicity, Refusal};
+use tendril_fmt::cuts::first_line;
 use tendril_fmt::fmt::{CutsAtAscii, Format};
 
 /// The lines of a text without their line endings, up to the first error.
@@ -63,41 +62,4 @@ impl<F: CutsAtAscii, A: Atomicity> Tendril<F, A> {
             is_refused: false,
         }
     }
-}
-
-// Returns the length of the first line, and of its line ending: 0 if the line ends with the text.
-fn first_line<F: CutsAtAscii>(bytes: &[u8]) -> Piece
-    requires valid { F.valid bytes.now }
-    requires short { length bytes.now ≤ MAX_LEN }
-    requires some { 0 < length bytes.now }
-    ensures line { TakesLine bytes.now (take result.len bytes.now) (drop (result.len + result.ending) bytes.now) }
-    ensures within { result.len + result.ending ≤ length bytes.now }
-    ensures front_valid { F.valid (take result.len bytes.now) }
-    ensures cut_valid { F.valid (drop result.len bytes.now) }
-    ensures rest_valid { F.valid (drop (result.len + result.ending) bytes.now) }
-{
-    let Some(at) = memchr(b'\n', bytes) else {
-        return Piece {
-            len: bytes.len() as u32,
-            ending: 0,
-        };
-    };
-    if follows_cr(bytes, at) {
-        return Piece {
-            len: (at - 1) as u32,
-            ending: 2,
-        };
-    }
-    Piece {
-        len: at as u32,
-        ending: 1,
-    }
-}
-
-// Whether the byte before an index is a CR.
-fn follows_cr(bytes: &[u8], at: usize) -> bool
-    requires { at ≤ length bytes.now }
-    ensures { IsTrue result ↔ ((0 < at) × (slice_index bytes.now (at - 1) ≡ 13)) }
-{
-    at > 0 && bytes[at - 1] == b'\r'
 }

@@ -2,12 +2,12 @@
 ghost use Rattle.std.specs.Prelude.{◌≡◌, false};
 ghost use Rattle.std.specs.Iterator.{at_most};
 ghost use Rattle.tendril_text.specs.Iterators.{NextPart, parts_left};
-ghost use Rattle.tendril_text.specs.Search.{has_byte};
+ghost use Rattle.tendril_fmt.specs.Sets.{has_byte};
 
-use crate::byte_set::ByteSet;
 use crate::search::SetResult;
 use crate::tendril::Tendril;
 use tendril_block::{Atomicity, Refusal};
+use tendril_fmt::cuts::ByteSet;
 use tendril_fmt::fmt::{CharFormat, CutsAtAscii};
 
 /// The characters of a set and the texts between them, in order, up to the first error.

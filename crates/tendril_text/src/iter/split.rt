@@ -1,14 +1,13 @@
 //! The texts between the bytes of a set, one by one.
-ghost use Rattle.std.specs.Prelude.{◌≡◌, ◌≤◌, ◌<◌, ◌+◌, false, length, take, drop};
+ghost use Rattle.std.specs.Prelude.{◌≡◌, false};
 ghost use Rattle.std.specs.Iterator.{at_most};
 ghost use Rattle.tendril_text.specs.Iterators.{parts_left};
-ghost use Rattle.tendril_text.specs.Search.{has_byte, EndsBefore};
+ghost use Rattle.tendril_fmt.specs.Sets.{has_byte};
 ghost use Rattle.tendril_text.specs.Splits.{NextSplit};
 
-use crate::byte_set::ByteSet;
-use crate::iter::pieces::Piece;
 use crate::tendril::Tendril;
-use tendril_block::{Atomicity, MAX_LEN, Refusal};
+use tendril_block::{Atomicity, Refusal};
+use tendril_fmt::cuts::{ByteSet, first_part};
 use tendril_fmt::fmt::{CutsAtAscii, Format};
 
 /// The texts between the bytes of a set, in order, up to the first error.
@@ -71,28 +70,5 @@ impl<F: CutsAtAscii, A: Atomicity> Tendril<F, A> {
             set,
             is_over: false,
         }
-    }
-}
-
-// Returns the length of the prefix before the first byte of the set, and 1 for that byte; or of all bytes, and 0.
-fn first_part<F: CutsAtAscii>(bytes: &[u8], set: &ByteSet) -> Piece
-    requires valid { F.valid bytes.now }
-    requires short { length bytes.now ≤ MAX_LEN }
-    ensures ends { EndsBefore (has_byte set.now) bytes.now result.len }
-    ensures ended { result.len < length bytes.now → result.ending ≡ 1 }
-    ensures last { result.len ≡ length bytes.now → result.ending ≡ 0 }
-    ensures front_valid { F.valid (take result.len bytes.now) }
-    ensures cut_valid { F.valid (drop result.len bytes.now) }
-    ensures rest_valid { F.valid (drop (result.len + result.ending) bytes.now) }
-{
-    match set.find_in(bytes) {
-        Some(at) => Piece {
-            len: at as u32,
-            ending: 1,
-        },
-        None => Piece {
-            len: bytes.len() as u32,
-            ending: 0,
-        },
     }
 }

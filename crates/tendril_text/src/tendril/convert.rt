@@ -3,7 +3,7 @@ ghost use Rattle.std.specs.Prelude.{◌≡◌, IfOk, IfErr, OnOk, OnErr};
 ghost use Rattle.tendril_errors.specs.Outcomes.{ValidMust, NoneMay, Gives};
 
 use crate::tendril::Tendril;
-use crate::view::View;
+use crate::tendril::view::View;
 use std::marker::PhantomData;
 use tendril_block::{Atomicity, Refusal};
 use tendril_fmt::fmt::{Bytes, Format, SubsetOf};

@@ -1,17 +1,15 @@
 //! Splitting a text at the first occurrence of a byte.
-ghost use Rattle.std.specs.Prelude.{◌≡◌, ◌<◌, ◌≤◌, ◌+◌, ◌++◌, ◌∷◌, [], length, take, drop, IfOk, IfErr, IfSome, IfNone};
-ghost use Rattle.std.specs.Prelude.{OnErr, IsTrue, IsFalse};
+ghost use Rattle.std.specs.Prelude.{◌≡◌, ◌<◌, ◌++◌, ◌∷◌, [], IfOk, IfErr, IfSome, IfNone, OnErr, IsTrue, IsFalse};
 ghost use Rattle.std.specs.Str.Iter.{LacksByte};
 ghost use Rattle.memchr.specs.Find.{is_byte};
 ghost use Rattle.tendril_storage.specs.Texts.{SplitCost, ShareCost};
-ghost use Rattle.tendril_text.specs.Search.{EndsBefore, HasLongPartBefore};
+ghost use Rattle.tendril_text.specs.Search.{HasLongPartBefore};
 ghost use Rattle.tendril_text.specs.Splits.{HasLongSide};
 
-use crate::iter::Piece;
 use crate::tendril::Tendril;
-use memchr::memchr;
 use std::fmt::{self, Debug, Formatter, Write};
-use tendril_block::{Atomicity, MAX_LEN, NonAtomic, Refusal};
+use tendril_block::{Atomicity, NonAtomic, Refusal};
+use tendril_fmt::cuts::first_field;
 use tendril_fmt::fmt::{CutsAtAscii, Format};
 
 /// What `pop_field` removed from the start of a text.
@@ -99,36 +97,10 @@ impl<F: CutsAtAscii, A: Atomicity> Tendril<F, A> {
         if piece.ending == 0 {
             return Ok(None);
         }
-        let next = piece.len + piece.ending;
-        let front = self.subtendril(0, piece.len)?;
+        let len = piece.len as u32;
+        let next = len + piece.ending as u32;
+        let front = self.subtendril(0, len)?;
         let back = self.subtendril(next, self.len32() - next)?;
         Ok(Some((front, back)))
-    }
-}
-
-// Returns the length of the bytes before the first such byte, and 1 for that byte; or of all bytes, and 0.
-fn first_field<F: CutsAtAscii>(bytes: &[u8], byte: u8) -> Piece
-    requires ascii { byte < 128 }
-    requires valid { F.valid bytes.now }
-    requires short { length bytes.now ≤ MAX_LEN }
-    ensures ends { EndsBefore (is_byte byte) bytes.now result.len }
-    ensures ended { result.len < length bytes.now → result.ending ≡ 1 }
-    ensures last { result.len ≡ length bytes.now → result.ending ≡ 0 }
-    ensures joined { 0 < result.ending →
-        bytes.now ≡ take result.len bytes.now ++ byte ∷ drop (result.len + result.ending) bytes.now }
-    ensures within { result.len + result.ending ≤ length bytes.now }
-    ensures front_valid { F.valid (take result.len bytes.now) }
-    ensures cut_valid { F.valid (drop result.len bytes.now) }
-    ensures rest_valid { F.valid (drop (result.len + result.ending) bytes.now) }
-{
-    match memchr(byte, bytes) {
-        Some(at) => Piece {
-            len: at as u32,
-            ending: 1,
-        },
-        None => Piece {
-            len: bytes.len() as u32,
-            ending: 0,
-        },
     }
 }

@@ -1,9 +1,10 @@
 //! Constructors: empty texts, and copies of bytes, strings and other texts.
-ghost use Rattle.std.specs.Prelude.{◌≡◌, ◌<◌, ◌≤◌, [], length, string_bytes};
+ghost use Rattle.std.specs.Prelude.{◌≡◌, ◌≤◌, [], length, string_bytes};
 ghost use Rattle.tendril_text.specs.Making.{IsTextOf, MakesText, MakesValidText};
 ghost use Rattle.tendril_text.specs.Parts.{Clones};
 ghost use Rattle.tendril_errors.specs.Outcomes.{NoneMust, MemoryMay, Gives};
 
+use crate::tendril::view::View;
 use crate::tendril::{ByteTendril, StrTendril, Tendril};
 use std::alloc::{AllocError, Global};
 use std::default::MadeWith;
@@ -97,22 +98,12 @@ impl<F: Format, A: Atomicity> Tendril<F, A> {
     pub fn clone(&self) -> Result<Self, Refusal>
         ensures { Clones self.now.bytes result }
     {
-        share(&self.storage)
+        View::<F, A>::new(&self.storage).to_tendril()
     }
 
     #[inline(always)]
     pub(crate) fn allocator(&self) -> Global {
         self.storage.allocator()
-    }
-
-    // Returns a text of at most 8 bytes, with this text's allocator.
-    #[inline(always)]
-    pub(crate) fn short(&self, text: &str) -> Tendril<UTF8, A>
-        requires { length text.now ≤ INLINE_LEN }
-        ensures bytes { result.bytes ≡ text.now }
-        ensures copied { result.copied ≡ length text.now }
-    {
-        Tendril::from_short_str(self.storage.allocator(), text)
     }
 }
 
@@ -262,16 +253,4 @@ pub fn slice_to_tendril(alloc: Global, bytes: &[u8]) -> Result<ByteTendril, Refu
     ensures { MakesText bytes.now result }
 {
     ByteTendril::from_slice(alloc, bytes)
-}
-
-/// Returns a text of stored bytes, which are valid in the format. More than 8 bytes are shared.
-#[inline(always)]
-pub(crate) fn share<F: Format, A: Atomicity>(storage: &Storage<A>) -> Result<Tendril<F, A>, Refusal>
-    requires { F.valid storage.now.bytes }
-    ensures { Clones storage.now.bytes result }
-{
-    Ok(Tendril {
-        storage: storage.whole()?,
-        format: PhantomData,
-    })
 }

@@ -1,13 +1,15 @@
 //! Slices and splits.
-ghost use Rattle.std.specs.Prelude.{◌≡◌, ◌<◌, ◌≤◌, ◌+◌, ◌↔◌, ◌++◌, [], length, take, drop, IfOk, IsTrue, IsUtf8};
+ghost use Rattle.std.specs.Prelude.{◌≡◌, ◌≤◌, ◌+◌, ◌++◌, [], length, take, drop, IfOk, IsUtf8};
 ghost use Rattle.tendril_storage.specs.Partings.{TakesFew};
 ghost use Rattle.tendril_storage.specs.Texts.{PopCost};
 ghost use Rattle.tendril_text.specs.Parts.{Slices, SlicesValid, Splits, SplitsValid};
 
 use crate::tendril::Tendril;
+use crate::tendril::view::View;
 use std::marker::PhantomData;
 use std::mem;
 use tendril_block::{Atomicity, INLINE_LEN, Refusal, SubtendrilError};
+use tendril_fmt::cuts::are_parts_valid;
 use tendril_fmt::fmt::{Bytes, Format, UTF8};
 use tendril_storage::Storage;
 
@@ -29,7 +31,7 @@ impl<F: Format, A: Atomicity> Tendril<F, A> {
     pub fn try_subtendril(&self, offset: u32, count: u32) -> Result<Self, SubtendrilError>
         ensures { SlicesValid F.valid self.now.bytes offset count result }
     {
-        try_part(&self.storage, offset, count)
+        View::<F, A>::new(&self.storage).try_subtendril(offset, count)
     }
 
     /// Returns a text of the `count` bytes from `offset` on, which the caller proves to be there and valid in the
@@ -169,29 +171,9 @@ impl<A: Atomicity> Tendril<Bytes, A> {
     }
 }
 
-/// Returns a text of a slice of stored bytes, if it is there and valid in the format.
-#[inline(always)]
-pub(crate) fn try_part<F: Format, A: Atomicity>(
-    storage: &Storage<A>,
-    offset: u32,
-    count: u32,
-) -> Result<Tendril<F, A>, SubtendrilError>
-    requires { F.valid storage.now.bytes }
-    ensures { SlicesValid F.valid storage.now.bytes offset count result }
-{
-    let bytes = storage.as_slice();
-    if offset as usize + count as usize > bytes.len() {
-        return Err(SubtendrilError::OutOfBounds);
-    }
-    if !is_slice_valid::<F>(bytes, offset as usize, count as usize) {
-        return Err(SubtendrilError::ValidationFailed);
-    }
-    valid_part(storage, offset, count)
-}
-
 // Returns a text of a slice that is there and valid in the format.
 #[inline(always)]
-fn valid_part<F: Format, A: Atomicity>(
+pub(crate) fn valid_part<F: Format, A: Atomicity>(
     storage: &Storage<A>,
     offset: u32,
     count: u32,
@@ -207,43 +189,4 @@ fn valid_part<F: Format, A: Atomicity>(
         }),
         Err(_) => Err(SubtendrilError::Count),
     }
-}
-
-// Whether a slice of valid bytes is valid.
-#[inline(always)]
-fn is_slice_valid<F: Format>(bytes: &[u8], offset: usize, count: usize) -> bool
-    requires valid { F.valid bytes.now }
-    requires within { offset + count ≤ length bytes.now }
-    ensures { IsTrue result ↔ F.valid (take count (drop offset bytes.now)) }
-{
-    F::validate_subseq(&bytes[offset..offset + count])
-}
-
-// Whether both sides of a split of valid bytes are valid.
-fn are_parts_valid<F: Format>(bytes: &[u8], count: usize) -> bool
-    requires valid { F.valid bytes.now }
-    requires within { count ≤ length bytes.now }
-    ensures { IsTrue result ↔ (F.valid (take count bytes.now) × F.valid (drop count bytes.now)) }
-{
-    is_front_valid::<F>(bytes, count) && is_end_valid::<F>(bytes, count)
-}
-
-// Whether a suffix of valid bytes is valid.
-#[inline(always)]
-pub(crate) fn is_end_valid<F: Format>(bytes: &[u8], offset: usize) -> bool
-    requires valid { F.valid bytes.now }
-    requires within { offset ≤ length bytes.now }
-    ensures { IsTrue result ↔ F.valid (drop offset bytes.now) }
-{
-    F::validate_suffix(&bytes[offset..])
-}
-
-// Whether a prefix of valid bytes is valid.
-#[inline(always)]
-pub(crate) fn is_front_valid<F: Format>(bytes: &[u8], count: usize) -> bool
-    requires valid { F.valid bytes.now }
-    requires within { count ≤ length bytes.now }
-    ensures { IsTrue result ↔ F.valid (take count bytes.now) }
-{
-    F::validate_prefix(&bytes[..count])
 }

@@ -3,8 +3,8 @@ ghost use Rattle.std.specs.Prelude.{◌≡◌, ◌≤◌, ◌-◌, length, take,
 ghost use Rattle.tendril_text.specs.Parts.{IsTruncated, PopsValid, Truncates};
 
 use crate::tendril::Tendril;
-use crate::tendril::part::{is_end_valid, is_front_valid};
 use tendril_block::{Atomicity, SubtendrilError};
+use tendril_fmt::cuts::{is_end_valid, is_front_valid};
 use tendril_fmt::fmt::Format;
 
 impl<F: Format, A: Atomicity> Tendril<F, A> {

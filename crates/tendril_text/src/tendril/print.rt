@@ -1,5 +1,5 @@
 //! Printing texts, and printing values into texts.
-ghost use Rattle.std.specs.Prelude.{◌++◌, Some, IfErr, IfSome, OnOk};
+ghost use Rattle.std.specs.Prelude.{Some, IfErr, IfSome, OnOk};
 ghost use Rattle.std.specs.Fmt.{styled_text};
 ghost use Rattle.tendril_text.specs.Writes.{IsGrowthRefusal, IsPrinted, Prints, TakesPiece};
 
@@ -120,15 +120,6 @@ impl<A: Atomicity> Printer<A> {
         let printed = formatter.write(value);
         (formatter.into_inner(), printed)
     }
-
-    // Pushes a piece, or stores the error of that push. Nothing changes after a push has failed.
-    fn push(&mut self, piece: &str)
-        ensures { TakesPiece self.old.text.bytes self.old.refused piece.now self.new.text.bytes self.new.refused }
-    {
-        if self.refused.is_none() {
-            self.refused = self.text.push_slice(piece).err();
-        }
-    }
 }
 
 // Returns Ok even if a push fails. So a `Display` that returns Ok has printed its whole text, and `refused` has the
@@ -137,7 +128,9 @@ impl<A: Atomicity> fmt::Write for Printer<A> {
     ghost write_str_gives = { λ p piece q. TakesPiece p.text.bytes p.refused piece q.text.bytes q.refused };
 
     fn write_str(&mut self, text: &str) -> fmt::Result {
-        self.push(text);
+        if self.refused.is_none() {
+            self.refused = self.text.push_slice(text).err();
+        }
         Ok(())
     }
 }

@@ -1,11 +1,12 @@
 //! Texts without the white space, or the line ending, at their ends.
-ghost use Rattle.std.specs.Prelude.{◌≡◌, ◌≤◌, ◌+◌, ◌-◌, length, take, drop, IfOk};
-ghost use Rattle.tendril_text.specs.Splits.{IsWithoutEnding};
-ghost use Rattle.tendril_text.specs.Trims.{IsTrimOf, Trims};
+ghost use Rattle.std.specs.Prelude.{IfOk};
+ghost use Rattle.tendril_fmt.specs.Cuts.{IsWithoutEnding, IsTrimOf};
+ghost use Rattle.tendril_text.specs.Trims.{Trims};
 
 use crate::tendril::Tendril;
 use std::marker::PhantomData;
-use tendril_block::{Atomicity, MAX_LEN, Refusal};
+use tendril_block::{Atomicity, Refusal};
+use tendril_fmt::cuts::{line_ending_len, trimmed_range};
 use tendril_fmt::fmt::CutsAtAscii;
 
 impl<F: CutsAtAscii, A: Atomicity> Tendril<F, A> {
@@ -27,7 +28,7 @@ impl<F: CutsAtAscii, A: Atomicity> Tendril<F, A> {
         ensures joined { IfOk result (λ text. IsTrimOf self.now.bytes text.bytes) }
     {
         let (start, len) = trimmed_range::<F>(self.as_byte_slice());
-        match self.storage.part(start, len) {
+        match self.storage.part(start as u32, len as u32) {
             Ok(storage) => Ok(Tendril {
                 storage,
                 format: PhantomData,
@@ -65,7 +66,7 @@ impl<F: CutsAtAscii, A: Atomicity> Tendril<F, A> {
     {
         let mut text = self;
         let count = line_ending_len::<F>(text.as_byte_slice());
-        text.pop_back(count);
+        text.pop_back(count as u32);
         text
     }
 
@@ -75,34 +76,6 @@ impl<F: CutsAtAscii, A: Atomicity> Tendril<F, A> {
         ensures copied { PopCost self.old self.new }
     {
         let (start, len) = trimmed_range::<F>(self.as_byte_slice());
-        self.storage.keep_part(start, len);
-    }
-}
-
-// Where the bytes without the white space at both ends begin, and how many they are.
-fn trimmed_range<F: CutsAtAscii>(bytes: &[u8]) -> (u32, u32)
-    requires valid { F.valid bytes.now }
-    requires short { length bytes.now ≤ MAX_LEN }
-    ensures within { result.0 + result.1 ≤ length bytes.now }
-    ensures count { length (take result.1 (drop result.0 bytes.now)) ≡ result.1 }
-    ensures trim { IsTrimOf bytes.now (take result.1 (drop result.0 bytes.now)) }
-    ensures still_valid { F.valid (take result.1 (drop result.0 bytes.now)) }
-{
-    let rest = bytes.trim_ascii_start();
-    let kept = rest.trim_ascii_end();
-    ((bytes.len() - rest.len()) as u32, kept.len() as u32)
-}
-
-// The number of bytes of the line ending at the end: 2, 1, or 0 if there is none.
-fn line_ending_len<F: CutsAtAscii>(bytes: &[u8]) -> u32
-    requires { F.valid bytes.now }
-    ensures within { result ≤ length bytes.now }
-    ensures without { IsWithoutEnding bytes.now (take (length bytes.now - result) bytes.now) }
-    ensures still_valid { F.valid (take (length bytes.now - result) bytes.now) }
-{
-    match bytes {
-        [.., b'\r', b'\n'] => 2,
-        [.., b'\n'] => 1,
-        _ => 0,
+        self.storage.keep_part(start as u32, len as u32);
     }
 }

@@ -1,6 +1,5 @@
 //! Writing over a text's bytes, and appending by std's `Write` traits.
-ghost use Rattle.std.specs.Prelude.{◌≡◌, ◌<◌, ◌≤◌, ◌+◌, ◌++◌, ◌↔◌, length, map, max, Some, IfOk, IfErr, IsFalse, OnOk};
-ghost use Rattle.std.specs.Prelude.{OnErr, IsOk};
+ghost use Rattle.std.specs.Prelude.{◌≡◌, ◌<◌, ◌≤◌, ◌+◌, ◌++◌, length, map, max, Some, IfOk, IfErr, OnOk, OnErr, IsOk};
 ghost use Rattle.std.specs.Char.{to_ascii_lowercase};
 ghost use Rattle.std.specs.Fn.{CalledAtMut};
 ghost use Rattle.std.specs.Io.{WritesAtMost};
@@ -84,20 +83,14 @@ impl<A: Atomicity> Tendril<UTF8, A> {
         ensures unchanged { map to_ascii_lowercase self.old.bytes ≡ self.old.bytes
             → IsOk result × (self.new ≡ self.old) }
     {
-        if !has_capital(self.as_byte_slice()) {
+        let mut bytes = self.as_byte_slice().iter();
+        if !bytes.any(|byte| byte.is_ascii_uppercase()) {
             return Ok(());
         }
         self.storage
             .write_over(&mut |bytes: &mut [u8]| bytes.make_ascii_lowercase())?;
         Ok(())
     }
-}
-
-// Whether one of the bytes is an ASCII uppercase letter.
-fn has_capital(bytes: &[u8]) -> bool
-    ensures { IsFalse result ↔ (map to_ascii_lowercase bytes.now ≡ bytes.now) }
-{
-    bytes.iter().any(|byte| byte.is_ascii_uppercase())
 }
 
 /// `write_str` appends the whole string, as `push_slice` does, or returns an error and changes nothing.
@@ -143,8 +136,11 @@ impl<A: Atomicity> io::Write for Tendril<Bytes, A> {
         ensures refused { IfErr result (λ e. WriteRefused (length self.old.bytes + length bytes.now) (error_kind e)) }
         ensures err { OnErr result (self.new ≡ self.old) }
     {
-        self.push_slice(bytes).map_err(write_error)?;
-        Ok(bytes.len())
+        match self.push_slice(bytes) {
+            Ok(()) => Ok(bytes.len()),
+            Err(Refusal::TooLong) => Err(ErrorKind::FileTooLarge.into()),
+            Err(_) => Err(ErrorKind::OutOfMemory.into()),
+        }
     }
 
     fn write_all(&mut self, bytes: &[u8]) -> io::Result<()>
@@ -164,16 +160,5 @@ impl<A: Atomicity> io::Write for Tendril<Bytes, A> {
         ensures unchanged { self.new ≡ self.old }
     {
         Ok(()) // nothing is buffered
-    }
-}
-
-// The `io::Error` for a push's error.
-fn write_error(refusal: Refusal) -> io::Error
-    ensures too_long { refusal ≡ Refusal.TooLong → error_kind result ≡ ErrorKind.FileTooLarge }
-    ensures memory { refusal ≡ Refusal.Memory → error_kind result ≡ ErrorKind.OutOfMemory }
-{
-    match refusal {
-        Refusal::TooLong => ErrorKind::FileTooLarge.into(),
-        _ => ErrorKind::OutOfMemory.into(),
     }
 }

@@ -238,7 +238,7 @@ impl IncompleteUtf8 {
             Ok(text) => text.as_str(),
             Err(_) => REPLACEMENT,
         };
-        push_utf8(input.short(text).hand());
+        push_utf8(Tendril::from_short_str(input.allocator(), text).hand());
         Ok(())
     }
 }

@@ -3,8 +3,8 @@ use Rattle.std.proofs.lemmas.Grind.{common_steps}
 use Rattle.std.proofs.lemmas.List.{map-append}
 use Rattle.tendril_bench.proofs.Commas.{parts_lack}
 use Rattle.tendril.specs.Proofs.TextSplits.{splits_push, parts_joined}
-use Rattle.tendril.specs.Search.{has_byte}
-use Rattle.tendril.specs.Splits.{SplitsSoFar}
+use Rattle.tendril.specs.Sets.{has_byte}
+use Rattle.tendril.specs.Cuts.{SplitsSoFar}
 use Rattle.tendril.specs.Texts.{Text}
 use Rattle.tendril_bench.proofs.fields.split_fields.Goals as goal
 

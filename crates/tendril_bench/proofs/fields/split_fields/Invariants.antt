@@ -1,6 +1,6 @@
 use Rattle.std.proofs.Common.{◌≡◌, ℕ, true, map}
-use Rattle.tendril.specs.Search.{has_byte}
-use Rattle.tendril.specs.Splits.{SplitsSoFar}
+use Rattle.tendril.specs.Sets.{has_byte}
+use Rattle.tendril.specs.Cuts.{SplitsSoFar}
 use Rattle.tendril_bench.proofs.fields.split_fields.Given as goal
 
 abbrev pub invariant-loop-field : goal.invariant-loop-field

@@ -2,7 +2,7 @@ use Rattle.std.proofs.Common.{◌≡◌, ◌∙◌, ◌++◌, ◌∷◌, [], Lis
 use Rattle.std.proofs.lemmas.Grind.{common_steps}
 use Rattle.std.proofs.lemmas.List.{map-append}
 use Rattle.tendril.specs.Proofs.TextSplits.{lines_push}
-use Rattle.tendril.specs.Splits.{LinesSoFar}
+use Rattle.tendril.specs.Cuts.{LinesSoFar}
 use Rattle.tendril.specs.Texts.{Text}
 use Rattle.tendril_bench.proofs.lines.split_lines.Goals as goal
 

@@ -1,5 +1,5 @@
 use Rattle.std.proofs.Common.{◌≡◌, false, map}
-use Rattle.tendril.specs.Splits.{LinesSoFar}
+use Rattle.tendril.specs.Cuts.{LinesSoFar}
 use Rattle.tendril_bench.proofs.lines.split_lines.Given as goal
 
 abbrev pub invariant-loop-line : goal.invariant-loop-line

@@ -1,9 +1,9 @@
 use Rattle.std.proofs.Common.{◌<◌, ◌∙◌, length, take, subst, sym, arith}
 use Rattle.std.proofs.lemmas.List.{get_or_default}
 use Rattle.memchr.specs.Find.{is_byte}
-use Rattle.tendril_text.proofs.Pieces.{lacks-append}
+use Rattle.tendril_fmt.proofs.Pieces.{lacks-append}
 use Rattle.tendril_text.proofs.TextLists.{joined_more}
-use Rattle.tendril_text.specs.Splits.{EndsFirstLine, LacksFeed}
+use Rattle.tendril_fmt.specs.Cuts.{EndsFirstLine, LacksFeed}
 use Rattle.tendril_text.specs.TextLists.{bytes_of_all}
 use Rattle.tendril_text.specs.Texts.{Text}
 use Rattle.tendril_queue.proofs.lines.find_feed.Goals as goal

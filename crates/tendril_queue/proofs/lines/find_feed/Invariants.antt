@@ -1,5 +1,5 @@
 use Rattle.std.proofs.Common.{take}
-use Rattle.tendril_text.specs.Splits.{LacksFeed}
+use Rattle.tendril_fmt.specs.Cuts.{LacksFeed}
 use Rattle.tendril_text.specs.TextLists.{bytes_of_all}
 use Rattle.tendril_queue.proofs.lines.find_feed.Given as goal
 

@@ -3,7 +3,7 @@ use Rattle.rope_text.proofs.Found.{found_cut, found_in, none_in_all, none_in_mor
 use Rattle.rope_text.proofs.Located.{in_joined}
 use Rattle.rope_text.proofs.Whole.{joined_pieces}
 use Rattle.rope_text.specs.Ropes.{RopeText}
-use Rattle.tendril_text.specs.Search.{has_byte}
+use Rattle.tendril_fmt.specs.Sets.{has_byte}
 use Rattle.rope_text.proofs.rope.Rope.find_any.Goals as goal
 
 pub overflow_add-result : goal.overflow_add-result

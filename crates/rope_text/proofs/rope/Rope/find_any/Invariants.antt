@@ -1,5 +1,5 @@
 use Rattle.rope_text.proofs.Found.{NoneIn}
-use Rattle.tendril_text.specs.Search.{has_byte}
+use Rattle.tendril_fmt.specs.Sets.{has_byte}
 use Rattle.rope_text.proofs.rope.Rope.find_any.Given as goal
 
 abbrev pub invariant-loop-index : goal.invariant-loop-index

@@ -4,7 +4,7 @@ use Rattle.std.proofs.lemmas.List.{take_all}
 use Rattle.std.proofs.lemmas.Str.{IsCharBoundary-before_ascii, IsUtf8-take}
 use Rattle.rope_text.proofs.Joined.{pieces_valid}
 use Rattle.rope_text.specs.Ropes.{RopeText}
-use Rattle.tendril_text.proofs.Pieces.{line_crlf, line_lf}
+use Rattle.tendril_fmt.proofs.Pieces.{line_crlf, line_lf}
 use Rattle.rope_text.proofs.rope.Rope.first_line.Goals as goal
 
 pub returns-in_default-clause-valid : goal.returns-in_default-clause-valid

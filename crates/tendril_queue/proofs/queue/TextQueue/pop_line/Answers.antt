@@ -16,8 +16,8 @@ use Rattle.tendril_queue.proofs.Lined.{
 use Rattle.tendril_queue.specs.Lines.{HasFirstFeed}
 use Rattle.tendril_queue.specs.Queues.{Queued, all_texts}
 use Rattle.tendril_errors.specs.declared.refusal.Refusal.TheVariants.{Count}
-use Rattle.tendril_text.proofs.Pieces.{lacks-append}
-use Rattle.tendril_text.specs.Splits.{LacksFeed}
+use Rattle.tendril_fmt.proofs.Pieces.{lacks-append}
+use Rattle.tendril_fmt.specs.Cuts.{LacksFeed}
 use Rattle.tendril_text.specs.TextLists.{bytes_of_all}
 use Rattle.tendril_queue.proofs.queue.TextQueue.pop_line.Goals as goal
 

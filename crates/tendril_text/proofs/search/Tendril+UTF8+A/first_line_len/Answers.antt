@@ -1,7 +1,7 @@
 use Rattle.std.proofs.Common.{◌+◌, subst, sym}
 use Rattle.std.specs.Prelude.{IsUtf8}
-use Rattle.tendril_text.proofs.Pieces.{ends_first_line}
-use Rattle.tendril_text.specs.Splits.{EndsFirstLine}
+use Rattle.tendril_fmt.proofs.Pieces.{ends_first_line}
+use Rattle.tendril_fmt.specs.Cuts.{EndsFirstLine}
 use Rattle.tendril_text.proofs.search.Tendril+UTF8+A.first_line_len.Goals as goal
 
 pub returns-clause-some : goal.returns-clause-some

@@ -1,5 +1,5 @@
 use Rattle.std.proofs.Common.{◌-◌, length, subst, sym, take}
-use Rattle.tendril_text.specs.Splits.{IsWithoutEnding}
+use Rattle.tendril_fmt.specs.Cuts.{IsWithoutEnding}
 use Rattle.tendril_text.proofs.tendril.Tendril.without_line_ending.Goals as goal
 
 pub returns-clause-bytes : goal.returns-clause-bytes

@@ -1,5 +1,5 @@
 use Rattle.std.proofs.Common.{◌+◌}
-use Rattle.tendril_text.proofs.Pieces.{line_of}
+use Rattle.tendril_fmt.proofs.Pieces.{line_of}
 use Rattle.tendril_text.proofs.iter.lines.IntoLinesIterator.next.Goals as goal
 
 pub returns-in-Ok-clause-steps : goal.returns-in-Ok-clause-steps

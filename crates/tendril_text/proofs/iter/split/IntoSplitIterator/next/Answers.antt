@@ -1,6 +1,6 @@
 use Rattle.std.proofs.Common.{refl}
-use Rattle.tendril_text.proofs.Pieces.{split_of}
-use Rattle.tendril_text.specs.Search.{has_byte}
+use Rattle.tendril_fmt.proofs.Pieces.{split_of}
+use Rattle.tendril_fmt.specs.Sets.{has_byte}
 use Rattle.tendril_text.proofs.iter.split.IntoSplitIterator.next.Goals as goal
 
 pub returns-in-Ok-clause-steps : goal.returns-in-Ok-clause-steps

@@ -14,11 +14,11 @@ returns-clause-ok g c =
       | in-Err w ↦ says_replacement k input rest c.match-completed.text.now w.in-Err.field-0 c.in-Some.completed
           c.in-Some.ensures.completed w.in-Err.is (ap (λ b. b.now) w.text-is)
     ] in
-    let handed = subst (λ t. Says k input rest t) (sym c.short.ensures.bytes) says in
+    let handed = subst (λ t. Says k input rest t) (sym c.from_short_str.ensures.bytes) says in
     record {
-      text = c.short.result;
+      text = c.from_short_str.result;
       hands = rw c.hand.ensures at c.push_utf8.ensures;
       says = handed.1;
-      short = omega (arith, c.short.ensures.copied, says.0);
+      short = omega (arith, c.from_short_str.ensures.copied, says.0);
       copied = c.in-Some.ensures.copied;
     }

@@ -1,6 +1,0 @@
-use Rattle.memchr.specs.Find.{Nowhere, Passes}
-use Rattle.tendril_text.specs.Search.{is_byte4}
-use Rattle.tendril_text.proofs.byte_set.find_one_of.Given as goal
-
-abbrev pub invariant-loop-at : goal.invariant-loop-at
-invariant-loop-at l = Nowhere (Passes (is_byte4 l.a l.b l.c l.d) l.bytes) 0 l.at

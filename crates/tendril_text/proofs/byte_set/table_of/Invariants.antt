@@ -1,6 +1,0 @@
-use Rattle.std.proofs.Common.{◌≡◌, length}
-use Rattle.tendril_text.proofs.Searches.{IsTableOf}
-use Rattle.tendril_text.proofs.byte_set.table_of.Given as goal
-
-abbrev pub invariant-loop-byte : goal.invariant-loop-byte
-invariant-loop-byte l = (length l.members ≡ 256) × IsTableOf l.bytes l.byte-index l.members

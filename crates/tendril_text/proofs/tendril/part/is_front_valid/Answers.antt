@@ -1,5 +1,0 @@
-use Rattle.tendril_fmt.proofs.Parts.{IsFrontOf-take}
-use Rattle.tendril_text.proofs.tendril.part.is_front_valid.Goals as goal
-
-pub returns : goal.returns
-returns g c = c.validate_prefix.ensures c.args.bytes.now c.requires.valid (IsFrontOf-take c.args.bytes.now c.args.count)
