@@ -1,4 +1,4 @@
--- Sets of bytes, and the first byte of a text that is in a set.
+-- The first byte of a text that is in a set, and what a text is split into there.
 use Rattle.std.specs.Prelude.{ℕ, ◌≡◌, ◌<◌, Bool, List, ◌∷◌, ◌++◌, length}
 use Rattle.memchr.specs.Find.{Passes}
 use Rattle.tendril_errors.specs.declared.refusal.Refusal.{Refusal}
