@@ -1,6 +1,6 @@
 -- The UTF-8 of a block of units, in words of four bytes.
 use Rattle.std.proofs.Common.{◌≡◌, ℕ, zero, suc, ◌+◌, ◌*◌, ◌/◌, ◌%◌, ◌<◌, ◌≤◌, Bool, true, false, ◌&&◌, leb, ltb}
-use Rattle.std.proofs.Common.{eqb, cond, List, [], ◌∷◌, ◌++◌, length, take, map, slice_index, refl}
+use Rattle.std.proofs.Common.{eqb, cond, List, [], ◌∷◌, ◌++◌, length, take, map, get_or, slice_index, replicate, refl}
 use Rattle.std.proofs.Common.{sym, ap, ap₂, ◌∙◌, arith, inl, inr, bit_and, encode_utf8}
 use Rattle.std.specs.Prelude.{◌⊎◌}
 use Rattle.std.specs.List.{range_with_len, flat_map}
@@ -10,7 +10,7 @@ use Rattle.std.proofs.lemmas.Bool.{and_from, cond-true, cond-false}
 use Rattle.std.proofs.lemmas.Bool.Decides.{nat_tests}
 use Rattle.tendril_fmt.specs.Blocks.{units_of, fronts}
 use Rattle.tendril_fmt.specs.Proved.Encodings.{encode_utf8_1, encode_utf8_2, encode_utf8_3, IsScalar-from_bounds}
-use Rattle.tendril_fmt.proofs.Lanes.{at_most, same, less}
+use Rattle.tendril_fmt.proofs.Lanes.{at_most, same, less, lanes_own, lanes_list}
 
 -- The bytes of a word, and how many of them are a unit's, by its low and its high byte.
 abbrev pub last_byte : ℕ → ℕ
@@ -181,6 +181,29 @@ words_are l h units first second last counts small us fs ss ls cs =
     let within : k < 16 = omega arith in
     word_is (l k) (h k) (small k within).0 (small k within).1)
     ∙ sym (ap encode_utf8_all us)
+
+-- The first three bytes of each word of a block, in three vectors.
+abbrev pub starts : List ℕ
+starts = 0 ∷ 1 ∷ 2 ∷ 4 ∷ 5 ∷ 6 ∷ 8 ∷ 9 ∷ 10 ∷ 12 ∷ 13 ∷ 14 ∷ 16 ∷ 17 ∷ 18 ∷ 20 ∷ []
+
+abbrev pub middles : List ℕ
+middles = 21 ∷ 22 ∷ 24 ∷ 25 ∷ 26 ∷ 28 ∷ 29 ∷ 30 ∷ 32 ∷ 33 ∷ 34 ∷ 36 ∷ 37 ∷ 38 ∷ 40 ∷ 41 ∷ []
+
+abbrev pub ends : List ℕ
+ends = 42 ∷ 44 ∷ 45 ∷ 46 ∷ 48 ∷ 49 ∷ 50 ∷ 52 ∷ 53 ∷ 54 ∷ 56 ∷ 57 ∷ 58 ∷ 60 ∷ 61 ∷ 62 ∷ []
+
+abbrev pub picked : List ℕ → List ℕ
+picked words = pick_l 0 (words ++ words) starts ++ (pick_l 0 (words ++ words) middles ++ pick_l 0 (words ++ words) ends)
+
+picked_is : (f : ℕ → ℕ)
+    → picked (map f (range_with_len 0 64)) ≡ fronts (map f (range_with_len 0 64)) (replicate 16 3)
+picked_is f = refl
+
+pub threes_are : (words : List ℕ) → length words ≡ 64 → picked words ≡ fronts words (replicate 16 3)
+threes_are words long =
+    let f : ℕ → ℕ = λ k. get_or words k 0 in
+    let own = lanes_list 64 words f f (lanes_own 64 words long) (λ k lt. refl) in
+    ap picked own ∙ picked_is f ∙ sym (ap (λ w. fronts w (replicate 16 3)) own)
 
 -- ASCII units are their low bytes
 pub ascii_units : (low high : List ℕ) → length low ≡ length high

@@ -1,5 +1,6 @@
 //! Blocks of 16 bytes or units, that are tested and written at once.
-ghost use Rattle.std.specs.Prelude.{◌≡◌, ◌↔◌, ◌+◌, ◌*◌, ◌<◌, ◌≤◌, ◌++◌, ℕ, length, take, slice_index, true, false};
+ghost use Rattle.std.specs.Prelude.{◌≡◌, ◌↔◌, ◌+◌, ◌*◌, ◌<◌, ◌≤◌, ◌++◌, ℕ, true, false};
+ghost use Rattle.std.specs.Prelude.{length, replicate, slice_index, take};
 ghost use Rattle.std.specs.List.{AllByRecursion};
 ghost use Rattle.std.specs.Str.{all_scalars, encode_utf8_all};
 ghost use Rattle.tendril_fmt.specs.Blocks.{LackSurrogates, first_set, fronts, units_of};
@@ -78,6 +79,9 @@ pub fn encode_block(bytes: &mut [u8], at: usize, low: u8x16, high: u8x16) -> usi
         return put_run(bytes, at, &low.to_array());
     }
     let (words, lens) = words_of(low, high);
+    if are_threes(lens) {
+        return put_threes(bytes, at, words);
+    }
     put_words(bytes, at, &words.to_array(), &lens.to_array())
 }
 
@@ -130,6 +134,33 @@ const IN_FOURS: [usize; 64] = [
     44, 45, 14, 15, 46, 47, 16, 17, 48, 49, 18, 19, 50, 51, 20, 21, 52, 53, 22, 23, 54, 55, 24, 25,
     56, 57, 26, 27, 58, 59, 28, 29, 60, 61, 30, 31, 62, 63,
 ];
+
+// Whether each unit of a block has three bytes.
+#[inline(always)]
+fn are_threes(lens: u8x16) -> bool
+    ensures { result ≡ true → lens ≡ replicate BLOCK 3 }
+{
+    lens.simd_ne(u8x16::splat(3)).to_bitmask() == 0
+}
+
+// Writes the first three bytes of each word of four bytes, and returns the offset after them.
+#[inline(always)]
+fn put_threes(bytes: &mut [u8], at: usize, words: u8x64) -> usize
+    requires { at + 3 * BLOCK ≤ length bytes.old }
+    ensures place { result ≡ at + 3 * BLOCK }
+    ensures bytes { take result bytes.new ≡ take at bytes.old ++ fronts words (replicate BLOCK 3) }
+{
+    let start: u8x16 = words.swizzle([0, 1, 2, 4, 5, 6, 8, 9, 10, 12, 13, 14, 16, 17, 18, 20]);
+    let at = put_run(bytes, at, &start.to_array());
+    let middle: u8x16 = words.swizzle([
+        21, 22, 24, 25, 26, 28, 29, 30, 32, 33, 34, 36, 37, 38, 40, 41,
+    ]);
+    let at = put_run(bytes, at, &middle.to_array());
+    let end: u8x16 = words.swizzle([
+        42, 44, 45, 46, 48, 49, 50, 52, 53, 54, 56, 57, 58, 60, 61, 62,
+    ]);
+    put_run(bytes, at, &end.to_array())
+}
 
 // Writes the first bytes of each word of four bytes, as many as `lens` says, and returns the offset after them. The
 // bytes after those of a word are overwritten by the next.

@@ -46,12 +46,11 @@ fn push_some<'a>(units: &mut Vec<u16>, bytes: &'a [u8]) -> &'a [u8]
 {
     let end = bytes.len().saturating_sub(STRETCH);
     let mut rest = bytes;
-    while let Some((code, after)) = split_text(rest) {
+    while rest.len() > end
+        && let Some((code, after)) = split_text(rest)
+    {
         push_units(units, code);
         rest = after;
-        if rest.len() <= end {
-            return rest;
-        }
     }
     rest
 }

@@ -239,12 +239,11 @@ fn put_some<'a>(bytes: &mut [u8], start: usize, units: &'a [u16]) -> (usize, &'a
     let end = units.len().saturating_sub(BLOCK);
     let mut at = start;
     let mut rest = units;
-    while let Some((code, after)) = split_units(rest) {
+    while rest.len() > end
+        && let Some((code, after)) = split_units(rest)
+    {
         at = put_code_point(bytes, at, code);
         rest = after;
-        if rest.len() <= end {
-            return (at, rest);
-        }
     }
     (at, rest)
 }

@@ -25,6 +25,10 @@ pub returns-then-are_ascii-clause-scalars : goal.returns-then-are_ascii-clause-s
 returns-then-are_ascii-clause-scalars c lack =
     scalars c.args.low c.args.high c.fits-low.0 c.fits-high.0 c.fits-low.1 c.fits-high.1 lack
 
+pub returns-then-are_threes-clause-scalars : goal.returns-then-are_threes-clause-scalars
+returns-then-are_threes-clause-scalars c lack =
+    scalars c.args.low c.args.high c.fits-low.0 c.fits-high.0 c.fits-low.1 c.fits-high.1 lack
+
 pub returns-clause-scalars : goal.returns-clause-scalars
 returns-clause-scalars c lack =
     scalars c.args.low c.args.high c.fits-low.0 c.fits-high.0 c.fits-low.1 c.fits-high.1 lack

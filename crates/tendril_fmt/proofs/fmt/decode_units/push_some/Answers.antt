@@ -8,14 +8,14 @@ use Rattle.tendril_fmt.proofs.fmt.decode_units.push_some.Goals as goal
 pub push_units-requires-clause-room : goal.push_units-requires-clause-room
 push_units-requires-clause-room c = omega (
   arith,
-  c.loop-code.invariant.room,
+  c.loop-rest.invariant.room,
   utf16_fits c.in-Some.code,
   ap length c.in-Some.ensures.split,
   length-append (encode_utf8 c.in-Some.code) c.in-Some.after.now,
 )
 
-pub loop-code-smaller : goal.loop-code-smaller
-loop-code-smaller c = omega (
+pub loop-rest-smaller : goal.loop-rest-smaller
+loop-rest-smaller c = omega (
   arith,
   ap length c.in-Some.ensures.split,
   length-append (encode_utf8 c.in-Some.code) c.in-Some.after.now,
@@ -23,16 +23,16 @@ loop-code-smaller c = omega (
   len_utf8_bounds c.in-Some.code,
 )
 
-pub loop-code-preserved : goal.loop-code-preserved
-loop-code-preserved c =
-    let items = c.loop-code.units.items in
+pub loop-rest-preserved : goal.loop-rest-preserved
+loop-rest-preserved c =
+    let items = c.loop-rest.units.items in
     let code = c.in-Some.code in
     let after = c.in-Some.after.now in
     record {
       valid = c.in-Some.ensures.rest_valid;
       room = omega (
         arith,
-        c.loop-code.invariant.room,
+        c.loop-rest.invariant.room,
         utf16_fits code,
         ap length c.in-Some.ensures.split,
         length-append (encode_utf8 code) after,
@@ -43,19 +43,5 @@ loop-code-preserved c =
           ap (λ l. l ++ units after) c.push_units.ensures.items
           ∙ append_assoc items (encode_utf16 code) (units after)
           ∙ ap (λ l. items ++ l) (sym c.in-Some.ensures.spelt)
-          ∙ c.loop-code.invariant.given;
+          ∙ c.loop-rest.invariant.given;
     }
-
-pub returns-then-rest-end-clause-room : goal.returns-then-rest-end-clause-room
-returns-then-rest-end-clause-room c =
-    let code = c.in-Some.code in
-    let after = c.in-Some.after.now in
-    omega (
-      arith,
-      c.loop-code.invariant.room,
-      utf16_fits code,
-      ap length c.in-Some.ensures.split,
-      length-append (encode_utf8 code) after,
-      c.push_units.ensures.len,
-      c.push_units.ensures.capacity,
-    )
