@@ -7,9 +7,9 @@ use Rattle.tendril_storage.specs.declared.detached.Kept.TheVariants.{Inline, Alo
 -- the bytes
 abbrev pub kept_bytes : Kept → List ℕ
 kept_bytes (Inline len buffer) = take len buffer
-kept_bytes (Alone sole len) = sole
+kept_bytes (Alone len sole) = sole
 
 -- inline bytes fit in the buffer; others are more than fit inline, and at most MAX_LEN; the length is theirs
 abbrev pub IsKept : Kept → Type 0
 IsKept (Inline len buffer) = len ≤ INLINE_LEN
-IsKept (Alone sole len) = (INLINE_LEN < len) × (len ≤ MAX_LEN) × (len ≡ length sole)
+IsKept (Alone len sole) = (INLINE_LEN < len) × (len ≤ MAX_LEN) × (len ≡ length sole)

@@ -25,3 +25,8 @@ module _ {B : Type 0} where
   abbrev pub IsView : Held B → BlockView B → Type 0
   IsView (Inline len buffer) v = ⊥
   IsView (View shared block offset len) v = (v.block ≡ block) × (v.offset ≡ offset) × (v.len ≡ len)
+
+  -- the bytes are stored inline, in this buffer
+  abbrev pub IsInline : Held B → ℕ → List ℕ → Type 0
+  IsInline (Inline len buffer) n bytes = (n ≡ len) × (bytes ≡ buffer)
+  IsInline (View shared block offset len) n bytes = ⊥

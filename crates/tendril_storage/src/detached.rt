@@ -8,12 +8,15 @@ use std::marker::Model;
 use tendril_block::words::word_of;
 use tendril_block::{Atomicity, INLINE_LEN, MAX_LEN, Refusal, Sole};
 
+// Two words, where a text has three.
 #[derive(Drop)]
 enum Kept {
-    Inline { len: u64, buffer: [u8; INLINE_LEN] },
+    Inline { len: u32, buffer: [u8; INLINE_LEN] },
     // With the length beside it, no node is read when a text is taken back: it may be in the cache of another core.
-    Alone { sole: Sole, len: u32 },
+    Alone { len: u32, sole: Sole },
 }
+
+const _: () = prove!(size_of::<Kept>() == 16);
 
 /// The bytes of a text, shared with no other. Up to 8 are stored inline.
 #[derive(Drop)]
@@ -55,7 +58,7 @@ impl Detached {
                 len: *len,
                 buffer: *buffer,
             },
-            Kept::Alone { sole, len } => Kept::Alone {
+            Kept::Alone { len, sole } => Kept::Alone {
                 sole: Sole::copy(self.alloc, sole.as_slice())?,
                 len: *len,
             },
@@ -72,7 +75,7 @@ impl Detached {
     {
         Detached {
             kept: Kept::Inline {
-                len: bytes.len() as u64,
+                len: bytes.len() as u32,
                 buffer: word_of(bytes).to_le_bytes(),
             },
             alloc,
@@ -85,7 +88,7 @@ impl Detached {
         ensures { result ≡ sole }
     {
         Detached {
-            kept: Kept::Alone { sole, len },
+            kept: Kept::Alone { len, sole },
             alloc,
         }
     }
@@ -100,44 +103,54 @@ impl<A: Atomicity> Storage<A> {
         ensures refusal { IfErr result (λ e. MemoryMay (length self.bytes) e.0) }
         ensures back { IfErr result (λ e. e.1 ≡ self) }
     {
-        // The words are copied as they are: `short` branches on the number of bytes.
-        if let Held::Inline { len, buffer } = &self.held {
-            return Ok(Detached {
-                kept: Kept::Inline {
-                    len: *len,
-                    buffer: *buffer,
-                },
-                alloc: self.alloc,
-            });
-        }
-        if self.as_slice().len() <= INLINE_LEN {
-            return Ok(Detached::short(self.alloc, self.as_slice()));
-        }
-        let text = match self.into_whole() {
-            Ok(detached) => return Ok(detached),
-            Err(text) => text,
-        };
-        match Sole::copy(text.alloc, text.as_slice()) {
-            Ok(sole) => Ok(Detached::long(text.alloc, sole, text.len32())),
-            Err(refusal) => Err((refusal, text)),
-        }
-    }
-
-    // Moves the bytes out of their block if they are all of its bytes and this is its only reference; else returns the
-    // storage.
-    #[inline(always)]
-    fn into_whole(self) -> Result<Detached, Self>
-        requires { INLINE_LEN < length self.bytes }
-        ensures bytes { IfOk result (λ a. a ≡ self.bytes) }
-        ensures back { IfErr result (λ s. s ≡ self) }
-    {
         let Storage { held, alloc } = self;
         let view = match held.into_view() {
             Ok(view) => view,
-            Err(held) => return Err(Storage { held, alloc }),
+            // The words are copied as they are: `short` branches on the number of bytes.
+            Err(inline) => {
+                let len = inline.0 as u32;
+                let buffer = inline.1;
+                return Ok(Detached {
+                    kept: Kept::Inline { len, buffer },
+                    alloc,
+                });
+            }
         };
+        if view.len as usize <= INLINE_LEN {
+            return Ok(Detached::short(alloc, Self::bytes_of(&view)));
+        }
+        let view = match Self::into_whole(alloc, view) {
+            Ok(detached) => return Ok(detached),
+            Err(view) => view,
+        };
+        match Sole::copy(alloc, Self::bytes_of(&view)) {
+            Ok(sole) => Ok(Detached::long(alloc, sole, view.len)),
+            Err(refusal) => Err((refusal, Self::from_view(alloc, view))),
+        }
+    }
+
+    // Borrows the bytes of a view from its block, so that the view itself needn't be in memory.
+    #[inline(always)]
+    fn bytes_of(view: &BlockView<A::Block>) -> &[u8]
+        requires { view.now.offset + view.now.len ≤ length (A.bytes_of view.now.block) }
+        ensures { result.now ≡ take view.now.len (drop view.now.offset (A.bytes_of view.now.block)) }
+    {
+        let start = view.offset as usize;
+        let end = start + view.len as usize;
+        &A::bytes(&view.block)[start..end]
+    }
+
+    // Moves the bytes out of their block if they are all of its bytes and this is its only reference; else returns the
+    // view.
+    #[inline(always)]
+    fn into_whole(alloc: Global, view: BlockView<A::Block>) -> Result<Detached, BlockView<A::Block>>
+        requires long { INLINE_LEN < view.len }
+        requires within { view.offset + view.len ≤ length (A.bytes_of view.block) }
+        ensures bytes { IfOk result (λ a. a ≡ take view.len (drop view.offset (A.bytes_of view.block))) }
+        ensures back { IfErr result (λ v. v ≡ view) }
+    {
         if view.offset != 0 || view.len as usize != A::bytes(&view.block).len() {
-            return Err(Self::from_view(alloc, view));
+            return Err(view);
         }
         let BlockView {
             shared,
@@ -147,15 +160,12 @@ impl<A: Atomicity> Storage<A> {
         } = view;
         match A::into_sole(block) {
             Ok(sole) => Ok(Detached::long(alloc, sole, len)),
-            Err(block) => Err(Self::from_view(
-                alloc,
-                BlockView {
-                    shared,
-                    block,
-                    offset,
-                    len,
-                },
-            )),
+            Err(block) => Err(BlockView {
+                shared,
+                block,
+                offset,
+                len,
+            }),
         }
     }
 
@@ -194,10 +204,13 @@ impl<A: Atomicity> Storage<A> {
         let Detached { kept, alloc } = detached;
         match kept {
             Kept::Inline { len, buffer } => Ok(Storage {
-                held: Held::Inline { len, buffer },
+                held: Held::Inline {
+                    len: len as u64,
+                    buffer,
+                },
                 alloc,
             }),
-            Kept::Alone { sole, len } => match A::from_sole(sole) {
+            Kept::Alone { len, sole } => match A::from_sole(sole) {
                 Ok(block) => Ok(Self::viewed(alloc, block, len)),
                 Err((refusal, sole)) => Err((refusal, Detached::long(alloc, sole, len))),
             },

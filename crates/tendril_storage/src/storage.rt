@@ -59,11 +59,11 @@ impl<B: Drop> Drop for Held<B> {
 
 impl<B: Drop> Held<B> {
     ghost use Rattle.std.specs.Prelude.{MatchResult};
-    ghost use Rattle.tendril_storage.specs.Storages.{IsView};
+    ghost use Rattle.tendril_storage.specs.Storages.{IsInline, IsView};
 
-    // Returns the view, or inline bytes unchanged as the error.
-    pub(crate) fn into_view(self) -> Result<BlockView<B>, Self>
-        ensures { MatchResult result (IsView self) (λ h. h ≡ self) }
+    // Returns the view, or how many bytes are inline and their buffer.
+    pub(crate) fn into_view(self) -> Result<BlockView<B>, (u64, [u8; INLINE_LEN])>
+        ensures { MatchResult result (IsView self) (λ p. IsInline self p.0 p.1) }
     {
         match self {
             Held::View {
@@ -77,7 +77,7 @@ impl<B: Drop> Held<B> {
                 offset,
                 len,
             }),
-            Held::Inline { len, buffer } => Err(Held::Inline { len, buffer }),
+            Held::Inline { len, buffer } => Err((len, buffer)),
         }
     }
 }
