@@ -3,7 +3,7 @@ ghost use Rattle.std.specs.Prelude.{◌≡◌, ◌+◌, ◌-◌, ◌<◌, ◌≤
 ghost use Rattle.std.specs.List.{AllByRecursion};
 
 use std::simd::prelude::*;
-use tendril_fmt::blocks::{BLOCK, first_set, is_ascii};
+use tendril_fmt::blocks::{BLOCK, is_ascii};
 
 // The block at an offset.
 #[inline(always)]
@@ -29,15 +29,6 @@ pub(crate) fn put_block(out: &mut [u8], at: usize, block: u8x16) -> usize
 #[inline(always)]
 pub(crate) fn count_others(block: u8x16) -> u32 {
     block.simd_ge(u8x16::splat(0x80)).to_bitmask().count_ones()
-}
-
-// How many ASCII bytes a block begins with.
-#[inline(always)]
-pub(crate) fn leading_ascii(block: u8x16) -> usize
-    ensures few { result ≤ BLOCK }
-    ensures ascii { (k : ℕ) → k < result → slice_index block k < 0x80 }
-{
-    first_set(block.simd_ge(u8x16::splat(0x80)).to_bitmask())
 }
 
 // Copies the ASCII byte at an offset to another offset, or the block there if all its bytes are ASCII. Returns how many

@@ -5,10 +5,10 @@ ghost use Rattle.tendril_decode.specs.Machines.{broken_marks};
 ghost use Rattle.tendril_decode.specs.Packed.{ArePacked};
 ghost use Rattle.tendril_decode.specs.Single.{DecodesIn, table_of};
 
-use crate::ascii::{block_at, count_others, leading_ascii, put_block};
+use crate::ascii::{block_at, count_others, put_block};
 use crate::part::Part;
 use crate::single_byte::SingleByte;
-use tendril_fmt::blocks::{BLOCK, is_ascii, put_run};
+use tendril_fmt::blocks::{BLOCK, is_ascii, leading_ascii, put_run};
 
 // How many bytes of a block may be no ASCII, so that the ASCII bytes between them are decoded at once.
 const FEW: u32 = 4;

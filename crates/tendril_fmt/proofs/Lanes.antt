@@ -1,13 +1,14 @@
 -- The lanes of vectors of bytes.
 use Rattle.std.proofs.Common.{◌≡◌, ℕ, ◌+◌, ◌*◌, ◌/◌, ◌%◌, ◌^◌, ◌<◌, ◌≤◌, Bool, true, false, not, leb, ltb}
 use Rattle.std.proofs.Common.{eqb, cond, List, [], ◌∷◌, suc, length, map, get_or, slice_index, replicate, refl}
-use Rattle.std.proofs.Common.{sym, ap, ap₂, subst, ◌∙◌, arith, bit_or, Fits, w8}
+use Rattle.std.proofs.Common.{sym, ap, ap₂, subst, ◌∙◌, arith, eqb-true, bit_or, Fits, w8}
+use Rattle.std.proofs.Common.{inl, inr}
 use Rattle.std.specs.List.{prefix_len, range_with_len}
 use Rattle.std.specs.Simd.Lanes.{zip2, sel_l, mask_l, top, Each1, Each2}
-use Rattle.std.proofs.lemmas.Bool.{not-true}
+use Rattle.std.proofs.lemmas.Bool.{cases_lt, not-true}
 use Rattle.std.proofs.lemmas.List.{length-map, get_or-map}
-use Rattle.std.proofs.lemmas.List.Sums.{prefix_len-le-length, prefix_len_passes}
-use Rattle.std.proofs.lemmas.List.FromFn.{fill_by_all}
+use Rattle.std.proofs.lemmas.List.Sums.{prefix_len-le-length, prefix_len_passes, prefix_len_stops}
+use Rattle.std.proofs.lemmas.List.FromFn.{fill_by_all, get_or-map-range_with_len, length-map-range_with_len}
 use Rattle.std.proofs.lemmas.Simd.{length-sel_l, get_or-sel_l}
 use Rattle.std.proofs.lemmas.Simd.{length-zip2, get_or-zip2, length-replicate, get_or-replicate, mask_l-mod}
 use Rattle.std.proofs.lemmas.Simd.{first_set_mask_l, Each1-get_or, Each1-all, Each2-splat}
@@ -80,23 +81,49 @@ pub lanes_list : (n : ℕ) (xs : List ℕ) (f g : ℕ → ℕ) → IsLanes n xs 
     → xs ≡ map g (range_with_len 0 n)
 lanes_list n xs f g p same = fill_by_all g xs n 0 p.long (λ k lt. p.lanes k lt ∙ same k lt)
 
+-- the lanes of a list by their places
+pub lanes_map : (n : ℕ) (f : ℕ → ℕ) → IsLanes n (map f (range_with_len 0 n)) f
+lanes_map n f = record {
+  long = length-map-range_with_len f 0 n;
+  lanes = λ k lt. get_or-map-range_with_len f 0 n k k 0 lt (omega arith);
+}
+
 -- a division of each lane by one number
 pub lanes_divide : (n b : ℕ) (xs : List ℕ) → 0 < b → Each2 (λ (x y : ℕ). 0 < y) xs (replicate n b)
 lanes_divide n b xs lt = Each2-splat (λ (x y : ℕ). 0 < y) xs n b (Each1-all (λ (x : ℕ). 0 < b) (λ x. lt) xs)
+
+counted_by : (n r : ℕ) (xs : List ℕ) → length xs ≡ n → n ≤ 64 → r ≡ first_set n (mask_l (map (top 7) xs) % 2 ^ 64)
+    → r ≡ prefix_len (λ x. not (top 7 x)) xs
+counted_by n r xs long few found =
+    found ∙ ap (first_set n) (mask_l-mod (map (top 7) xs) 64 (omega (arith, length-map xs (top 7), long)))
+    ∙ first_set_mask_l (top 7) xs n long few
 
 -- The lanes before the first whose top bit is set.
 pub before_set : (n r : ℕ) (xs : List ℕ) (f : ℕ → ℕ) → IsLanes n xs f → n ≤ 64
     → r ≡ first_set n (mask_l (map (top 7) xs) % 2 ^ 64) → (r ≤ n) × ((k : ℕ) → k < r → top 7 (f k) ≡ false)
 before_set n r xs f p few found =
-    let counted : r ≡ prefix_len (λ x. not (top 7 x)) xs =
-    found ∙ ap (first_set n) (mask_l-mod (map (top 7) xs) 64 (omega (arith, length-map xs (top 7), p.long)))
-    ∙ first_set_mask_l (top 7) xs n p.long few in
+    let counted = counted_by n r xs p.long few found in
     let within : r ≤ n = omega (arith, counted, p.long, prefix_len-le-length (λ x. not (top 7 x)) xs) in (
       within,
       λ k lt.
           let passes = not-true _ (prefix_len_passes (λ x. not (top 7 x)) xs k 0 (omega (arith, counted))) in
           subst (λ x. top 7 x ≡ false) (p.lanes k (omega arith)) passes,
     )
+
+-- There are some, if the top bit of the first lane isn't set.
+pub some_before_set : (n r : ℕ) (xs : List ℕ) (f : ℕ → ℕ) → IsLanes n xs f → n ≤ 64
+    → r ≡ first_set n (mask_l (map (top 7) xs) % 2 ^ 64) → 0 < n → top 7 (f 0) ≡ false → 0 < r
+some_before_set n r xs f p few found some clear =
+    let counted = counted_by n r xs p.long few found in
+    elim (cases_lt 0 r) [
+      | inl lt ↦ lt
+      | inr le ↦
+          let none : prefix_len (λ x. not (top 7 x)) xs ≡ 0 = omega (arith, counted) in
+          let stops = prefix_len_stops (λ x. not (top 7 x)) xs 0 (omega (arith, none, p.long)) in
+          let here : get_or xs (prefix_len (λ x. not (top 7 x)) xs) 0 ≡ f 0 =
+          ap (λ k. get_or xs k 0) none ∙ p.lanes 0 some in
+          absurd (cc (stops, ap (λ x. not (top 7 x)) here, ap not clear))
+    ]
 
 no_bits : (xs : List ℕ) → ((k : ℕ) → k < length xs → top 7 (get_or xs k 0) ≡ false) → mask_l (map (top 7) xs) ≡ 0
 no_bits [] h = refl
@@ -109,6 +136,14 @@ pub none_set : (n : ℕ) (xs : List ℕ) (f : ℕ → ℕ) → IsLanes n xs f �
 none_set n xs f p none =
     ap (λ m. m % 2 ^ 64)
     (no_bits xs (λ k lt. let within : k < n = omega (arith, p.long) in ap (top 7) (p.lanes k within) ∙ none k within))
+
+-- a lane of a comparison that finds no difference
+pub same_is : (a b : ℕ) → top 7 (other a b) ≡ false → a ≡ b
+same_is a b e = go (eqb a b) refl e
+  where
+    go : (t : Bool) → eqb a b ≡ t → top 7 (cond (not t) 255 0) ≡ false → a ≡ b
+    go true p q = eqb-true a b p
+    go false p q = absurd (cc)
 
 -- a lane of two masks joined
 pub neither : (a b : Bool) → top 7 (bit_or (cond a 255 0) (cond b 255 0)) ≡ false → (a ≡ false) × (b ≡ false)

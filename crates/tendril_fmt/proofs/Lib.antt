@@ -8,6 +8,7 @@ pub mod FourBytes
 pub mod Fronts
 pub mod Lanes
 pub mod LocalTests
+pub mod Pairs
 pub mod Parts
 pub mod Pieces
 pub mod Rests
@@ -26,3 +27,5 @@ pub mod Wtf8Joins
 mod Searches
 mod SetLanes
 mod Trims
+mod UnitBlocks
+mod UnitFronts

@@ -1,5 +1,5 @@
 -- Code points split off valid WTF-8, with the units of each, and off units, with the bytes of each.
-use Rattle.std.proofs.Common.{◌≡◌, ℕ, suc, ◌+◌, ◌-◌, ◌*◌, ◌^◌, ◌%◌, ◌<◌, ◌≤◌, true, false, List, [], ◌∷◌, ◌++◌, length}
+use Rattle.std.proofs.Common.{◌≡◌, ℕ, suc, ◌+◌, ◌-◌, ◌*◌, ◌^◌, ◌<◌, ◌≤◌, true, false, List, [], ◌∷◌, ◌++◌, length}
 use Rattle.std.proofs.Common.{drop, flat_map, slice_index, Option, None, refl, sym, ap, ap₂, subst, ◌∙◌, arith, ⊎_elim}
 use Rattle.std.proofs.Common.{take, length-append}
 use Rattle.std.specs.List.{AllByRecursion}
@@ -11,7 +11,7 @@ use Rattle.std.proofs.lemmas.Bool.{cases_Bool, cond-true, cond-false}
 use Rattle.std.proofs.lemmas.Bool.Decides.{nat_tests}
 use Rattle.std.proofs.lemmas.Str.{chars-nil, length-encode, len_utf8_bounds}
 use Rattle.tendril_fmt.specs.CodePoints.{IsContinuation}
-use Rattle.tendril_fmt.specs.Units.{units_left, SplitsText, SplitsUnits}
+use Rattle.tendril_fmt.specs.Units.{units_left, SplitsText, SplitsUnits, code_of_two, code_of_three, code_of_four}
 use Rattle.tendril_fmt.specs.Wtf8.{IsUnit, IsWtf8, units, wtf8}
 use Rattle.tendril_fmt.specs.Proved.Encodings.{Shape, of1, of2, of3, of4, point_shape}
 use Rattle.tendril_fmt.specs.Proved.Units.{pairs, IsWtf8-from_points, points_of}
@@ -65,28 +65,33 @@ splits_at bytes code count within h =
 
 pub record First (bytes : List ℕ) (a b d e : ℕ) : Type 0 where
   pub one : a < 0x80 → SplitsAt bytes a 1
+  pub lead : 0x80 ≤ a → 0xC0 ≤ a
   pub second : 0x80 ≤ a → 2 ≤ length bytes
-  pub two : 0x80 ≤ a → a < 0xE0 → SplitsAt bytes (a % 0x20 * 0x40 + b % 0x40) 2
+  pub two : 0x80 ≤ a → a < 0xE0 → SplitsAt bytes (code_of_two a b) 2
   pub third : 0xE0 ≤ a → 3 ≤ length bytes
-  pub three : 0xE0 ≤ a → a < 0xF0 → SplitsAt bytes (a % 0x10 * 0x1000 + b % 0x40 * 0x40 + d % 0x40) 3
+  pub three : 0xE0 ≤ a → a < 0xF0 → SplitsAt bytes (code_of_three a b d) 3
   pub fourth : 0xF0 ≤ a → 4 ≤ length bytes
-  pub four : 0xF0 ≤ a → SplitsAt bytes (a % 0x08 * 0x4_0000 + b % 0x40 * 0x1000 + d % 0x40 * 0x40 + e % 0x40) 4
+  pub four : 0xF0 ≤ a → SplitsAt bytes (code_of_four a b d e) 4
+  pub far : 0xF0 ≤ a → 0x1_0000 ≤ code_of_four a b d e
 
 of_one : (a : ℕ) (rest : List ℕ) (b d e : ℕ) → a < 128 → SplitsText (a ∷ rest) a rest → First (a ∷ rest) a b d e
 of_one a rest b d e low h = record {
   one = λ _. splits_at (a ∷ rest) a 1 (omega arith) h;
+  lead = λ high. absurd (omega arith);
   second = λ high. absurd (omega arith);
   two = λ high. absurd (omega arith);
   third = λ high. absurd (omega arith);
   three = λ high. absurd (omega arith);
   fourth = λ high. absurd (omega arith);
   four = λ high. absurd (omega arith);
+  far = λ high. absurd (omega arith);
 }
 
 of_two : (a b c : ℕ) (rest : List ℕ) (d e : ℕ) → 194 ≤ a → a < 224 → IsContinuation b → c + 12416 ≡ a * 64 + b
     → SplitsText (a ∷ b ∷ rest) c rest → First (a ∷ b ∷ rest) a b d e
 of_two a b c rest d e l m f s h = let low = f.0 in record {
   one = λ under. absurd (omega arith);
+  lead = λ _. omega arith;
   second = λ _. omega arith;
   two = λ _ _. splits_at (a ∷ b ∷ rest) _ 2 (omega arith)
       (subst (λ c. SplitsText (a ∷ b ∷ rest) c rest) (omega arith) h);
@@ -94,12 +99,14 @@ of_two a b c rest d e l m f s h = let low = f.0 in record {
   three = λ high. absurd (omega arith);
   fourth = λ high. absurd (omega arith);
   four = λ high. absurd (omega arith);
+  far = λ high. absurd (omega arith);
 }
 
 of_three : (a b d c : ℕ) (rest : List ℕ) (e : ℕ) → 224 ≤ a → a < 240 → IsContinuation b → IsContinuation d
     → c + 925824 ≡ a * 4096 + b * 64 + d → SplitsText (a ∷ b ∷ d ∷ rest) c rest → First (a ∷ b ∷ d ∷ rest) a b d e
 of_three a b d c rest e l m f g s h = let low = f.0 in let last = g.0 in record {
   one = λ under. absurd (omega arith);
+  lead = λ _. omega arith;
   second = λ _. omega arith;
   two = λ _ under. absurd (omega arith);
   third = λ _. omega arith;
@@ -107,13 +114,15 @@ of_three a b d c rest e l m f g s h = let low = f.0 in let last = g.0 in record 
       (subst (λ c. SplitsText (a ∷ b ∷ d ∷ rest) c rest) (omega arith) h);
   fourth = λ high. absurd (omega arith);
   four = λ high. absurd (omega arith);
+  far = λ high. absurd (omega arith);
 }
 
 of_four : (a b d e c : ℕ) (rest : List ℕ) → 240 ≤ a → IsContinuation b → IsContinuation d → IsContinuation e
-    → c + 63447168 ≡ a * 262144 + b * 4096 + d * 64 + e → SplitsText (a ∷ b ∷ d ∷ e ∷ rest) c rest
+    → c + 63447168 ≡ a * 262144 + b * 4096 + d * 64 + e → 65536 ≤ c → SplitsText (a ∷ b ∷ d ∷ e ∷ rest) c rest
     → First (a ∷ b ∷ d ∷ e ∷ rest) a b d e
-of_four a b d e c rest l f g k s h = let low = f.0 in let middle = g.0 in let last = k.0 in record {
+of_four a b d e c rest l f g k s u h = let low = f.0 in let middle = g.0 in let last = k.0 in record {
   one = λ under. absurd (omega arith);
+  lead = λ _. omega arith;
   second = λ _. omega arith;
   two = λ _ under. absurd (omega arith);
   third = λ _. omega arith;
@@ -121,6 +130,7 @@ of_four a b d e c rest l f g k s h = let low = f.0 in let middle = g.0 in let la
   fourth = λ _. omega arith;
   four = λ _. splits_at (a ∷ b ∷ d ∷ e ∷ rest) _ 4 (omega arith)
       (subst (λ c. SplitsText (a ∷ b ∷ d ∷ e ∷ rest) c rest) (omega arith) h);
+  far = λ _. omega arith;
 }
 
 abbrev FirstOf : List ℕ → Type 0
@@ -142,7 +152,7 @@ First-holds bytes w some = let k = split_first bytes w some in by k.0 k.1 k.2 (p
         subst FirstOf (sym is) (of_three a b d c rest _ l m f g s (subst (λ (bs : List ℕ). SplitsText bs c rest) is h))
     by c rest h (of4 a b d x l m f g k s u e) =
         let is : bytes ≡ a ∷ b ∷ d ∷ x ∷ rest = h.split ∙ ap (λ l. l ++ rest) e in
-        subst FirstOf (sym is) (of_four a b d x c rest l f g k s (subst (λ (bs : List ℕ). SplitsText bs c rest) is h))
+        subst FirstOf (sym is) (of_four a b d x c rest l f g k s u (subst (λ (bs : List ℕ). SplitsText bs c rest) is h))
 
 -- Code points split off units, with the bytes of each.
 

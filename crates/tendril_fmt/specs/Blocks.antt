@@ -16,6 +16,12 @@ units_of low high = zip2 (λ l h. l + 256 * h) low high
 abbrev pub LackSurrogates : List ℕ → Type 0
 LackSurrogates high = (k : ℕ) → k < length high → (slice_index high k < 0xD8) ⊎ (0xE0 ≤ slice_index high k)
 
+-- the units of a block are surrogate pairs, by their high bytes
+abbrev pub ArePairs : List ℕ → Type 0
+ArePairs high = (k : ℕ) → 2 * k + 1 < length high
+    → (0xD8 ≤ slice_index high (2 * k)) × (slice_index high (2 * k) < 0xDC)
+    × (0xDC ≤ slice_index high (2 * k + 1)) × (slice_index high (2 * k + 1) < 0xE0)
+
 -- the first bytes of each word of four bytes, as many as the list of lengths says
 abbrev pub fronts : List ℕ → List ℕ → List ℕ
 fronts words [] = []

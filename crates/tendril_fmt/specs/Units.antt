@@ -1,5 +1,6 @@
 -- Code points split off WTF-8 and off units.
-use Rattle.std.specs.Prelude.{◌≡◌, ℕ, ◌-◌, ◌<◌, List, [], ◌∷◌, ◌++◌, length, Option, Some, None, encode_utf8}
+use Rattle.std.specs.Prelude.{◌≡◌, ℕ, ◌+◌, ◌-◌, ◌*◌, ◌%◌, ◌<◌, ◌≤◌, List, [], ◌∷◌, ◌++◌, length, drop, Option}
+use Rattle.std.specs.Prelude.{Some, None, encode_utf8}
 use Rattle.std.specs.Char.Escape.{encode_utf16}
 use Rattle.std.specs.List.{AllByRecursion}
 use Rattle.tendril_fmt.specs.CodePoints.{IsCodePoint}
@@ -22,6 +23,33 @@ pub record SplitsUnits (us : List ℕ) (c : ℕ) (rest : List ℕ) : Type 0 wher
   pub point : IsCodePoint c
   pub spelt : wtf8 us ≡ encode_utf8 c ++ wtf8 rest
   pub shorter : length rest < length us
+
+-- the first byte of a sequence of two bytes, of three, or of four
+abbrev pub LeadsTwo : ℕ → Type 0
+LeadsTwo b = (0xC0 ≤ b) × (b < 0xE0)
+
+abbrev pub LeadsThree : ℕ → Type 0
+LeadsThree b = (0xE0 ≤ b) × (b < 0xF0)
+
+abbrev pub LeadsFour : ℕ → Type 0
+LeadsFour b = 0xF0 ≤ b
+
+-- the code point that a sequence of two bytes encodes, of three, or of four
+abbrev pub code_of_two : ℕ → ℕ → ℕ
+code_of_two a b = a % 0x20 * 0x40 + b % 0x40
+
+abbrev pub code_of_three : ℕ → ℕ → ℕ → ℕ
+code_of_three a b c = a % 0x10 * 0x1000 + b % 0x40 * 0x40 + c % 0x40
+
+abbrev pub code_of_four : ℕ → ℕ → ℕ → ℕ → ℕ
+code_of_four a b c d = a % 0x08 * 0x4_0000 + b % 0x40 * 0x1000 + c % 0x40 * 0x40 + d % 0x40
+
+-- to a vector that had the items `old` the units of the first n bytes of a text are appended
+pub record PushesFront (old new bytes : List ℕ) (n : ℕ) : Type 0 where
+  pub some : 0 < n
+  pub within : n ≤ length bytes
+  pub rest_valid : IsWtf8 (drop n bytes)
+  pub items : new ++ units (drop n bytes) ≡ old ++ units bytes
 
 -- bytes or units begin with the block `front` of ASCII, and `rest` follows
 pub record StartsWithAscii (all front rest : List ℕ) : Type 0 where

@@ -1,9 +1,10 @@
 //! Blocks of 16 bytes or units, that are tested and written at once.
-ghost use Rattle.std.specs.Prelude.{◌≡◌, ◌↔◌, ◌+◌, ◌*◌, ◌<◌, ◌≤◌, ◌++◌, ℕ, true, false};
+ghost use Rattle.std.specs.Prelude.{◌≡◌, ◌↔◌, ◌+◌, ◌*◌, ◌<◌, ◌≤◌, ◌++◌, ℕ, List, true, false};
 ghost use Rattle.std.specs.Prelude.{length, replicate, slice_index, take};
 ghost use Rattle.std.specs.List.{AllByRecursion};
 ghost use Rattle.std.specs.Str.{all_scalars, encode_utf8_all};
-ghost use Rattle.tendril_fmt.specs.Blocks.{LackSurrogates, first_set, fronts, units_of};
+ghost use Rattle.tendril_fmt.specs.Blocks.{ArePairs, LackSurrogates, first_set, fronts, units_of};
+ghost use Rattle.tendril_fmt.specs.Wtf8.{wtf8};
 
 use std::simd::prelude::*;
 
@@ -21,13 +22,23 @@ pub fn is_ascii(block: u8x16) -> bool
     block.simd_ge(u8x16::splat(0x80)).to_bitmask() == 0
 }
 
-/// The place of the lowest bit that is set, or `BLOCK` if none is.
+/// How many ASCII bytes a block begins with.
 #[inline(always)]
-pub fn first_set(mask: u64) -> usize
-    ensures { result ≡ first_set BLOCK mask }
+pub fn leading_ascii(block: u8x16) -> usize
+    ensures few { result ≤ BLOCK }
+    ensures ascii { (k : ℕ) → k < result → slice_index block k < 0x80 }
+    ensures some { slice_index block 0 < 0x80 → 0 < result }
+{
+    first_set(block.simd_ge(u8x16::splat(0x80)).to_bitmask(), BLOCK)
+}
+
+// The place of the lowest bit that is set in the mask of so many lanes, or their number if none is.
+#[inline(always)]
+pub(crate) fn first_set(mask: u64, lanes: usize) -> usize
+    ensures { result ≡ first_set lanes mask }
 {
     if mask == 0 {
-        BLOCK
+        lanes
     } else {
         mask.trailing_zeros() as usize
     }
@@ -182,3 +193,44 @@ fn put_words(bytes: &mut [u8], start: usize, words: &[u8], lens: &[u8]) -> usize
     }
     at
 }
+
+// Whether the units of a block are surrogate pairs, by their high bytes.
+#[inline(always)]
+pub(crate) fn are_pairs(high: u8x16) -> bool
+    ensures { result ≡ true → ArePairs high }
+{
+    let others = (high / u8x16::splat(4)).simd_ne(u8x16::from_array(LEAD_TRAIL));
+    others.to_bitmask() == 0
+}
+
+// The quarter of the high byte of a lead and that of a trail, for each pair of a block.
+const LEAD_TRAIL: [u8; 16] = [
+    0x36, 0x37, 0x36, 0x37, 0x36, 0x37, 0x36, 0x37, 0x36, 0x37, 0x36, 0x37, 0x36, 0x37, 0x36, 0x37,
+];
+
+// The WTF-8 of a block of surrogate pairs, by the low and the high bytes of its units: four bytes for a pair, whose
+// first two depend on the lead alone.
+#[inline(always)]
+pub(crate) fn encode_pairs(low: u8x16, high: u8x16) -> u8x32
+    requires { ArePairs high }
+    ensures { (rest : List ℕ) → wtf8 (units_of low high ++ rest) ≡ result ++ wtf8 rest }
+{
+    // A surrogate has two bits in its high byte, and eight in its low one.
+    let top_bits = high % u8x16::splat(4);
+    let lead_bits = low / u8x16::splat(4) + u8x16::splat(0x10);
+    let first = lead_bits / u8x16::splat(0x40) + top_bits + u8x16::splat(0xF0);
+    let second = lead_bits % u8x16::splat(0x40) + u8x16::splat(0x80);
+    let lead_low: u8x16 = low.swizzle(LEAD_TWICE);
+    let middle = lead_low % u8x16::splat(4) * u8x16::splat(0x10) + top_bits * u8x16::splat(4);
+    let third = middle + low / u8x16::splat(0x40) + u8x16::splat(0x80);
+    let fourth = low % u8x16::splat(0x40) + u8x16::splat(0x80);
+    let left: u8x16 = first.shuffle(third, ALTERNATELY);
+    let right: u8x16 = second.shuffle(fourth, ALTERNATELY);
+    left.shuffle(right, IN_PAIRS)
+}
+
+// The lane of each lead twice: at its own place, and at its trail's.
+const LEAD_TWICE: [usize; 16] = [0, 0, 2, 2, 4, 4, 6, 6, 8, 8, 10, 10, 12, 12, 14, 14];
+
+// Of two vectors of 16, the lanes at the places of leads of the first, and those at the places of trails of the second.
+const ALTERNATELY: [usize; 16] = [0, 17, 2, 19, 4, 21, 6, 23, 8, 25, 10, 27, 12, 29, 14, 31];

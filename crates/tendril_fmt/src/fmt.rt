@@ -16,6 +16,7 @@ mod latin1;
 mod local;
 mod subset;
 mod theorems;
+mod unit_blocks;
 mod units;
 mod utf8;
 mod wtf8;

@@ -1,12 +1,15 @@
 //! The units of WTF-8 in a vector.
-ghost use Rattle.std.specs.Prelude.{◌≡◌, ◌+◌, ◌<◌, ◌≤◌, ◌++◌, length, vec_len, vec_capacity, IfSome, true};
+ghost use Rattle.std.specs.Prelude.{◌≡◌, ◌+◌, ◌<◌, ◌≤◌, ◌++◌, length, take, slice_index, vec_len, vec_capacity};
 ghost use Rattle.std.specs.Char.Escape.{encode_utf16};
-ghost use Rattle.std.specs.Simd.Lanes.{chunk};
 ghost use Rattle.tendril_fmt.specs.CodePoints.{IsCodePoint};
-ghost use Rattle.tendril_fmt.specs.Units.{StartsWithAscii};
+ghost use Rattle.tendril_fmt.specs.Units.{LeadsTwo, LeadsThree, LeadsFour, PushesFront};
 ghost use Rattle.tendril_fmt.specs.Wtf8.{IsWtf8, units as units_of};
 
-use crate::blocks::{BLOCK, is_ascii};
+use crate::blocks::{BLOCK, is_ascii, leading_ascii};
+use crate::fmt::unit_blocks::{
+    THREES, are_fours, count_threes, count_twos, units_of_ascii, units_of_fours, units_of_threes,
+    units_of_twos,
+};
 use crate::futf::split_text;
 use std::simd::prelude::*;
 
@@ -19,69 +22,152 @@ pub fn decode_wtf8(bytes: &[u8], units: Vec<u16>) -> Vec<u16>
     // The vector is passed by value, so that the compiler knows that a write to its elements doesn't change its length.
     let mut all = units;
     let mut rest = bytes;
-    loop {
-        if let Some((ascii, after)) = split_ascii_bytes(rest) {
-            push_ascii(&mut all, ascii);
-            rest = after;
-        } else if rest.is_empty() {
-            return all;
-        } else {
-            rest = push_some(&mut all, rest);
-        }
+    while BLOCK <= rest.len() {
+        let count = push_front(&mut all, rest);
+        rest = &rest[count..];
     }
+    push_rest(&mut all, rest);
+    all
 }
 
-// How many bytes are decoded one code point after another, before a block of ASCII is looked for again.
-const STRETCH: usize = 128;
-
-// Appends the units of the first `STRETCH` bytes, and returns the bytes after them.
-#[inline]
-fn push_some<'a>(units: &mut Vec<u16>, bytes: &'a [u8]) -> &'a [u8]
+// Appends the units of a text, one code point after another.
+fn push_rest(units: &mut Vec<u16>, bytes: &[u8])
     requires valid { IsWtf8 bytes.now }
     requires room { vec_len units.old + length bytes.now ≤ vec_capacity units.old }
-    ensures valid { IsWtf8 result.now }
-    ensures room { vec_len units.new + length result.now ≤ vec_capacity units.new }
-    ensures items { units.new.items ++ units_of result.now ≡ units.old.items ++ units_of bytes.now }
-    ensures shorter { 0 < length bytes.now → length result.now < length bytes.now }
+    ensures { units.new.items ≡ units.old.items ++ units_of bytes.now }
 {
-    let end = bytes.len().saturating_sub(STRETCH);
     let mut rest = bytes;
-    while rest.len() > end
-        && let Some((code, after)) = split_text(rest)
-    {
+    while let Some((code, after)) = split_text(rest) {
         push_units(units, code);
         rest = after;
     }
-    rest
 }
 
-// The first `BLOCK` bytes, if all are ASCII, and those after them. If the first isn't one, the others aren't read.
-#[inline]
-fn split_ascii_bytes(bytes: &[u8]) -> Option<(&[u8], &[u8])>
-    ensures { IfSome result (λ p. StartsWithAscii bytes.now p.0.now p.1.now) }
-{
-    let first = bytes.first()?;
-    if 0x80 <= *first || bytes.len() < BLOCK {
-        return None;
-    }
-    let (front, after) = bytes.split_at(BLOCK);
-    if !is_ascii(u8x16::from_slice(front)) {
-        return None;
-    }
-    Some((front, after))
-}
-
-// Appends a block of ASCII bytes as units.
-#[inline]
-fn push_ascii(units: &mut Vec<u16>, bytes: &[u8])
-    requires block { length bytes.now ≡ BLOCK }
-    requires room { vec_len units.old + BLOCK ≤ vec_capacity units.old }
-    ensures items { units.new.items ≡ units.old.items ++ chunk 0 BLOCK bytes.now }
-    ensures len { vec_len units.new ≡ vec_len units.old + BLOCK }
+// Appends the units of the characters that a block begins with, as far as they have as many bytes as the first.
+// Returns how many bytes they have.
+#[inline(always)]
+fn push_front(units: &mut Vec<u16>, bytes: &[u8]) -> usize
+    requires valid { IsWtf8 bytes.now }
+    requires block { BLOCK ≤ length bytes.now }
+    requires room { vec_len units.old + length bytes.now ≤ vec_capacity units.old }
+    ensures pushes { PushesFront units.old.items units.new.items bytes.now result }
+    ensures len { vec_len units.new ≤ vec_len units.old + result }
     ensures capacity { vec_capacity units.old ≤ vec_capacity units.new }
 {
-    let block = u8x16::from_slice(bytes).cast::<u16>().to_array();
-    let _appended = units.extend_from_slice(&block);
+    match bytes[0] {
+        0x00..0x80 => push_ascii(units, bytes),
+        0x80..0xE0 => push_twos(units, bytes),
+        0xE0..0xF0 => push_threes(units, bytes),
+        0xF0..=0xFF => push_fours(units, bytes),
+    }
+}
+
+#[inline(always)]
+fn push_ascii(units: &mut Vec<u16>, bytes: &[u8]) -> usize
+    requires valid { IsWtf8 bytes.now }
+    requires block { BLOCK ≤ length bytes.now }
+    requires room { vec_len units.old + length bytes.now ≤ vec_capacity units.old }
+    requires first { slice_index bytes.now 0 < 0x80 }
+    ensures pushes { PushesFront units.old.items units.new.items bytes.now result }
+    ensures len { vec_len units.new ≤ vec_len units.old + result }
+    ensures capacity { vec_capacity units.old ≤ vec_capacity units.new }
+{
+    let block = u8x16::from_slice(bytes);
+    let wide = units_of_ascii(block).to_array();
+    if is_ascii(block) {
+        push_all(units, &wide);
+        return BLOCK;
+    }
+    let count = leading_ascii(block);
+    push_first(units, &wide, count);
+    count
+}
+
+#[inline(always)]
+fn push_twos(units: &mut Vec<u16>, bytes: &[u8]) -> usize
+    requires valid { IsWtf8 bytes.now }
+    requires block { BLOCK ≤ length bytes.now }
+    requires room { vec_len units.old + length bytes.now ≤ vec_capacity units.old }
+    requires first { (0x80 ≤ slice_index bytes.now 0) × (slice_index bytes.now 0 < 0xE0) }
+    ensures pushes { PushesFront units.old.items units.new.items bytes.now result }
+    ensures len { vec_len units.new ≤ vec_len units.old + result }
+    ensures capacity { vec_capacity units.old ≤ vec_capacity units.new }
+{
+    let block = u8x16::from_slice(bytes);
+    let count = count_twos(block);
+    push_first(units, &units_of_twos(block).to_array(), count);
+    2 * count
+}
+
+#[inline(always)]
+fn push_threes(units: &mut Vec<u16>, bytes: &[u8]) -> usize
+    requires valid { IsWtf8 bytes.now }
+    requires block { BLOCK ≤ length bytes.now }
+    requires room { vec_len units.old + length bytes.now ≤ vec_capacity units.old }
+    requires first { LeadsThree (slice_index bytes.now 0) }
+    ensures pushes { PushesFront units.old.items units.new.items bytes.now result }
+    ensures len { vec_len units.new ≤ vec_len units.old + result }
+    ensures capacity { vec_capacity units.old ≤ vec_capacity units.new }
+{
+    let block = u8x16::from_slice(bytes);
+    let decoded = units_of_threes(block).to_array();
+    let count = count_threes(block);
+    if count == THREES {
+        // A constant, so that the next block needn't wait for the count.
+        push_all(units, &decoded[..THREES]);
+        return 3 * THREES;
+    }
+    push_first(units, &decoded, count);
+    3 * count
+}
+
+#[inline(always)]
+fn push_fours(units: &mut Vec<u16>, bytes: &[u8]) -> usize
+    requires valid { IsWtf8 bytes.now }
+    requires block { BLOCK ≤ length bytes.now }
+    requires room { vec_len units.old + length bytes.now ≤ vec_capacity units.old }
+    requires first { LeadsFour (slice_index bytes.now 0) }
+    ensures pushes { PushesFront units.old.items units.new.items bytes.now result }
+    ensures len { vec_len units.new ≤ vec_len units.old + result }
+    ensures capacity { vec_capacity units.old ≤ vec_capacity units.new }
+{
+    let block = u8x16::from_slice(bytes);
+    let decoded = units_of_fours(block).to_array();
+    if are_fours(block) {
+        push_all(units, &decoded);
+        return BLOCK;
+    }
+    push_first(units, &decoded, 2);
+    4
+}
+
+// Appends the first units of a block. There has to be room for all of it.
+#[inline(always)]
+fn push_first(units: &mut Vec<u16>, block: &[u16], count: usize)
+    requires within { count ≤ length block.now }
+    requires room { vec_len units.old + length block.now ≤ vec_capacity units.old }
+    ensures items { units.new.items ≡ units.old.items ++ take count block.now }
+    ensures len { vec_len units.new ≡ vec_len units.old + count }
+    ensures capacity { vec_capacity units.old ≤ vec_capacity units.new }
+{
+    let len = units.len() + count;
+    push_all(units, block);
+    units.truncate(len);
+}
+
+// Appends units that there is room for.
+#[inline(always)]
+fn push_all(units: &mut Vec<u16>, more: &[u16])
+    requires room { vec_len units.old + length more.now ≤ vec_capacity units.old }
+    ensures items { units.new.items ≡ units.old.items ++ more.now }
+    ensures len { vec_len units.new ≡ vec_len units.old + length more.now }
+    ensures capacity { vec_capacity units.old ≤ vec_capacity units.new }
+{
+    // So the compiler knows too that the vector doesn't grow, and keeps its length in a register.
+    if units.capacity() - units.len() < more.len() {
+        unreachable!();
+    }
+    let _appended = units.extend_from_slice(more);
 }
 
 // Appends the one or two units of a code point.

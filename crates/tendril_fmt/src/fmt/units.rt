@@ -9,7 +9,9 @@ ghost use Rattle.std.specs.Simd.Lanes.{chunk, put_chunk};
 ghost use Rattle.tendril_fmt.specs.Units.{SplitsUnits, StartsWithAscii, bytes_behind};
 ghost use Rattle.tendril_fmt.specs.Wtf8.{IsWtf8, units as units_of, wtf8};
 
-use crate::blocks::{BLOCK, ROOM, encode_block, has_surrogate, low_high};
+use crate::blocks::{
+    BLOCK, ROOM, are_pairs, encode_block, encode_pairs, has_surrogate, low_high, put_run,
+};
 use crate::fmt::code_point::put_code_point;
 use crate::futf::split_text;
 use std::iter::FusedIterator;
@@ -208,8 +210,8 @@ fn put_ascii(bytes: &mut [u8], at: usize, units: &[u16])
         .copy_to_slice(&mut bytes[at..]);
 }
 
-// Writes the WTF-8 of the first units: of a block if none of its units is a surrogate and there is room for it. Returns
-// the offset after it, and the units after them.
+// Writes the WTF-8 of the first units: of a block if its units are surrogate pairs, or none is a surrogate and there is
+// room for it. Returns the offset after it, and the units after them.
 #[inline]
 fn put_next<'a>(bytes: &mut [u8], at: usize, units: &'a [u16]) -> (usize, &'a [u16])
     requires { at + length (wtf8 units.now) ≡ length bytes.old }
@@ -217,10 +219,15 @@ fn put_next<'a>(bytes: &mut [u8], at: usize, units: &'a [u16]) -> (usize, &'a [u
     ensures bytes { take result.0 bytes.new ++ wtf8 result.1.now ≡ take at bytes.old ++ wtf8 units.now }
     ensures shorter { 0 < length units.now → length result.1.now < length units.now }
 {
-    if units.len() >= BLOCK && bytes.len() - at >= ROOM {
+    if units.len() >= BLOCK {
         let (front, after) = units.split_at(BLOCK);
         let (low, high) = low_high(front);
-        if !has_surrogate(high) {
+        if has_surrogate(high) {
+            if are_pairs(high) {
+                let end = put_run(bytes, at, &encode_pairs(low, high).to_array());
+                return (end, after);
+            }
+        } else if bytes.len() - at >= ROOM {
             let end = encode_block(bytes, at, low, high);
             return (end, after);
         }

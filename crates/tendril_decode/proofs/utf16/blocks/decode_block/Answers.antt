@@ -1,4 +1,4 @@
-use Rattle.std.proofs.Common.{◌≡◌, ◌++◌, take, sym, ap, ◌∙◌}
+use Rattle.std.proofs.Common.{◌++◌, take, sym, ap, ◌∙◌}
 use Rattle.std.specs.Str.{all_scalars, encode_utf8_all}
 use Rattle.tendril_decode.proofs.Utf16Blocks.{units_are}
 use Rattle.tendril_decode.proofs.utf16.blocks.decode_block.Goals as goal

@@ -15,23 +15,23 @@ spelt all front after block f a b scalars =
     ap wtf8 (sym (take-append-drop 16 all) ∙ ap₂ (λ x y. x ++ y) (sym (b ∙ f)) (sym a))
     ∙ wtf8-scalars block after scalars
 
-pub returns-then-not-has_surrogate-clause-place : goal.returns-then-not-has_surrogate-clause-place
-returns-then-not-has_surrogate-clause-place c =
+pub returns-then-bytes-at-ge-ROOM-clause-place : goal.returns-then-bytes-at-ge-ROOM-clause-place
+returns-then-bytes-at-ge-ROOM-clause-place c =
     let block = units_of c.low_high.result.0 c.low_high.result.1 in
     let bytes = encode_utf8_all block in
     let after = c.split_at.result.1.now in
     let put = c.encode_block-end in
     let is =
     spelt c.args.units.now c.split_at.result.0.now after block c.split_at.ensures.front c.split_at.ensures.back
-    c.low_high.ensures (put.ensures.scalars (c.has_surrogate.ensures.0 c.if-not-has_surrogate.true)) in
+    c.low_high.ensures (put.ensures.scalars (c.has_surrogate.ensures.0 c.if-has_surrogate.false)) in
     let end : put.result ≡ c.args.at + length bytes =
     place_written put.new.bytes c.args.bytes.now bytes c.args.at put.result put.ensures.bytes
     (omega (arith, c.requires))
     (omega (arith, put.ensures.place, c.if-bytes-at-ge-ROOM.true, put.auto.bytes)) in
     omega (arith, end, c.requires, ap length is, length-append bytes (wtf8 after))
 
-pub returns-then-not-has_surrogate-clause-bytes : goal.returns-then-not-has_surrogate-clause-bytes
-returns-then-not-has_surrogate-clause-bytes c =
+pub returns-then-bytes-at-ge-ROOM-clause-bytes : goal.returns-then-bytes-at-ge-ROOM-clause-bytes
+returns-then-bytes-at-ge-ROOM-clause-bytes c =
     let block = units_of c.low_high.result.0 c.low_high.result.1 in
     let bytes = encode_utf8_all block in
     let after = c.split_at.result.1.now in
@@ -39,7 +39,7 @@ returns-then-not-has_surrogate-clause-bytes c =
     let put = c.encode_block-end in
     let is =
     spelt c.args.units.now c.split_at.result.0.now after block c.split_at.ensures.front c.split_at.ensures.back
-    c.low_high.ensures (put.ensures.scalars (c.has_surrogate.ensures.0 c.if-not-has_surrogate.true)) in
+    c.low_high.ensures (put.ensures.scalars (c.has_surrogate.ensures.0 c.if-has_surrogate.false)) in
     ap (λ l. l ++ wtf8 after) put.ensures.bytes
     ∙ append_assoc front bytes (wtf8 after)
     ∙ ap (λ l. front ++ l) (sym is)
