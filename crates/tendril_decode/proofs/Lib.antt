@@ -5,7 +5,7 @@ pub mod EucJpSteps
 pub mod ByteSteps
 pub mod Lengths
 pub mod SingleSteps
-pub mod Lanes
+pub mod AsciiFronts
 pub mod ReplacementSteps
 pub mod Utf16Blocks
 pub mod Utf16Steps

@@ -10,7 +10,7 @@ use Rattle.tendril_lossy.specs.Lossy.{Char}
 use Rattle.tendril_decode.specs.declared.single_byte.SingleByte.{SingleByte}
 use Rattle.tendril_decode.specs.Single.{DecodesIn, single_byte, table_of, tells_byte}
 use Rattle.tendril_decode.proofs.CharacterSteps.{ascii_done}
-use Rattle.tendril_decode.proofs.Lanes.{ascii_front, front_of}
+use Rattle.tendril_decode.proofs.AsciiFronts.{ascii_front, front_of}
 use Rattle.tendril_fmt.proofs.Written.{front_written}
 
 ascii_told : (table : List ℕ) (b : ℕ) → b < 0x80 → tells_byte table b ≡ Char b ∷ []

@@ -1,5 +1,5 @@
 //! Blocks of bytes that are read and written at once.
-ghost use Rattle.std.specs.Prelude.{◌≡◌, ◌+◌, ◌-◌, ◌<◌, ◌≤◌, ◌++◌, ℕ, length, take, slice_index, slice_range, true};
+ghost use Rattle.std.specs.Prelude.{◌≡◌, ◌+◌, ◌-◌, ◌<◌, ◌≤◌, ◌++◌, length, take, slice_index, slice_range};
 ghost use Rattle.std.specs.List.{AllByRecursion};
 
 use std::simd::prelude::*;

@@ -1,16 +1,12 @@
 -- Blocks of ASCII, tested and written by vectors.
 use Rattle.std.proofs.Common.{◌≡◌, ℕ, ◌+◌, ◌-◌, ◌*◌, ◌%◌, ◌^◌, ◌<◌, ◌≤◌, Bool, true, false, cond, eqb, leb}
-use Rattle.std.proofs.Common.{List, [], ◌∷◌, ◌++◌, length, take, drop, map, replicate, refl, sym, ap, ap₂, subst, ◌∙◌}
+use Rattle.std.proofs.Common.{List, [], ◌∷◌, ◌++◌, length, take, map, replicate, refl, sym, ap, ap₂, ◌∙◌}
 use Rattle.std.proofs.Common.{arith, Decides, eq-eqb, eqb-true, leb-false, Fits, w8}
 use borrow.Author.Tests.{lt-leb}
 use Rattle.std.specs.List.{AllByRecursion}
 use Rattle.std.specs.Simd.Lanes.{chunk, put_chunk, zip2, mask_l, top, Each1}
 use Rattle.std.proofs.lemmas.List.{length-map, take_all}
 use Rattle.std.proofs.lemmas.Simd.{tops_compared, zip2_splat_left, mask_l-mod, Each1-chunk, take_more_put_chunk}
-use Rattle.tendril_fmt.specs.Proved.Units.{one_unit}
-use Rattle.tendril_fmt.specs.Wtf8.{IsWtf8, units}
-use Rattle.tendril_fmt.proofs.Seams.{rest_slice}
-use Rattle.tendril_fmt.proofs.UnitSplits.{First-holds}
 use mir.Syntax.{Width}
 use mir.Val.{bits, hbits}
 
@@ -45,24 +41,10 @@ fits (x ∷ xs) h = (record { fits = omega (arith, h.0) }, fits xs h.1)
 pub block_fits : (xs : List ℕ) → AllByRecursion (λ u. u < 128) xs → Each1 (Fits w8) (chunk 0 16 xs)
 block_fits xs h = Each1-chunk (Fits w8) 0 16 xs (fits xs h)
 
-pub block_whole : (block : List ℕ) → length block ≡ 16 → chunk 0 16 block ≡ block
-block_whole block long = take_all 16 block (omega arith)
-
 -- a block is written
 pub block_written : (old block : List ℕ) (at : ℕ) → length block ≡ 16 → at + 16 ≤ length old
     → take (at + 16) (put_chunk at old (chunk 0 16 block)) ≡ take at old ++ block
 block_written old block at long room =
-    let whole = block_whole block long in
+    let whole : chunk 0 16 block ≡ block = take_all 16 block (omega arith) in
     take_more_put_chunk at old (chunk 0 16 block) (at + 16) (omega (arith, long, ap length whole)) room
     ∙ ap (λ l. take at old ++ l) whole
-
--- valid WTF-8 that begins with ASCII has these units, then those of the rest
-pub units-ascii : (front rest : List ℕ) → AllByRecursion (λ b. b < 128) front → IsWtf8 (front ++ rest)
-    → IsWtf8 rest × (units (front ++ rest) ≡ front ++ units rest)
-units-ascii [] rest h w = (w, refl)
-units-ascii (a ∷ front) rest h w =
-    let all = a ∷ (front ++ rest) in
-    let first = ((First-holds all w (omega arith)).one h.0).splits in
-    let same : take (length all - 1) (drop 1 all) ≡ front ++ rest = rest_slice all 1 in
-    let more = units-ascii front rest h.1 (subst IsWtf8 same first.rest_valid) in
-    (more.0, first.spelt ∙ ap₂ (λ x y. x ++ y) (one_unit a (omega (arith, h.0))) (ap units same ∙ more.1))

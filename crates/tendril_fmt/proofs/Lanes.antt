@@ -1,11 +1,11 @@
 -- The lanes of vectors of bytes.
 use Rattle.std.proofs.Common.{◌≡◌, ℕ, ◌+◌, ◌*◌, ◌/◌, ◌%◌, ◌^◌, ◌<◌, ◌≤◌, Bool, true, false, not, leb, ltb}
 use Rattle.std.proofs.Common.{eqb, cond, List, [], ◌∷◌, suc, length, map, get_or, slice_index, replicate, refl}
-use Rattle.std.proofs.Common.{sym, ap, ap₂, subst, ◌∙◌, arith, eqb-true, bit_or, Fits, w8}
-use Rattle.std.proofs.Common.{inl, inr}
+use Rattle.std.proofs.Common.{sym, ap, ap₂, subst, ◌∙◌, arith, eq-eqb, bit_or, Fits, w8}
 use Rattle.std.specs.List.{prefix_len, range_with_len}
 use Rattle.std.specs.Simd.Lanes.{zip2, sel_l, mask_l, top, Each1, Each2}
-use Rattle.std.proofs.lemmas.Bool.{cases_lt, not-true}
+use Rattle.std.proofs.lemmas.Bool.{not-true, not-false}
+use Rattle.std.proofs.lemmas.Bool.Decides.{nat_tests}
 use Rattle.std.proofs.lemmas.List.{length-map, get_or-map}
 use Rattle.std.proofs.lemmas.List.Sums.{prefix_len-le-length, prefix_len_passes, prefix_len_stops}
 use Rattle.std.proofs.lemmas.List.FromFn.{fill_by_all, get_or-map-range_with_len, length-map-range_with_len}
@@ -110,20 +110,15 @@ before_set n r xs f p few found =
           subst (λ x. top 7 x ≡ false) (p.lanes k (omega arith)) passes,
     )
 
--- There are some, if the top bit of the first lane isn't set.
-pub some_before_set : (n r : ℕ) (xs : List ℕ) (f : ℕ → ℕ) → IsLanes n xs f → n ≤ 64
-    → r ≡ first_set n (mask_l (map (top 7) xs) % 2 ^ 64) → 0 < n → top 7 (f 0) ≡ false → 0 < r
-some_before_set n r xs f p few found some clear =
+-- The top bit of that lane is set.
+pub top_at_set : (n r : ℕ) (xs : List ℕ) (f : ℕ → ℕ) → IsLanes n xs f → n ≤ 64
+    → r ≡ first_set n (mask_l (map (top 7) xs) % 2 ^ 64) → r < n → top 7 (f r) ≡ true
+top_at_set n r xs f p few found within =
     let counted = counted_by n r xs p.long few found in
-    elim (cases_lt 0 r) [
-      | inl lt ↦ lt
-      | inr le ↦
-          let none : prefix_len (λ x. not (top 7 x)) xs ≡ 0 = omega (arith, counted) in
-          let stops = prefix_len_stops (λ x. not (top 7 x)) xs 0 (omega (arith, none, p.long)) in
-          let here : get_or xs (prefix_len (λ x. not (top 7 x)) xs) 0 ≡ f 0 =
-          ap (λ k. get_or xs k 0) none ∙ p.lanes 0 some in
-          absurd (cc (stops, ap (λ x. not (top 7 x)) here, ap not clear))
-    ]
+    let stops = prefix_len_stops (λ x. not (top 7 x)) xs 0 (omega (arith, counted, p.long)) in
+    let here : get_or xs (prefix_len (λ x. not (top 7 x)) xs) 0 ≡ f r =
+    ap (λ k. get_or xs k 0) (sym counted) ∙ p.lanes r within in
+    ap (top 7) (sym here) ∙ not-false _ stops
 
 no_bits : (xs : List ℕ) → ((k : ℕ) → k < length xs → top 7 (get_or xs k 0) ≡ false) → mask_l (map (top 7) xs) ≡ 0
 no_bits [] h = refl
@@ -137,13 +132,16 @@ none_set n xs f p none =
     ap (λ m. m % 2 ^ 64)
     (no_bits xs (λ k lt. let within : k < n = omega (arith, p.long) in ap (top 7) (p.lanes k within) ∙ none k within))
 
--- a lane of a comparison that finds no difference
+pub top_mask : (t : Bool) → top 7 (cond t 255 0) ≡ t
+top_mask true = refl
+top_mask false = refl
+
+-- lanes of comparisons that are clear
 pub same_is : (a b : ℕ) → top 7 (other a b) ≡ false → a ≡ b
-same_is a b e = go (eqb a b) refl e
-  where
-    go : (t : Bool) → eqb a b ≡ t → top 7 (cond (not t) 255 0) ≡ false → a ≡ b
-    go true p q = eqb-true a b p
-    go false p q = absurd (cc)
+same_is a b e = let t : not (eqb a b) ≡ false = sym (top_mask (not (eqb a b))) ∙ e in grind (arith, nat_tests)
+
+pub is_same : (a b : ℕ) → a ≡ b → top 7 (other a b) ≡ false
+is_same a b e = top_mask (not (eqb a b)) ∙ ap not (eq-eqb a b e)
 
 -- a lane of two masks joined
 pub neither : (a b : Bool) → top 7 (bit_or (cond a 255 0) (cond b 255 0)) ≡ false → (a ≡ false) × (b ≡ false)

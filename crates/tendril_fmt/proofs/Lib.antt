@@ -8,7 +8,6 @@ pub mod FourBytes
 pub mod Fronts
 pub mod Lanes
 pub mod LocalTests
-pub mod Pairs
 pub mod Parts
 pub mod Pieces
 pub mod Rests
@@ -29,3 +28,4 @@ mod SetLanes
 mod Trims
 mod UnitBlocks
 mod UnitFronts
+mod Pairs

@@ -1,13 +1,13 @@
 -- Blocks of characters of equally many bytes, by their lanes.
-use Rattle.std.proofs.Common.{◌≡◌, ℕ, ◌+◌, ◌*◌, ◌/◌, ◌%◌, ◌<◌, true, false, not, eqb, ltb, cond, List, [], ◌∷◌, ◌++◌}
-use Rattle.std.proofs.Common.{length, map, get_or, replicate, refl, sym, ap, subst, ◌∙◌, arith, eq-eqb, ne_eqb}
+use Rattle.std.proofs.Common.{◌≡◌, ℕ, ◌+◌, ◌*◌, ◌/◌, ◌%◌, ◌<◌, true, false, eqb, ltb, cond, List, [], ◌∷◌, ◌++◌}
+use Rattle.std.proofs.Common.{length, map, get_or, replicate, refl, sym, subst, ◌∙◌, arith, eq-eqb, ne_eqb}
 use Rattle.std.specs.List.{range_with_len}
 use Rattle.std.specs.Simd.Lanes.{zip2, top, pick_l}
 use Rattle.std.proofs.lemmas.Bool.{cond-true, cond-false}
 use Rattle.std.proofs.lemmas.Bool.Decides.{nat_tests}
 use Rattle.tendril_fmt.specs.Units.{LeadsTwo, LeadsThree, code_of_four}
 use Rattle.tendril_fmt.proofs.Lanes.{IsLanes, div, other, lanes_own, lanes_splat, lanes_zip, lanes_list, lanes_map}
-use Rattle.tendril_fmt.proofs.Lanes.{same_is}
+use Rattle.tendril_fmt.proofs.Lanes.{same_is, is_same}
 
 -- The bytes at the places where characters of two bytes begin, and those of three.
 abbrev pub twos : List ℕ → List ℕ
@@ -44,25 +44,24 @@ module _ (block : List ℕ) (long : length block ≡ 16) where
       (lanes_splat 8 16))
       (lanes_splat 8 14)
 
--- a lane that equals a number has no bit in the mask
-lane_same : (a b : ℕ) → a ≡ b → top 7 (other a b) ≡ false
-lane_same a b e = ap (λ t. top 7 (cond (not t) 255 0)) (eq-eqb a b e)
+-- a clear lane of these is that of a first byte
+pub leads_two : (b : ℕ) → top 7 (other (b / 32) 6) ≡ false → LeadsTwo b
+leads_two b e = let is = same_is (b / 32) 6 e in (omega (arith, is), omega (arith, is))
 
-pub two_from : (b : ℕ) → top 7 (other (b / 32) 6) ≡ false → LeadsTwo b
-two_from b e = let is = same_is (b / 32) 6 e in (omega (arith, is), omega (arith, is))
+pub two_clear : (b : ℕ) → LeadsTwo b → top 7 (other (b / 32) 6) ≡ false
+two_clear b h = is_same (b / 32) 6 (omega (arith, h.0, h.1))
 
-pub from_two : (b : ℕ) → LeadsTwo b → top 7 (other (b / 32) 6) ≡ false
-from_two b h = lane_same (b / 32) 6 (omega (arith, h.0, h.1))
-
-pub three_from : (k a b : ℕ) → k < 5 → top 7 (other (cond (ltb k 5) a b / 16) 14) ≡ false → LeadsThree a
-three_from k a b lt e =
+pub leads_three : (k a b : ℕ) → k < 5 → top 7 (other (cond (ltb k 5) a b / 16) 14) ≡ false → LeadsThree a
+leads_three k a b lt e =
     let few : ltb k 5 ≡ true = grind (arith, nat_tests) in
     let is = same_is (cond (ltb k 5) a b / 16) 14 e in
     let same = cond-true (ltb k 5) a b few in
     (omega (arith, is, same), omega (arith, is, same))
 
-pub from_three : (b : ℕ) → LeadsThree b → top 7 (other (b / 16) 14) ≡ false
-from_three b h = lane_same (b / 16) 14 (omega (arith, h.0, h.1))
+pub three_clear : (k a b : ℕ) → k < 5 → LeadsThree a → top 7 (other (cond (ltb k 5) a b / 16) 14) ≡ false
+three_clear k a b lt h =
+    let few : ltb k 5 ≡ true = grind (arith, nat_tests) in
+    is_same (cond (ltb k 5) a b / 16) 14 (omega (arith, h.0, h.1, cond-true (ltb k 5) a b few))
 
 -- The units of four pairs.
 abbrev pub lead_unit : ℕ → ℕ → ℕ → ℕ
@@ -82,16 +81,16 @@ of_bytes f =
     ∷ lead_unit (f 8) (f 9) (f 10) ∷ trail_unit (f 10) (f 11) ∷ lead_unit (f 12) (f 13) (f 14)
     ∷ trail_unit (f 14) (f 15) ∷ []
 
-abbrev pub pair_units : List ℕ → List ℕ
-pair_units block = of_bytes (λ k. get_or (block ++ block) k 0)
+abbrev pub units_of_pairs : List ℕ → List ℕ
+units_of_pairs block = of_bytes (λ k. get_or (block ++ block) k 0)
 
 module _ (block : List ℕ) (long : length block ≡ 16) where
-  pair_lanes : IsLanes 8 (pair_units block) (unit_of (byte block long))
+  pair_lanes : IsLanes 8 (units_of_pairs block) (unit_of (byte block long))
   pair_lanes =
-      subst (λ (l : List ℕ). IsLanes 8 (pair_units l) (unit_of (byte block long))) (sym (own block long))
+      subst (λ (l : List ℕ). IsLanes 8 (units_of_pairs l) (unit_of (byte block long))) (sym (own block long))
       (lanes_map 8 (unit_of (byte block long)))
 
-  pub lead_lane : (k : ℕ) → k < 4 → get_or (pair_units block) (2 * k) 0
+  pub lead_lane : (k : ℕ) → k < 4 → get_or (units_of_pairs block) (2 * k) 0
       ≡ lead_unit (get_or block (4 * k) 0) (get_or block (4 * k + 1) 0) (get_or block (4 * k + 2) 0)
   lead_lane k lt =
       let a : 2 * (2 * k) ≡ 4 * k = omega arith in
@@ -99,7 +98,7 @@ module _ (block : List ℕ) (long : length block ≡ 16) where
       let c : 2 * (2 * k) + 2 ≡ 4 * k + 2 = omega arith in
       pair_lanes.lanes (2 * k) (omega arith) ∙ cond-true _ _ _ (eq-eqb (2 * k % 2) 0 (omega arith)) ∙ cc (a, b, c)
 
-  pub trail_lane : (k : ℕ) → k < 4 → get_or (pair_units block) (2 * k + 1) 0
+  pub trail_lane : (k : ℕ) → k < 4 → get_or (units_of_pairs block) (2 * k + 1) 0
       ≡ trail_unit (get_or block (4 * k + 2) 0) (get_or block (4 * k + 3) 0)
   trail_lane k lt =
       let a : 2 * (2 * k + 1) ≡ 4 * k + 2 = omega arith in

@@ -18,7 +18,7 @@ use Rattle.tendril_fmt.specs.Proved.Units.{one_unit, two_units, pairs}
 use Rattle.tendril_fmt.proofs.UnitSplits.{IsAlone}
 use Rattle.tendril_fmt.proofs.Wtf8Joins.{surrogates_of}
 
-pub wtf8-pair : (u v : ℕ) (us : List ℕ) → pairs u v ≡ true → wtf8 (u ∷ v ∷ us) ≡ encode_utf8 (surrogate_pair_char u v)
+wtf8-pair : (u v : ℕ) (us : List ℕ) → pairs u v ≡ true → wtf8 (u ∷ v ∷ us) ≡ encode_utf8 (surrogate_pair_char u v)
     ++ wtf8 us
 wtf8-pair u v us meet = ap encode_utf8_all (cond-true (pairs u v) _ _ meet)
 

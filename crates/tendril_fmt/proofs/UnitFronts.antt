@@ -1,7 +1,9 @@
 -- The units of characters of equally many bytes at the front of valid WTF-8.
 use Rattle.std.proofs.Common.{◌≡◌, ℕ, zero, suc, ◌+◌, ◌*◌, ◌/◌, ◌%◌, ◌-◌, ◌<◌, ◌≤◌, List, [], ◌∷◌, ◌++◌}
 use Rattle.std.proofs.Common.{length, take, drop}
-use Rattle.std.proofs.Common.{get_or, slice_index, refl, sym, ap, ap₂, subst, ◌∙◌, arith, append_assoc}
+use Rattle.std.proofs.Common.{get_or, slice_index, refl, sym, ap, ap₂, subst, ◌∙◌, arith, append_assoc, inl, inr}
+use Rattle.std.proofs.lemmas.Bool.{cases_lt}
+use Rattle.std.specs.List.{AllByRecursion}
 use Rattle.std.specs.Char.Escape.{encode_utf16}
 use Rattle.std.proofs.lemmas.List.{drop-drop, get_or-drop, length-drop, take_more}
 use Rattle.std.specs.Simd.Lanes.{chunk}
@@ -18,7 +20,7 @@ pub record IsFront (bytes : List ℕ) (n : ℕ) (us : List ℕ) : Type 0 where
   pub rest_valid : IsWtf8 (drop n bytes)
   pub spelt : units bytes ≡ us ++ units (drop n bytes)
 
-pub front_none : (bytes us : List ℕ) → IsWtf8 bytes → IsFront bytes 0 (take 0 us)
+front_none : (bytes us : List ℕ) → IsWtf8 bytes → IsFront bytes 0 (take 0 us)
 front_none bytes us w = record { rest_valid = w; spelt = refl }
 
 -- a code point more
@@ -70,7 +72,7 @@ one_more bytes us p n q k c to lt small is h s =
     take_suc us k lt = let same : suc k ≡ k + 1 = omega arith in ap (λ n. take n us) same ∙ take_more us k 0 lt
 
 -- the bytes of a block that is read at the front
-block_byte : (bytes : List ℕ) (k : ℕ) → k < 16 → slice_index (chunk 0 16 bytes) k ≡ slice_index bytes k
+pub block_byte : (bytes : List ℕ) (k : ℕ) → k < 16 → slice_index (chunk 0 16 bytes) k ≡ slice_index bytes k
 block_byte bytes k lt = get_or-chunk 0 16 bytes k 0 lt ∙ ap (λ i. get_or bytes i 0) (omega arith)
 
 -- Characters of a block, by the lanes of their first bytes and of their units.
@@ -166,11 +168,15 @@ pushes old new bytes us n some within h e = record {
       ∙ ap (λ l. old ++ l) (sym h.spelt);
 }
 
--- The class of the first byte of a block.
-pub first_byte : (bytes : List ℕ) → slice_index (chunk 0 16 bytes) 0 ≡ slice_index bytes 0
-first_byte bytes = block_byte bytes 0 (omega arith)
+-- each byte of ASCII
+pub ascii_byte : (bytes : List ℕ) (k : ℕ) → AllByRecursion (λ b. b < 0x80) bytes → slice_index bytes k < 0x80
+ascii_byte [] k h = omega arith
+ascii_byte (b ∷ bytes) zero h = h.0
+ascii_byte (b ∷ bytes) (suc k) h = ascii_byte bytes k h.1
 
--- valid bytes begin with no continuation byte
-pub first_lead : (bytes : List ℕ) → IsWtf8 bytes → 0 < length bytes → 0x80 ≤ slice_index bytes 0
-    → 0xC0 ≤ slice_index bytes 0
-first_lead bytes w some high = (First-holds bytes w some).lead high
+-- A count that stops where P doesn't hold isn't 0, if P holds there.
+pub some_counted : (P : ℕ → Type 0) (n r : ℕ) → 0 < n → (r < n → ¬ (P r)) → P 0 → 0 < r
+some_counted P n r some stops first = elim (cases_lt 0 r) [
+  | inl lt ↦ lt
+  | inr le ↦ let none : 0 ≡ r = omega arith in absurd (stops (omega arith) (subst P none first))
+]

@@ -206,10 +206,6 @@ AreUnits-slice (u ∷ us) h = (h 0, AreUnits-slice us (λ k. h (suc k)))
 pub units-nil : (bytes : List ℕ) → bytes ≡ [] → units bytes ≡ []
 units-nil bytes empty = ap units empty ∙ ap (flat_map encode_utf16) chars-nil
 
-pub units-none : (bytes : List ℕ) → length bytes ≡ 0 → units bytes ≡ []
-units-none [] none = units-nil [] refl
-units-none (b ∷ bytes) none = absurd (omega arith)
-
 -- no units remain, if there are no bytes and no trail
 pub units_left-none : (trail : Option ℕ) (bytes : List ℕ) → trail ≡ None → bytes ≡ [] → units_left trail bytes ≡ []
 units_left-none trail bytes none empty = ap₂ units_left none empty ∙ units-nil [] refl

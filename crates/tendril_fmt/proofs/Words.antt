@@ -10,7 +10,7 @@ use Rattle.std.proofs.lemmas.Bool.{and_from, cond-true, cond-false}
 use Rattle.std.proofs.lemmas.Bool.Decides.{nat_tests}
 use Rattle.tendril_fmt.specs.Blocks.{units_of, fronts}
 use Rattle.tendril_fmt.specs.Proved.Encodings.{encode_utf8_1, encode_utf8_2, encode_utf8_3, IsScalar-from_bounds}
-use Rattle.tendril_fmt.proofs.Lanes.{at_most, same, less, lanes_own, lanes_list}
+use Rattle.tendril_fmt.proofs.Lanes.{at_most, same, less, lanes_own, lanes_list, top_mask}
 
 -- The bytes of a word, and how many of them are a unit's, by its low and its high byte.
 abbrev pub last_byte : ℕ → ℕ
@@ -36,10 +36,6 @@ byte_count l h = cond (is_three h) 3 (cond (is_one l h) 1 2)
 
 abbrev pub word : ℕ → ℕ → List ℕ
 word l h = first_byte l h ∷ second_byte l h ∷ last_byte l ∷ last_byte l ∷ []
-
-top_mask : (t : Bool) → top 7 (cond t 255 0) ≡ t
-top_mask true = refl
-top_mask false = refl
 
 top_both : (a b : Bool) → top 7 (bit_and (cond a 255 0) (cond b 255 0)) ≡ a && b
 top_both true true = refl

@@ -24,7 +24,7 @@ pub record SplitsUnits (us : List ℕ) (c : ℕ) (rest : List ℕ) : Type 0 wher
   pub spelt : wtf8 us ≡ encode_utf8 c ++ wtf8 rest
   pub shorter : length rest < length us
 
--- the first byte of a sequence of two bytes, of three, or of four
+-- a byte of valid WTF-8 that is the first of a sequence of two bytes, of three, or of four
 abbrev pub LeadsTwo : ℕ → Type 0
 LeadsTwo b = (0xC0 ≤ b) × (b < 0xE0)
 
@@ -44,14 +44,20 @@ code_of_three a b c = a % 0x10 * 0x1000 + b % 0x40 * 0x40 + c % 0x40
 abbrev pub code_of_four : ℕ → ℕ → ℕ → ℕ → ℕ
 code_of_four a b c d = a % 0x08 * 0x4_0000 + b % 0x40 * 0x1000 + c % 0x40 * 0x40 + d % 0x40
 
--- to a vector that had the items `old` the units of the first n bytes of a text are appended
+-- a text of at least 16 bytes, and a vector with spare capacity for one unit per byte
+pub record CanPushFront (len capacity : ℕ) (bytes : List ℕ) : Type 0 where
+  pub valid : IsWtf8 bytes
+  pub block : 16 ≤ length bytes
+  pub room : len + length bytes ≤ capacity
+
+-- `new` is `old` and then the units of the first n bytes of a text, of which there are some; a text follows them
 pub record PushesFront (old new bytes : List ℕ) (n : ℕ) : Type 0 where
   pub some : 0 < n
   pub within : n ≤ length bytes
   pub rest_valid : IsWtf8 (drop n bytes)
   pub items : new ++ units (drop n bytes) ≡ old ++ units bytes
 
--- bytes or units begin with the block `front` of ASCII, and `rest` follows
+-- units begin with the block `front` of ASCII, and `rest` follows
 pub record StartsWithAscii (all front rest : List ℕ) : Type 0 where
   pub ascii : AllByRecursion (λ u. u < 0x80) front
   pub block : length front ≡ 16

@@ -27,12 +27,12 @@ pub fn is_ascii(block: u8x16) -> bool
 pub fn leading_ascii(block: u8x16) -> usize
     ensures few { result ≤ BLOCK }
     ensures ascii { (k : ℕ) → k < result → slice_index block k < 0x80 }
-    ensures some { slice_index block 0 < 0x80 → 0 < result }
+    ensures stops { result < BLOCK → 0x80 ≤ slice_index block result }
 {
     first_set(block.simd_ge(u8x16::splat(0x80)).to_bitmask(), BLOCK)
 }
 
-// The place of the lowest bit that is set in the mask of so many lanes, or their number if none is.
+// The index of the lowest set bit of a mask of `lanes` bits, or `lanes` if none is set.
 #[inline(always)]
 pub(crate) fn first_set(mask: u64, lanes: usize) -> usize
     ensures { result ≡ first_set lanes mask }
@@ -203,19 +203,20 @@ pub(crate) fn are_pairs(high: u8x16) -> bool
     others.to_bitmask() == 0
 }
 
-// The quarter of the high byte of a lead and that of a trail, for each pair of a block.
+// The high byte of a lead divided by 4 (0xD8 / 4) and that of a trail (0xDC / 4), in turn.
 const LEAD_TRAIL: [u8; 16] = [
     0x36, 0x37, 0x36, 0x37, 0x36, 0x37, 0x36, 0x37, 0x36, 0x37, 0x36, 0x37, 0x36, 0x37, 0x36, 0x37,
 ];
 
-// The WTF-8 of a block of surrogate pairs, by the low and the high bytes of its units: four bytes for a pair, whose
-// first two depend on the lead alone.
+// The WTF-8 of a block of surrogate pairs, by the low and the high bytes of its units: four bytes for each pair. The
+// first and the second are computed at the leads, the third and the fourth at the trails; other lanes are dropped.
 #[inline(always)]
 pub(crate) fn encode_pairs(low: u8x16, high: u8x16) -> u8x32
     requires { ArePairs high }
     ensures { (rest : List ℕ) → wtf8 (units_of low high ++ rest) ≡ result ++ wtf8 rest }
 {
-    // A surrogate has two bits in its high byte, and eight in its low one.
+    // A surrogate has ten bits of its code point: two in the high byte, eight in the low one. A pair encodes its code
+    // point less 0x1_0000, so 0x1_0000 / 0x1000 is added.
     let top_bits = high % u8x16::splat(4);
     let lead_bits = low / u8x16::splat(4) + u8x16::splat(0x10);
     let first = lead_bits / u8x16::splat(0x40) + top_bits + u8x16::splat(0xF0);
@@ -224,13 +225,13 @@ pub(crate) fn encode_pairs(low: u8x16, high: u8x16) -> u8x32
     let middle = lead_low % u8x16::splat(4) * u8x16::splat(0x10) + top_bits * u8x16::splat(4);
     let third = middle + low / u8x16::splat(0x40) + u8x16::splat(0x80);
     let fourth = low % u8x16::splat(0x40) + u8x16::splat(0x80);
-    let left: u8x16 = first.shuffle(third, ALTERNATELY);
-    let right: u8x16 = second.shuffle(fourth, ALTERNATELY);
-    left.shuffle(right, IN_PAIRS)
+    let first_third: u8x16 = first.shuffle(third, ALTERNATELY);
+    let second_fourth: u8x16 = second.shuffle(fourth, ALTERNATELY);
+    first_third.shuffle(second_fourth, IN_PAIRS)
 }
 
-// The lane of each lead twice: at its own place, and at its trail's.
+// The lane of each lead at its own place and at its trail's.
 const LEAD_TWICE: [usize; 16] = [0, 0, 2, 2, 4, 4, 6, 6, 8, 8, 10, 10, 12, 12, 14, 14];
 
-// Of two vectors of 16, the lanes at the places of leads of the first, and those at the places of trails of the second.
+// The even lanes of one vector of 16 and the odd lanes of another, each at its own place.
 const ALTERNATELY: [usize; 16] = [0, 17, 2, 19, 4, 21, 6, 23, 8, 25, 10, 27, 12, 29, 14, 31];

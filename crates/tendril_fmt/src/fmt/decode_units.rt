@@ -1,8 +1,8 @@
 //! The units of WTF-8 in a vector.
-ghost use Rattle.std.specs.Prelude.{◌≡◌, ◌+◌, ◌<◌, ◌≤◌, ◌++◌, length, take, slice_index, vec_len, vec_capacity};
+ghost use Rattle.std.specs.Prelude.{◌≡◌, ◌+◌, ◌-◌, ◌<◌, ◌≤◌, ◌++◌, length, take, slice_index, vec_len, vec_capacity};
 ghost use Rattle.std.specs.Char.Escape.{encode_utf16};
 ghost use Rattle.tendril_fmt.specs.CodePoints.{IsCodePoint};
-ghost use Rattle.tendril_fmt.specs.Units.{LeadsTwo, LeadsThree, LeadsFour, PushesFront};
+ghost use Rattle.tendril_fmt.specs.Units.{CanPushFront, LeadsThree, LeadsFour, PushesFront};
 ghost use Rattle.tendril_fmt.specs.Wtf8.{IsWtf8, units as units_of};
 
 use crate::blocks::{BLOCK, is_ascii, leading_ascii};
@@ -43,16 +43,13 @@ fn push_rest(units: &mut Vec<u16>, bytes: &[u8])
     }
 }
 
-// Appends the units of the characters that a block begins with, as far as they have as many bytes as the first.
-// Returns how many bytes they have.
+// Appends the units of the first characters of the next 16 bytes, up to the first that has another length in bytes.
+// Returns how many bytes were decoded.
 #[inline(always)]
 fn push_front(units: &mut Vec<u16>, bytes: &[u8]) -> usize
-    requires valid { IsWtf8 bytes.now }
-    requires block { BLOCK ≤ length bytes.now }
-    requires room { vec_len units.old + length bytes.now ≤ vec_capacity units.old }
+    requires can { CanPushFront (vec_len units.old) (vec_capacity units.old) bytes.now }
     ensures pushes { PushesFront units.old.items units.new.items bytes.now result }
-    ensures len { vec_len units.new ≤ vec_len units.old + result }
-    ensures capacity { vec_capacity units.old ≤ vec_capacity units.new }
+    ensures room { vec_len units.new + (length bytes.now - result) ≤ vec_capacity units.new }
 {
     match bytes[0] {
         0x00..0x80 => push_ascii(units, bytes),
@@ -62,15 +59,13 @@ fn push_front(units: &mut Vec<u16>, bytes: &[u8]) -> usize
     }
 }
 
+// `push_front` for ASCII.
 #[inline(always)]
 fn push_ascii(units: &mut Vec<u16>, bytes: &[u8]) -> usize
-    requires valid { IsWtf8 bytes.now }
-    requires block { BLOCK ≤ length bytes.now }
-    requires room { vec_len units.old + length bytes.now ≤ vec_capacity units.old }
+    requires can { CanPushFront (vec_len units.old) (vec_capacity units.old) bytes.now }
     requires first { slice_index bytes.now 0 < 0x80 }
     ensures pushes { PushesFront units.old.items units.new.items bytes.now result }
-    ensures len { vec_len units.new ≤ vec_len units.old + result }
-    ensures capacity { vec_capacity units.old ≤ vec_capacity units.new }
+    ensures room { vec_len units.new + (length bytes.now - result) ≤ vec_capacity units.new }
 {
     let block = u8x16::from_slice(bytes);
     let wide = units_of_ascii(block).to_array();
@@ -83,15 +78,13 @@ fn push_ascii(units: &mut Vec<u16>, bytes: &[u8]) -> usize
     count
 }
 
+// `push_front` for characters of two bytes: valid text doesn't begin with a continuation byte.
 #[inline(always)]
 fn push_twos(units: &mut Vec<u16>, bytes: &[u8]) -> usize
-    requires valid { IsWtf8 bytes.now }
-    requires block { BLOCK ≤ length bytes.now }
-    requires room { vec_len units.old + length bytes.now ≤ vec_capacity units.old }
+    requires can { CanPushFront (vec_len units.old) (vec_capacity units.old) bytes.now }
     requires first { (0x80 ≤ slice_index bytes.now 0) × (slice_index bytes.now 0 < 0xE0) }
     ensures pushes { PushesFront units.old.items units.new.items bytes.now result }
-    ensures len { vec_len units.new ≤ vec_len units.old + result }
-    ensures capacity { vec_capacity units.old ≤ vec_capacity units.new }
+    ensures room { vec_len units.new + (length bytes.now - result) ≤ vec_capacity units.new }
 {
     let block = u8x16::from_slice(bytes);
     let count = count_twos(block);
@@ -99,21 +92,19 @@ fn push_twos(units: &mut Vec<u16>, bytes: &[u8]) -> usize
     2 * count
 }
 
+// `push_front` for characters of three bytes.
 #[inline(always)]
 fn push_threes(units: &mut Vec<u16>, bytes: &[u8]) -> usize
-    requires valid { IsWtf8 bytes.now }
-    requires block { BLOCK ≤ length bytes.now }
-    requires room { vec_len units.old + length bytes.now ≤ vec_capacity units.old }
+    requires can { CanPushFront (vec_len units.old) (vec_capacity units.old) bytes.now }
     requires first { LeadsThree (slice_index bytes.now 0) }
     ensures pushes { PushesFront units.old.items units.new.items bytes.now result }
-    ensures len { vec_len units.new ≤ vec_len units.old + result }
-    ensures capacity { vec_capacity units.old ≤ vec_capacity units.new }
+    ensures room { vec_len units.new + (length bytes.now - result) ≤ vec_capacity units.new }
 {
     let block = u8x16::from_slice(bytes);
     let decoded = units_of_threes(block).to_array();
     let count = count_threes(block);
     if count == THREES {
-        // A constant, so that the next block needn't wait for the count.
+        // A constant, so that the next block is read without waiting for the count.
         push_all(units, &decoded[..THREES]);
         return 3 * THREES;
     }
@@ -121,15 +112,13 @@ fn push_threes(units: &mut Vec<u16>, bytes: &[u8]) -> usize
     3 * count
 }
 
+// `push_front` for characters of four bytes: four of them, or one.
 #[inline(always)]
 fn push_fours(units: &mut Vec<u16>, bytes: &[u8]) -> usize
-    requires valid { IsWtf8 bytes.now }
-    requires block { BLOCK ≤ length bytes.now }
-    requires room { vec_len units.old + length bytes.now ≤ vec_capacity units.old }
+    requires can { CanPushFront (vec_len units.old) (vec_capacity units.old) bytes.now }
     requires first { LeadsFour (slice_index bytes.now 0) }
     ensures pushes { PushesFront units.old.items units.new.items bytes.now result }
-    ensures len { vec_len units.new ≤ vec_len units.old + result }
-    ensures capacity { vec_capacity units.old ≤ vec_capacity units.new }
+    ensures room { vec_len units.new + (length bytes.now - result) ≤ vec_capacity units.new }
 {
     let block = u8x16::from_slice(bytes);
     let decoded = units_of_fours(block).to_array();
@@ -141,7 +130,7 @@ fn push_fours(units: &mut Vec<u16>, bytes: &[u8]) -> usize
     4
 }
 
-// Appends the first units of a block. There has to be room for all of it.
+// Appends the first `count` units of a block. The vector has spare capacity for all of it.
 #[inline(always)]
 fn push_first(units: &mut Vec<u16>, block: &[u16], count: usize)
     requires within { count ≤ length block.now }
@@ -155,7 +144,7 @@ fn push_first(units: &mut Vec<u16>, block: &[u16], count: usize)
     units.truncate(len);
 }
 
-// Appends units that there is room for.
+// Appends units for which the vector has spare capacity.
 #[inline(always)]
 fn push_all(units: &mut Vec<u16>, more: &[u16])
     requires room { vec_len units.old + length more.now ≤ vec_capacity units.old }
@@ -163,7 +152,7 @@ fn push_all(units: &mut Vec<u16>, more: &[u16])
     ensures len { vec_len units.new ≡ vec_len units.old + length more.now }
     ensures capacity { vec_capacity units.old ≤ vec_capacity units.new }
 {
-    // So the compiler knows too that the vector doesn't grow, and keeps its length in a register.
+    // So the compiler knows that the vector doesn't grow, and keeps its length in a register.
     if units.capacity() - units.len() < more.len() {
         unreachable!();
     }

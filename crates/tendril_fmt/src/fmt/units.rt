@@ -2,7 +2,6 @@
 ghost use Rattle.std.specs.Prelude.{◌≡◌, ◌+◌, ◌*◌, ◌<◌, ◌≤◌, ◌&&◌, [], ◌++◌, if◌then◌else◌, length, take};
 ghost use Rattle.std.specs.Prelude.{encode_utf8, true, IfSome, MatchOption};
 ghost use Rattle.std.specs.Iterator.{YieldsFirst, item_count};
-ghost use Rattle.std.specs.Char.Escape.{encode_utf16};
 ghost use Rattle.std.specs.Char.Utf16.{is_high_surrogate, is_low_surrogate};
 ghost use Rattle.std.specs.List.{AllByRecursion};
 ghost use Rattle.std.specs.Simd.Lanes.{chunk, put_chunk};
@@ -210,8 +209,8 @@ fn put_ascii(bytes: &mut [u8], at: usize, units: &[u16])
         .copy_to_slice(&mut bytes[at..]);
 }
 
-// Writes the WTF-8 of the first units: of a block if its units are surrogate pairs, or none is a surrogate and there is
-// room for it. Returns the offset after it, and the units after them.
+// Writes the WTF-8 of the first units: of a whole block if all its units are surrogate pairs, or if none is a surrogate
+// and `ROOM` bytes are left; else one code point after another. Returns the offset after it, and the units after them.
 #[inline]
 fn put_next<'a>(bytes: &mut [u8], at: usize, units: &'a [u16]) -> (usize, &'a [u16])
     requires { at + length (wtf8 units.now) ≡ length bytes.old }

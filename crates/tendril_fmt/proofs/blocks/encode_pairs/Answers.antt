@@ -3,7 +3,7 @@ use Rattle.std.proofs.Common.{refl, sym, subst, arith}
 use Rattle.std.specs.Simd.Lanes.{zip2, pick_l}
 use Rattle.tendril_fmt.proofs.Lanes.{IsLanes, add, mul, div, rem, lanes_own, lanes_splat, lanes_zip, lanes_map}
 use Rattle.tendril_fmt.proofs.Lanes.{lanes_list, lanes_divide, lane_small}
-use Rattle.tendril_fmt.proofs.Pairs.{lead_bits, first_byte, second_byte, third_byte, fourth_byte, pairs_are}
+use Rattle.tendril_fmt.proofs.Pairs.{lead_bits, first_of_pair, second_of_pair, third_of_pair, fourth_of_pair, pairs_are}
 use Rattle.tendril_fmt.proofs.blocks.encode_pairs.Goals as goal
 
 abbrev lead_twice : List ℕ
@@ -45,13 +45,13 @@ module _ (low high : List ℕ) (long : length low ≡ 16) (also : length high �
   bit_lanes : IsLanes 16 bits (λ k. lead_bits (get_or low k 0))
   bit_lanes = lanes_zip 16 add _ _ _ _ (lanes_zip 16 div _ _ _ _ lows (lanes_splat 16 4)) (lanes_splat 16 16)
 
-  first_lanes : IsLanes 16 firsts (λ k. first_byte (get_or low k 0) (get_or high k 0))
+  first_lanes : IsLanes 16 firsts (λ k. first_of_pair (get_or low k 0) (get_or high k 0))
   first_lanes =
       lanes_zip 16 add _ _ _ _
       (lanes_zip 16 add _ _ _ _ (lanes_zip 16 div _ _ _ _ bit_lanes (lanes_splat 16 64)) top_lanes)
       (lanes_splat 16 240)
 
-  second_lanes : IsLanes 16 seconds (λ k. second_byte (get_or low k 0))
+  second_lanes : IsLanes 16 seconds (λ k. second_of_pair (get_or low k 0))
   second_lanes =
       lanes_zip 16 add _ _ _ _ (lanes_zip 16 rem _ _ _ _ bit_lanes (lanes_splat 16 64)) (lanes_splat 16 128)
 
@@ -61,7 +61,7 @@ module _ (low high : List ℕ) (long : length low ≡ 16) (also : length high �
       subst (λ (l : List ℕ). IsLanes 16 (pick_l 0 (l ++ l) lead_twice) (λ k. f (k / 2 * 2)))
       (sym (lanes_list 16 low f f lows (λ k lt. refl))) (lanes_map 16 (λ k. f (k / 2 * 2)))
 
-  third_lanes : IsLanes 16 thirds (λ k. third_byte (get_or low k 0) (get_or high k 0) (get_or low (k / 2 * 2) 0))
+  third_lanes : IsLanes 16 thirds (λ k. third_of_pair (get_or low k 0) (get_or high k 0) (get_or low (k / 2 * 2) 0))
   third_lanes =
       lanes_zip 16 add _ _ _ _
       (lanes_zip 16 add _ _ _ _
@@ -71,7 +71,7 @@ module _ (low high : List ℕ) (long : length low ≡ 16) (also : length high �
       (lanes_zip 16 div _ _ _ _ lows (lanes_splat 16 64)))
       (lanes_splat 16 128)
 
-  fourth_lanes : IsLanes 16 fourths (λ k. fourth_byte (get_or low k 0))
+  fourth_lanes : IsLanes 16 fourths (λ k. fourth_of_pair (get_or low k 0))
   fourth_lanes = lanes_zip 16 add _ _ _ _ (lanes_zip 16 rem _ _ _ _ lows (lanes_splat 16 64)) (lanes_splat 16 128)
 
 pub nonzero_rem-top_bits : goal.nonzero_rem-top_bits

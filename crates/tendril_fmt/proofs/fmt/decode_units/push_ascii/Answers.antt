@@ -1,26 +1,20 @@
-use Rattle.std.proofs.Common.{◌≡◌, ℕ, ◌<◌, ◌++◌, List, length, take, drop, sym, ap, subst, ◌∙◌, arith, refl}
+use Rattle.std.proofs.Common.{◌≡◌, ◌<◌, ◌++◌, length, take, slice_index, subst, ap, ◌∙◌, arith, refl}
 use Rattle.std.specs.Simd.Lanes.{chunk}
-use Rattle.std.specs.List.{AllByRecursion}
-use Rattle.std.proofs.lemmas.List.{take-append-drop}
+use Rattle.std.proofs.lemmas.List.{take_all}
 use Rattle.std.proofs.lemmas.Simd.{length-chunk}
-use Rattle.tendril_fmt.specs.Wtf8.{IsWtf8, units}
-use Rattle.tendril_fmt.proofs.AsciiBlocks.{units-ascii}
-use Rattle.tendril_fmt.proofs.UnitFronts.{IsFront, front_ascii, pushes, first_byte}
+use Rattle.tendril_fmt.proofs.UnitFronts.{IsFront, front_ascii, pushes, block_byte, ascii_byte, some_counted}
 use Rattle.tendril_fmt.proofs.fmt.decode_units.push_ascii.Goals as goal
-
-whole : (bytes : List ℕ) → IsWtf8 bytes → AllByRecursion (λ b. b < 0x80) (chunk 0 16 bytes)
-    → IsFront bytes 16 (chunk 0 16 bytes)
-whole bytes w low =
-    let split : bytes ≡ chunk 0 16 bytes ++ drop 16 bytes = sym (take-append-drop 16 bytes) in
-    let both = units-ascii (chunk 0 16 bytes) (drop 16 bytes) low (subst IsWtf8 split w) in
-    record { rest_valid = both.0; spelt = ap units split ∙ both.1 }
 
 pub returns-then-is_ascii-clause-pushes : goal.returns-then-is_ascii-clause-pushes
 returns-then-is_ascii-clause-pushes c =
     let bytes = c.args.bytes.now in
+    let block = chunk 0 16 bytes in
     let low = c.is_ascii.ensures.0 c.if-is_ascii.true in
-    pushes _ _ bytes (chunk 0 16 bytes) 16 (omega arith) (omega (arith, c.requires.block))
-    (whole bytes c.requires.valid low)
+    let long : length block ≡ 16 = length-chunk 0 16 bytes (omega (arith, c.requires.can.block)) in
+    pushes _ _ bytes block 16 (omega arith) (omega (arith, c.requires.can.block))
+    (subst (IsFront bytes 16) (take_all 16 block (omega (arith, long)))
+    (front_ascii bytes block 16 c.requires.can.valid c.requires.can.block (omega arith) (omega (arith, long))
+    (λ k lt. ascii_byte block k low) (λ k lt. refl)))
     (c.push_all.ensures.items ∙ ap (λ l. c.args.units.now.items ++ l) c.units_of_ascii.ensures)
 
 pub returns-clause-pushes : goal.returns-clause-pushes
@@ -29,10 +23,12 @@ returns-clause-pushes c =
     let block = chunk 0 16 bytes in
     let count = c.leading_ascii-count.result in
     let ascii = c.leading_ascii-count.ensures in
-    let long : length block ≡ 16 = length-chunk 0 16 bytes (omega (arith, c.requires.block)) in
+    let long : length block ≡ 16 = length-chunk 0 16 bytes (omega (arith, c.requires.can.block)) in
+    let first : slice_index block 0 < 0x80 = omega (arith, c.requires.first, block_byte bytes 0 (omega arith)) in
     pushes _ _ bytes (take count block) count
-    (ascii.some (omega (arith, c.requires.first, first_byte bytes)))
-    (omega (arith, ascii.few, c.requires.block))
-    (front_ascii bytes block count c.requires.valid c.requires.block ascii.few (omega (arith, ascii.few, long))
+    (some_counted (λ k. slice_index block k < 0x80) 16 count (omega arith)
+    (λ lt small. omega (arith, small, ascii.stops lt)) first)
+    (omega (arith, ascii.few, c.requires.can.block))
+    (front_ascii bytes block count c.requires.can.valid c.requires.can.block ascii.few (omega (arith, ascii.few, long))
     ascii.ascii (λ k lt. refl))
     (c.push_first.ensures.items ∙ ap (λ l. c.args.units.now.items ++ take count l) c.units_of_ascii.ensures)

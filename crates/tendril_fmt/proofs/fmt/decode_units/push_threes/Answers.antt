@@ -1,6 +1,7 @@
-use Rattle.std.proofs.Common.{◌≡◌, ◌*◌, take, subst, sym, arith}
+use Rattle.std.proofs.Common.{◌≡◌, ◌*◌, take, slice_index, subst, sym, arith}
+use Rattle.std.specs.Simd.Lanes.{chunk}
 use Rattle.tendril_fmt.specs.Units.{LeadsThree}
-use Rattle.tendril_fmt.proofs.UnitFronts.{front_threes, pushes, first_byte}
+use Rattle.tendril_fmt.proofs.UnitFronts.{front_threes, pushes, block_byte, some_counted}
 use Rattle.tendril_fmt.proofs.fmt.decode_units.push_threes.Goals as goal
 
 pub returns-then-count-eq-THREES-clause-pushes : goal.returns-then-count-eq-THREES-clause-pushes
@@ -9,8 +10,8 @@ returns-then-count-eq-THREES-clause-pushes c =
     let us = c.units_of_threes.result in
     let threes = c.count_threes-count.ensures in
     let is : c.count_threes-count.result ≡ 5 = c.if-count-eq-THREES.true in
-    pushes _ _ bytes (take 5 us) 15 (omega arith) (omega (arith, c.requires.block))
-    (front_threes bytes us 5 c.requires.valid c.requires.block (omega arith) (omega arith)
+    pushes _ _ bytes (take 5 us) 15 (omega arith) (omega (arith, c.requires.can.block))
+    (front_threes bytes us 5 c.requires.can.valid c.requires.can.block (omega arith) (omega arith)
     (λ k lt. threes.leads k (omega (arith, is))) (λ k lt. c.units_of_threes.ensures k lt))
     c.push_all.ensures.items
 
@@ -20,8 +21,11 @@ returns-clause-pushes c =
     let count = c.count_threes-count.result in
     let us = c.units_of_threes.result in
     let threes = c.count_threes-count.ensures in
-    let some = threes.some (subst LeadsThree (sym (first_byte bytes)) c.requires.first) in
-    pushes _ _ bytes (take count us) (3 * count) (omega (arith, some)) (omega (arith, threes.few, c.requires.block))
-    (front_threes bytes us count c.requires.valid c.requires.block threes.few (omega (arith, threes.few)) threes.leads
+    let can = c.requires.can in
+    let first = subst LeadsThree (sym (block_byte bytes 0 (omega arith))) c.requires.first in
+    let some =
+    some_counted (λ k. LeadsThree (slice_index (chunk 0 16 bytes) (3 * k))) 5 count (omega arith) threes.stops first in
+    pushes _ _ bytes (take count us) (3 * count) (omega (arith, some)) (omega (arith, threes.few, can.block))
+    (front_threes bytes us count can.valid can.block threes.few (omega (arith, threes.few)) threes.leads
     (λ k lt. c.units_of_threes.ensures k (omega (arith, threes.few))))
     c.push_first.ensures.items

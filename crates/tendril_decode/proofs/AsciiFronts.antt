@@ -1,10 +1,9 @@
--- ASCII in blocks.
-use Rattle.std.proofs.Common.{zero, suc, ◌+◌, ◌-◌, ◌≤◌, take, drop, slice_index}
-use Rattle.std.proofs.Common.{◌≡◌, ℕ, ◌<◌, List, [], ◌∷◌, length}
+-- The first bytes of a block that are ASCII.
+use Rattle.std.proofs.Common.{◌≡◌, ℕ, zero, suc, ◌+◌, ◌-◌, ◌<◌, ◌≤◌, List, [], ◌∷◌, length, take, drop, slice_index}
 use Rattle.std.proofs.Common.{ap, ◌∙◌, arith}
+use Rattle.std.specs.Prelude.{slice_range}
 use Rattle.std.specs.List.{AllByRecursion}
 use Rattle.std.proofs.lemmas.List.{take-take}
-use Rattle.std.specs.Prelude.{slice_range}
 
 -- the first bytes of a block that is read at an offset
 pub front_of : (input block : List ℕ) (from n : ℕ) → n ≤ 16 → block ≡ slice_range input from (from + 16)
@@ -14,6 +13,7 @@ front_of input block from n few is =
     let same : n ≡ from + n - from = omega arith in
     ap (take n) is ∙ take-take n (from + 16 - from) (drop from input) one ∙ ap (λ k. take k (drop from input)) same
 
+-- the first n bytes are ASCII, if each is
 pub ascii_front : (xs : List ℕ) (n : ℕ) → n ≤ length xs → ((k : ℕ) → k < n → slice_index xs k < 0x80)
     → AllByRecursion (λ b. b < 0x80) (take n xs)
 ascii_front xs zero le f = tt
