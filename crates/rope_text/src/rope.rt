@@ -3,7 +3,7 @@
 //! Contracts see a `Rope<A>` as its bytes and its pieces: the texts, none of them empty, that have these bytes. The
 //! pieces are part of its value: from the bytes alone a contract couldn't say that a slice copies nothing, or how many
 //! pieces it has.
-ghost use Rattle.std.specs.Prelude.{◌≡◌, ◌↔◌, [], length, IsTrue};
+ghost use Rattle.std.specs.Prelude.{◌≡◌, ◌↔◌, [], length, IfErr, IfOk, IsTrue};
 
 mod compare;
 mod lines;
@@ -22,6 +22,7 @@ pub use lines::RopeLines;
 use std::alloc::Global;
 use std::collections::VecDeque;
 use std::marker::Model;
+use tendril_text::block::Refusal;
 use tendril_text::fmt::UTF8;
 use tendril_text::{Atomicity, NonAtomic, Tendril};
 
@@ -73,6 +74,21 @@ impl<A: Atomicity> Rope<A> {
             start: 0,
             total: 0,
         }
+    }
+
+    // The empty rope, with capacity for so many pieces.
+    #[inline(always)]
+    pub(super) fn with_capacity(alloc: Global, pieces: usize) -> Result<Self, Refusal>
+        ensures bytes { IfOk result (λ r. r.bytes ≡ []) }
+        ensures pieces { IfOk result (λ r. r.pieces ≡ []) }
+        ensures refusal { IfErr result (λ r. r ≡ Refusal.Memory) }
+    {
+        Ok(Rope {
+            pieces: VecDeque::with_capacity(alloc, pieces)?,
+            ends: VecDeque::with_capacity(alloc, pieces)?,
+            start: 0,
+            total: 0,
+        })
     }
 
     /// Returns the number of bytes.

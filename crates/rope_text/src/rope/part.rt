@@ -42,7 +42,7 @@ impl<A: Atomicity> Rope<A> {
         if !self.is_cut(last, to + 1) {
             return Err(Refusal::ValidationFailed);
         }
-        share(&self.pieces, first, from, count)
+        share(&self.pieces, first, from, count, last + 1 - first)
     }
 
     /// Returns another rope with the same pieces, which share their bytes.
@@ -62,20 +62,23 @@ impl<A: Atomicity> Rope<A> {
     }
 }
 
-// Returns a rope of the `count` bytes from an offset in a piece on, which are there and UTF-8.
+// Returns a rope of the `count` bytes from an offset in a piece on, which are there and UTF-8. It allocates once for
+// `room` pieces.
 fn share<A: Atomicity>(
     pieces: &VecDeque<Tendril<UTF8, A>>,
     first: usize,
     from: u32,
     count: u64,
+    room: usize,
 ) -> Result<Rope<A>, Refusal>
+    requires some { 0 < count }
     requires each { All IsPiece pieces.now.items }
     requires inside { from < length (piece_at pieces.now.items first).bytes }
     requires within { from + count ≤ length (bytes_of_all (drop first pieces.now.items)) }
     requires valid { IsUtf8 (take count (drop from (bytes_of_all (drop first pieces.now.items)))) }
     ensures { SharesPart pieces.now.items first from count result }
 {
-    let mut rope = Rope::new(*pieces.allocator());
+    let mut rope = Rope::with_capacity(*pieces.allocator(), room)?;
     let mut index = first;
     let mut at = from;
     let mut left = count;

@@ -3,7 +3,9 @@ use Rattle.std.proofs.Common.{inr}
 use Rattle.std.specs.Prelude.{IsUtf8}
 use Rattle.std.specs.Str.{IsCharBoundary}
 use Rattle.rope_text.proofs.Cuts.{begins_at_cut, between_cuts, ends_at_cut}
-use Rattle.rope_text.proofs.Joined.{pieces_valid, length_joined_both}
+use Rattle.std.proofs.lemmas.Bool.{cases_lt}
+use Rattle.rope_text.proofs.Joined.{pieces_valid, length_joined_both, length_joined_more}
+use Rattle.rope_text.proofs.Passed.{length_joined_upto}
 use Rattle.rope_text.proofs.Shared.{drop_joined, not_false, not_true, sub_rope_from, sub_rope_none}
 use Rattle.rope_text.specs.Ropes.{RopeText, piece_at}
 use Rattle.tendril_text.specs.TextLists.{bytes_of_all}
@@ -54,6 +56,22 @@ returns-then-not-is_cut-2 g c =
         refl,
       ),
     ))
+
+-- the last byte isn't in a piece before the first byte's
+pub overflow_sub-last : goal.overflow_sub-last
+overflow_sub-last g c =
+    let xs = c.args.self.now.pieces in
+    let first = c.locate-first.result.0 in
+    let last = c.locate_from-last.result.0 in
+    elim (cases_lt last first) [
+      | inl before ↦
+          let upto = length_joined_upto xs (last + 1) first (omega arith) in
+          let more = length_joined_more xs last c.locate_from-last.ensures.piece in
+          let from = c.locate-first.ensures.place in
+          let to = c.locate_from-last.ensures.place in
+          absurd (omega (arith, upto, more, from, to, c.locate_from-last.ensures.within))
+      | inr after ↦ omega arith
+    ]
 
 pub share-requires-clause-inside : goal.share-requires-clause-inside
 share-requires-clause-inside g c =
