@@ -76,7 +76,7 @@ impl<A: Atomicity> Rope<A> {
         }
     }
 
-    // The empty rope, with capacity for so many pieces.
+    // The empty rope, with capacity for `pieces` pieces.
     #[inline(always)]
     pub(super) fn with_capacity(alloc: Global, pieces: usize) -> Result<Self, Refusal>
         ensures bytes { IfOk result (λ r. r.bytes ≡ []) }

@@ -28,4 +28,7 @@ mod SetLanes
 mod Trims
 mod UnitBlocks
 mod UnitFronts
+mod UnitLanes
+mod UnitPlaces
+mod UnitWalks
 mod Pairs

@@ -20,11 +20,12 @@ pub record IsFront (bytes : List ℕ) (n : ℕ) (us : List ℕ) : Type 0 where
   pub rest_valid : IsWtf8 (drop n bytes)
   pub spelt : units bytes ≡ us ++ units (drop n bytes)
 
-front_none : (bytes us : List ℕ) → IsWtf8 bytes → IsFront bytes 0 (take 0 us)
+pub front_none : (bytes us : List ℕ) → IsWtf8 bytes → IsFront bytes 0 (take 0 us)
 front_none bytes us w = record { rest_valid = w; spelt = refl }
 
 -- a code point more
-front_more : (bytes us vs : List ℕ) (p n c : ℕ) → IsFront bytes p us → SplitsAt (drop p bytes) c n → encode_utf16 c ≡ vs
+pub front_more : (bytes us vs : List ℕ) (p n c : ℕ) → IsFront bytes p us → SplitsAt (drop p bytes) c n
+    → encode_utf16 c ≡ vs
     → IsFront bytes (p + n) (us ++ vs)
 front_more bytes us vs p n c h s e =
     let rest : take (length (drop p bytes) - n) (drop n (drop p bytes)) ≡ drop (p + n) bytes =
@@ -36,11 +37,11 @@ front_more bytes us vs p n c h s e =
           ∙ sym (append_assoc us vs (units (drop (p + n) bytes)));
     }
 
-abbrev FirstFrom : List ℕ → ℕ → Type 0
+abbrev pub FirstFrom : List ℕ → ℕ → Type 0
 FirstFrom bytes p = First (drop p bytes) (slice_index bytes p) (slice_index bytes (p + 1)) (slice_index bytes (p + 2))
     (slice_index bytes (p + 3))
 
-first_from : (bytes us : List ℕ) (p : ℕ) → IsFront bytes p us → p < length bytes → FirstFrom bytes p
+pub first_from : (bytes us : List ℕ) (p : ℕ) → IsFront bytes p us → p < length bytes → FirstFrom bytes p
 first_from bytes us p h lt =
     let at : (i : ℕ) → slice_index (drop p bytes) i ≡ slice_index bytes (p + i) = λ i. get_or-drop p bytes i 0 in
     let here : slice_index (drop p bytes) 0 ≡ slice_index bytes p =
@@ -158,15 +159,15 @@ module _ (bytes us : List ℕ) (n : ℕ) (valid : IsWtf8 bytes) (enough : 16 ≤
       subst (λ q. IsFront bytes q (take (2 * suc k) us)) to (subst (IsFront bytes (4 * k + 4)) (sym taken) more))
 
 pub pushes : (old new bytes us : List ℕ) (n : ℕ) → 0 < n → n ≤ length bytes → IsFront bytes n us → new ≡ old ++ us
-    → PushesFront old new bytes n
-pushes old new bytes us n some within h e = record {
-  some = some;
-  within = within;
-  rest_valid = h.rest_valid;
-  items =
-      ap (λ l. l ++ units (drop n bytes)) e ∙ append_assoc old us (units (drop n bytes))
-      ∙ ap (λ l. old ++ l) (sym h.spelt);
-}
+    → PushesFront old new bytes (take (length bytes - n) (drop n bytes))
+pushes old new bytes us n some within h e =
+    subst (PushesFront old new bytes) (sym (rest_slice bytes n)) (record {
+      shorter = omega (arith, length-drop n bytes);
+      rest_valid = h.rest_valid;
+      items =
+          ap (λ l. l ++ units (drop n bytes)) e ∙ append_assoc old us (units (drop n bytes))
+          ∙ ap (λ l. old ++ l) (sym h.spelt);
+    })
 
 -- each byte of ASCII
 pub ascii_byte : (bytes : List ℕ) (k : ℕ) → AllByRecursion (λ b. b < 0x80) bytes → slice_index bytes k < 0x80

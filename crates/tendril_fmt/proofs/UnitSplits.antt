@@ -1,7 +1,7 @@
 -- Code points split off valid WTF-8, with the units of each, and off units, with the bytes of each.
 use Rattle.std.proofs.Common.{◌≡◌, ℕ, suc, ◌+◌, ◌-◌, ◌*◌, ◌^◌, ◌<◌, ◌≤◌, true, false, List, [], ◌∷◌, ◌++◌, length}
 use Rattle.std.proofs.Common.{drop, flat_map, slice_index, Option, None, refl, sym, ap, ap₂, subst, ◌∙◌, arith, ⊎_elim}
-use Rattle.std.proofs.Common.{take, length-append}
+use Rattle.std.proofs.Common.{take, length-append, ◌/◌, eq-eqb, ne_eqb}
 use Rattle.std.specs.List.{AllByRecursion}
 use Rattle.std.specs.Char.{encode_utf8, len_utf8}
 use Rattle.std.specs.Str.{encode_utf8_all}
@@ -12,6 +12,7 @@ use Rattle.std.proofs.lemmas.Bool.Decides.{nat_tests}
 use Rattle.std.proofs.lemmas.Str.{chars-nil, length-encode, len_utf8_bounds}
 use Rattle.tendril_fmt.specs.CodePoints.{IsContinuation}
 use Rattle.tendril_fmt.specs.Units.{units_left, SplitsText, SplitsUnits, code_of_two, code_of_three, code_of_four}
+use Rattle.tendril_fmt.specs.Units.{continues}
 use Rattle.tendril_fmt.specs.Wtf8.{IsUnit, IsWtf8, units, wtf8}
 use Rattle.tendril_fmt.specs.Proved.Encodings.{Shape, of1, of2, of3, of4, point_shape}
 use Rattle.tendril_fmt.specs.Proved.Units.{pairs, IsWtf8-from_points, points_of}
@@ -64,6 +65,9 @@ splits_at bytes code count within h =
     }
 
 pub record First (bytes : List ℕ) (a b d e : ℕ) : Type 0 where
+  pub begins : continues a ≡ false
+  pub second_continues : 0x80 ≤ a → continues b ≡ true
+  pub third_continues : 0xE0 ≤ a → continues d ≡ true
   pub one : a < 0x80 → SplitsAt bytes a 1
   pub lead : 0x80 ≤ a → 0xC0 ≤ a
   pub second : 0x80 ≤ a → 2 ≤ length bytes
@@ -74,8 +78,17 @@ pub record First (bytes : List ℕ) (a b d e : ℕ) : Type 0 where
   pub four : 0xF0 ≤ a → SplitsAt bytes (code_of_four a b d e) 4
   pub far : 0xF0 ≤ a → 0x1_0000 ≤ code_of_four a b d e
 
+continues_from : (b : ℕ) → IsContinuation b → continues b ≡ true
+continues_from b h = eq-eqb (b / 64) 2 (omega (arith, h.0, h.1))
+
+begins_from : (a : ℕ) → (a / 64 ≡ 2 → ⊥) → continues a ≡ false
+begins_from a other = ne_eqb (a / 64) 2 other
+
 of_one : (a : ℕ) (rest : List ℕ) (b d e : ℕ) → a < 128 → SplitsText (a ∷ rest) a rest → First (a ∷ rest) a b d e
 of_one a rest b d e low h = record {
+  begins = begins_from a (λ e. omega arith);
+  second_continues = λ high. absurd (omega arith);
+  third_continues = λ high. absurd (omega arith);
   one = λ _. splits_at (a ∷ rest) a 1 (omega arith) h;
   lead = λ high. absurd (omega arith);
   second = λ high. absurd (omega arith);
@@ -90,6 +103,9 @@ of_one a rest b d e low h = record {
 of_two : (a b c : ℕ) (rest : List ℕ) (d e : ℕ) → 194 ≤ a → a < 224 → IsContinuation b → c + 12416 ≡ a * 64 + b
     → SplitsText (a ∷ b ∷ rest) c rest → First (a ∷ b ∷ rest) a b d e
 of_two a b c rest d e l m f s h = let low = f.0 in record {
+  begins = begins_from a (λ e. omega arith);
+  second_continues = λ _. continues_from b f;
+  third_continues = λ high. absurd (omega arith);
   one = λ under. absurd (omega arith);
   lead = λ _. omega arith;
   second = λ _. omega arith;
@@ -105,6 +121,9 @@ of_two a b c rest d e l m f s h = let low = f.0 in record {
 of_three : (a b d c : ℕ) (rest : List ℕ) (e : ℕ) → 224 ≤ a → a < 240 → IsContinuation b → IsContinuation d
     → c + 925824 ≡ a * 4096 + b * 64 + d → SplitsText (a ∷ b ∷ d ∷ rest) c rest → First (a ∷ b ∷ d ∷ rest) a b d e
 of_three a b d c rest e l m f g s h = let low = f.0 in let last = g.0 in record {
+  begins = begins_from a (λ e. omega arith);
+  second_continues = λ _. continues_from b f;
+  third_continues = λ _. continues_from d g;
   one = λ under. absurd (omega arith);
   lead = λ _. omega arith;
   second = λ _. omega arith;
@@ -121,6 +140,9 @@ of_four : (a b d e c : ℕ) (rest : List ℕ) → 240 ≤ a → IsContinuation b
     → c + 63447168 ≡ a * 262144 + b * 4096 + d * 64 + e → 65536 ≤ c → SplitsText (a ∷ b ∷ d ∷ e ∷ rest) c rest
     → First (a ∷ b ∷ d ∷ e ∷ rest) a b d e
 of_four a b d e c rest l f g k s u h = let low = f.0 in let middle = g.0 in let last = k.0 in record {
+  begins = begins_from a (λ e. omega arith);
+  second_continues = λ _. continues_from b f;
+  third_continues = λ _. continues_from d g;
   one = λ under. absurd (omega arith);
   lead = λ _. omega arith;
   second = λ _. omega arith;

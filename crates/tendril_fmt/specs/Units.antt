@@ -1,6 +1,6 @@
 -- Code points split off WTF-8 and off units.
-use Rattle.std.specs.Prelude.{◌≡◌, ℕ, ◌+◌, ◌-◌, ◌*◌, ◌%◌, ◌<◌, ◌≤◌, List, [], ◌∷◌, ◌++◌, length, drop, Option}
-use Rattle.std.specs.Prelude.{Some, None, encode_utf8}
+use Rattle.std.specs.Prelude.{◌≡◌, ℕ, ◌+◌, ◌-◌, ◌*◌, ◌/◌, ◌%◌, ◌<◌, ◌≤◌, ◌==◌, Bool, List, [], ◌∷◌, ◌++◌, length}
+use Rattle.std.specs.Prelude.{if◌then◌else◌, nat_lt, slice_index, Option, Some, None, encode_utf8}
 use Rattle.std.specs.Char.Escape.{encode_utf16}
 use Rattle.std.specs.List.{AllByRecursion}
 use Rattle.tendril_fmt.specs.CodePoints.{IsCodePoint}
@@ -44,18 +44,35 @@ code_of_three a b c = a % 0x10 * 0x1000 + b % 0x40 * 0x40 + c % 0x40
 abbrev pub code_of_four : ℕ → ℕ → ℕ → ℕ → ℕ
 code_of_four a b c d = a % 0x08 * 0x4_0000 + b % 0x40 * 0x1000 + c % 0x40 * 0x40 + d % 0x40
 
+-- a byte that continues a sequence: its first two bits are 10
+abbrev pub continues : ℕ → Bool
+continues b = b / 0x40 == 2
+
+-- the places of the bytes that begin a sequence; the first byte is at this place
+abbrev pub starts : ℕ → List ℕ → List ℕ
+starts at [] = []
+starts at (b ∷ bytes) = if continues b then starts (at + 1) bytes else at ∷ starts (at + 1) bytes
+
+-- the code point of a sequence of one, two or three bytes; other bytes may follow it
+abbrev pub unit_of_bytes : ℕ → ℕ → ℕ → ℕ
+unit_of_bytes a b c = if nat_lt a 0x80 then a else if nat_lt a 0xE0 then code_of_two a b else code_of_three a b c
+
+-- the code point of such a sequence at a place
+abbrev pub unit_of_bytes_at : List ℕ → ℕ → ℕ
+unit_of_bytes_at bytes at =
+    unit_of_bytes (slice_index bytes at) (slice_index bytes (at + 1)) (slice_index bytes (at + 2))
+
 -- a text of at least 16 bytes, and a vector with spare capacity for one unit per byte
 pub record CanPushFront (len capacity : ℕ) (bytes : List ℕ) : Type 0 where
   pub valid : IsWtf8 bytes
   pub block : 16 ≤ length bytes
   pub room : len + length bytes ≤ capacity
 
--- `new` is `old` and then the units of the first n bytes of a text, of which there are some; a text follows them
-pub record PushesFront (old new bytes : List ℕ) (n : ℕ) : Type 0 where
-  pub some : 0 < n
-  pub within : n ≤ length bytes
-  pub rest_valid : IsWtf8 (drop n bytes)
-  pub items : new ++ units (drop n bytes) ≡ old ++ units bytes
+-- `new` is `old` and then the units of the first bytes of a text, of which there are some; the text `rest` follows them
+pub record PushesFront (old new bytes rest : List ℕ) : Type 0 where
+  pub shorter : length rest < length bytes
+  pub rest_valid : IsWtf8 rest
+  pub items : new ++ units rest ≡ old ++ units bytes
 
 -- units begin with the block `front` of ASCII, and `rest` follows
 pub record StartsWithAscii (all front rest : List ℕ) : Type 0 where

@@ -1,5 +1,5 @@
 //! The units of WTF-8 in a vector.
-ghost use Rattle.std.specs.Prelude.{◌≡◌, ◌+◌, ◌-◌, ◌<◌, ◌≤◌, ◌++◌, length, take, slice_index, vec_len, vec_capacity};
+ghost use Rattle.std.specs.Prelude.{◌≡◌, ◌+◌, ◌<◌, ◌≤◌, ◌++◌, ℕ, length, take, slice_index, vec_len, vec_capacity};
 ghost use Rattle.std.specs.Char.Escape.{encode_utf16};
 ghost use Rattle.tendril_fmt.specs.CodePoints.{IsCodePoint};
 ghost use Rattle.tendril_fmt.specs.Units.{CanPushFront, LeadsThree, LeadsFour, PushesFront};
@@ -7,8 +7,8 @@ ghost use Rattle.tendril_fmt.specs.Wtf8.{IsWtf8, units as units_of};
 
 use crate::blocks::{BLOCK, is_ascii, leading_ascii};
 use crate::fmt::unit_blocks::{
-    THREES, are_fours, count_threes, count_twos, units_of_ascii, units_of_fours, units_of_threes,
-    units_of_twos,
+    HALF, THREES, TWOS, are_fours, count_continuations, count_threes, count_twos, lacks_four,
+    units_of_ascii, units_of_fours, units_of_mixed, units_of_threes, units_of_twos,
 };
 use crate::futf::split_text;
 use std::simd::prelude::*;
@@ -23,8 +23,7 @@ pub fn decode_wtf8(bytes: &[u8], units: Vec<u16>) -> Vec<u16>
     let mut all = units;
     let mut rest = bytes;
     while BLOCK <= rest.len() {
-        let count = push_front(&mut all, rest);
-        rest = &rest[count..];
+        rest = push_front(&mut all, rest);
     }
     push_rest(&mut all, rest);
     all
@@ -43,13 +42,55 @@ fn push_rest(units: &mut Vec<u16>, bytes: &[u8])
     }
 }
 
-// Appends the units of the first characters of the next 16 bytes, up to the first that has another length in bytes.
-// Returns how many bytes were decoded.
+// Appends the units of the first characters of the next 16 bytes, and returns the bytes after them. Blocks of one kind
+// come first: ASCII, five characters of three bytes, eight of two. Of any other it decodes the characters that begin in
+// the first half.
 #[inline(always)]
-fn push_front(units: &mut Vec<u16>, bytes: &[u8]) -> usize
+fn push_front<'a>(units: &mut Vec<u16>, bytes: &'a [u8]) -> &'a [u8]
     requires can { CanPushFront (vec_len units.old) (vec_capacity units.old) bytes.now }
-    ensures pushes { PushesFront units.old.items units.new.items bytes.now result }
-    ensures room { vec_len units.new + (length bytes.now - result) ≤ vec_capacity units.new }
+    ensures pushes { PushesFront units.old.items units.new.items bytes.now result.now }
+    ensures room { vec_len units.new + length result.now ≤ vec_capacity units.new }
+{
+    let block = u8x16::from_slice(bytes);
+    if is_ascii(block) {
+        push_all(units, &units_of_ascii(block).to_array());
+        return &bytes[BLOCK..];
+    }
+    if !lacks_four(block) {
+        return push_run(units, bytes);
+    }
+    if count_threes(block) == THREES {
+        push_all(units, &units_of_threes(block).to_array()[..THREES]);
+        return &bytes[3 * THREES..];
+    }
+    if count_twos(block) == TWOS {
+        push_all(units, &units_of_twos(block).to_array());
+        return &bytes[BLOCK..];
+    }
+    push_mixed(units, bytes)
+}
+
+// `push_front` for characters of one to three bytes in any order: without a branch on their lengths, which would often
+// be mispredicted.
+#[inline(always)]
+fn push_mixed<'a>(units: &mut Vec<u16>, bytes: &'a [u8]) -> &'a [u8]
+    requires can { CanPushFront (vec_len units.old) (vec_capacity units.old) bytes.now }
+    requires short { (k : ℕ) → k < HALF → slice_index bytes.now k < 0xF0 }
+    ensures pushes { PushesFront units.old.items units.new.items bytes.now result.now }
+    ensures room { vec_len units.new + length result.now ≤ vec_capacity units.new }
+{
+    let block = u8x16::from_slice(bytes);
+    let (decoded, count) = units_of_mixed(block);
+    push_first(units, &decoded.to_array(), count);
+    &bytes[HALF + count_continuations(block)..]
+}
+
+// `push_front` up to the first character of another length: where some have four bytes, the usual text is runs.
+#[inline(always)]
+fn push_run<'a>(units: &mut Vec<u16>, bytes: &'a [u8]) -> &'a [u8]
+    requires can { CanPushFront (vec_len units.old) (vec_capacity units.old) bytes.now }
+    ensures pushes { PushesFront units.old.items units.new.items bytes.now result.now }
+    ensures room { vec_len units.new + length result.now ≤ vec_capacity units.new }
 {
     match bytes[0] {
         0x00..0x80 => push_ascii(units, bytes),
@@ -59,75 +100,64 @@ fn push_front(units: &mut Vec<u16>, bytes: &[u8]) -> usize
     }
 }
 
-// `push_front` for ASCII.
+// `push_run` for ASCII.
 #[inline(always)]
-fn push_ascii(units: &mut Vec<u16>, bytes: &[u8]) -> usize
+fn push_ascii<'a>(units: &mut Vec<u16>, bytes: &'a [u8]) -> &'a [u8]
     requires can { CanPushFront (vec_len units.old) (vec_capacity units.old) bytes.now }
     requires first { slice_index bytes.now 0 < 0x80 }
-    ensures pushes { PushesFront units.old.items units.new.items bytes.now result }
-    ensures room { vec_len units.new + (length bytes.now - result) ≤ vec_capacity units.new }
+    ensures pushes { PushesFront units.old.items units.new.items bytes.now result.now }
+    ensures room { vec_len units.new + length result.now ≤ vec_capacity units.new }
 {
     let block = u8x16::from_slice(bytes);
-    let wide = units_of_ascii(block).to_array();
-    if is_ascii(block) {
-        push_all(units, &wide);
-        return BLOCK;
-    }
     let count = leading_ascii(block);
-    push_first(units, &wide, count);
-    count
+    push_first(units, &units_of_ascii(block).to_array(), count);
+    &bytes[count..]
 }
 
-// `push_front` for characters of two bytes: valid text doesn't begin with a continuation byte.
+// `push_run` for characters of two bytes: valid text doesn't begin with a continuation byte.
 #[inline(always)]
-fn push_twos(units: &mut Vec<u16>, bytes: &[u8]) -> usize
+fn push_twos<'a>(units: &mut Vec<u16>, bytes: &'a [u8]) -> &'a [u8]
     requires can { CanPushFront (vec_len units.old) (vec_capacity units.old) bytes.now }
     requires first { (0x80 ≤ slice_index bytes.now 0) × (slice_index bytes.now 0 < 0xE0) }
-    ensures pushes { PushesFront units.old.items units.new.items bytes.now result }
-    ensures room { vec_len units.new + (length bytes.now - result) ≤ vec_capacity units.new }
+    ensures pushes { PushesFront units.old.items units.new.items bytes.now result.now }
+    ensures room { vec_len units.new + length result.now ≤ vec_capacity units.new }
 {
     let block = u8x16::from_slice(bytes);
     let count = count_twos(block);
     push_first(units, &units_of_twos(block).to_array(), count);
-    2 * count
+    &bytes[2 * count..]
 }
 
-// `push_front` for characters of three bytes.
+// `push_run` for characters of three bytes.
 #[inline(always)]
-fn push_threes(units: &mut Vec<u16>, bytes: &[u8]) -> usize
+fn push_threes<'a>(units: &mut Vec<u16>, bytes: &'a [u8]) -> &'a [u8]
     requires can { CanPushFront (vec_len units.old) (vec_capacity units.old) bytes.now }
     requires first { LeadsThree (slice_index bytes.now 0) }
-    ensures pushes { PushesFront units.old.items units.new.items bytes.now result }
-    ensures room { vec_len units.new + (length bytes.now - result) ≤ vec_capacity units.new }
+    ensures pushes { PushesFront units.old.items units.new.items bytes.now result.now }
+    ensures room { vec_len units.new + length result.now ≤ vec_capacity units.new }
 {
     let block = u8x16::from_slice(bytes);
-    let decoded = units_of_threes(block).to_array();
     let count = count_threes(block);
-    if count == THREES {
-        // A constant, so that the next block is read without waiting for the count.
-        push_all(units, &decoded[..THREES]);
-        return 3 * THREES;
-    }
-    push_first(units, &decoded, count);
-    3 * count
+    push_first(units, &units_of_threes(block).to_array(), count);
+    &bytes[3 * count..]
 }
 
-// `push_front` for characters of four bytes: four of them, or one.
+// `push_run` for characters of four bytes: four of them, or one.
 #[inline(always)]
-fn push_fours(units: &mut Vec<u16>, bytes: &[u8]) -> usize
+fn push_fours<'a>(units: &mut Vec<u16>, bytes: &'a [u8]) -> &'a [u8]
     requires can { CanPushFront (vec_len units.old) (vec_capacity units.old) bytes.now }
     requires first { LeadsFour (slice_index bytes.now 0) }
-    ensures pushes { PushesFront units.old.items units.new.items bytes.now result }
-    ensures room { vec_len units.new + (length bytes.now - result) ≤ vec_capacity units.new }
+    ensures pushes { PushesFront units.old.items units.new.items bytes.now result.now }
+    ensures room { vec_len units.new + length result.now ≤ vec_capacity units.new }
 {
     let block = u8x16::from_slice(bytes);
     let decoded = units_of_fours(block).to_array();
     if are_fours(block) {
         push_all(units, &decoded);
-        return BLOCK;
+        return &bytes[BLOCK..];
     }
     push_first(units, &decoded, 2);
-    4
+    &bytes[4..]
 }
 
 // Appends the first `count` units of a block. The vector has spare capacity for all of it.
@@ -137,7 +167,7 @@ fn push_first(units: &mut Vec<u16>, block: &[u16], count: usize)
     requires room { vec_len units.old + length block.now ≤ vec_capacity units.old }
     ensures items { units.new.items ≡ units.old.items ++ take count block.now }
     ensures len { vec_len units.new ≡ vec_len units.old + count }
-    ensures capacity { vec_capacity units.old ≤ vec_capacity units.new }
+    ensures capacity { vec_capacity units.new ≡ vec_capacity units.old }
 {
     let len = units.len() + count;
     push_all(units, block);
@@ -150,13 +180,12 @@ fn push_all(units: &mut Vec<u16>, more: &[u16])
     requires room { vec_len units.old + length more.now ≤ vec_capacity units.old }
     ensures items { units.new.items ≡ units.old.items ++ more.now }
     ensures len { vec_len units.new ≡ vec_len units.old + length more.now }
-    ensures capacity { vec_capacity units.old ≤ vec_capacity units.new }
+    ensures capacity { vec_capacity units.new ≡ vec_capacity units.old }
 {
-    // So the compiler knows that the vector doesn't grow, and keeps its length in a register.
-    if units.capacity() - units.len() < more.len() {
-        unreachable!();
+    // Not `extend_from_slice`, whose code to grow the vector keeps its length in memory.
+    for unit in more {
+        units.push_reserved(*unit);
     }
-    let _appended = units.extend_from_slice(more);
 }
 
 // Appends the one or two units of a code point.

@@ -1,21 +1,8 @@
-use Rattle.std.proofs.Common.{◌≡◌, ◌<◌, ◌++◌, length, take, slice_index, subst, ap, ◌∙◌, arith, refl}
+use Rattle.std.proofs.Common.{◌≡◌, ◌<◌, ◌++◌, length, take, slice_index, ap, ◌∙◌, arith, refl}
 use Rattle.std.specs.Simd.Lanes.{chunk}
-use Rattle.std.proofs.lemmas.List.{take_all}
 use Rattle.std.proofs.lemmas.Simd.{length-chunk}
-use Rattle.tendril_fmt.proofs.UnitFronts.{IsFront, front_ascii, pushes, block_byte, ascii_byte, some_counted}
+use Rattle.tendril_fmt.proofs.UnitFronts.{front_ascii, pushes, block_byte, some_counted}
 use Rattle.tendril_fmt.proofs.fmt.decode_units.push_ascii.Goals as goal
-
-pub returns-then-is_ascii-clause-pushes : goal.returns-then-is_ascii-clause-pushes
-returns-then-is_ascii-clause-pushes c =
-    let bytes = c.args.bytes.now in
-    let block = chunk 0 16 bytes in
-    let low = c.is_ascii.ensures.0 c.if-is_ascii.true in
-    let long : length block ≡ 16 = length-chunk 0 16 bytes (omega (arith, c.requires.can.block)) in
-    pushes _ _ bytes block 16 (omega arith) (omega (arith, c.requires.can.block))
-    (subst (IsFront bytes 16) (take_all 16 block (omega (arith, long)))
-    (front_ascii bytes block 16 c.requires.can.valid c.requires.can.block (omega arith) (omega (arith, long))
-    (λ k lt. ascii_byte block k low) (λ k lt. refl)))
-    (c.push_all.ensures.items ∙ ap (λ l. c.args.units.now.items ++ l) c.units_of_ascii.ensures)
 
 pub returns-clause-pushes : goal.returns-clause-pushes
 returns-clause-pushes c =

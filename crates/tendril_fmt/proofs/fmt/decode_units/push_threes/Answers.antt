@@ -1,19 +1,8 @@
-use Rattle.std.proofs.Common.{◌≡◌, ◌*◌, take, slice_index, subst, sym, arith}
+use Rattle.std.proofs.Common.{◌*◌, take, slice_index, subst, sym, arith}
 use Rattle.std.specs.Simd.Lanes.{chunk}
 use Rattle.tendril_fmt.specs.Units.{LeadsThree}
 use Rattle.tendril_fmt.proofs.UnitFronts.{front_threes, pushes, block_byte, some_counted}
 use Rattle.tendril_fmt.proofs.fmt.decode_units.push_threes.Goals as goal
-
-pub returns-then-count-eq-THREES-clause-pushes : goal.returns-then-count-eq-THREES-clause-pushes
-returns-then-count-eq-THREES-clause-pushes c =
-    let bytes = c.args.bytes.now in
-    let us = c.units_of_threes.result in
-    let threes = c.count_threes-count.ensures in
-    let is : c.count_threes-count.result ≡ 5 = c.if-count-eq-THREES.true in
-    pushes _ _ bytes (take 5 us) 15 (omega arith) (omega (arith, c.requires.can.block))
-    (front_threes bytes us 5 c.requires.can.valid c.requires.can.block (omega arith) (omega arith)
-    (λ k lt. threes.leads k (omega (arith, is))) (λ k lt. c.units_of_threes.ensures k lt))
-    c.push_all.ensures.items
 
 pub returns-clause-pushes : goal.returns-clause-pushes
 returns-clause-pushes c =
