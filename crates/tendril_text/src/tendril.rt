@@ -16,6 +16,7 @@ mod read;
 mod send;
 mod trim;
 mod units;
+mod validated;
 mod view;
 mod write;
 

@@ -4,6 +4,7 @@ ghost use Rattle.tendril_text.specs.Making.{IsTextOf, MakesText, MakesValidText}
 ghost use Rattle.tendril_text.specs.Parts.{Clones};
 ghost use Rattle.tendril_errors.specs.Outcomes.{NoneMust, MemoryMay, Gives};
 
+use crate::tendril::validated::{PIECE, copy_valid};
 use crate::tendril::view::View;
 use crate::tendril::{ByteTendril, StrTendril, Tendril};
 use std::alloc::{AllocError, Global};
@@ -51,7 +52,8 @@ impl<F: Format, A: Atomicity> Tendril<F, A> {
     /// Returns a text with a copy of the bytes if they are valid in the format.
     ///
     /// Returns `Invalid` if they aren't, else `TooLong` if there are more than 4294967295, else `Memory` if an
-    /// allocation fails. Validates and copies in one pass each, and allocates only for more than 8 bytes.
+    /// allocation fails. Allocates only for more than 8 bytes. More than 4 KB are validated and copied piece by piece,
+    /// while a piece is in the cache; if they are invalid, they are read up to twice.
     ///
     /// ```
     /// let text = StrTendril::try_from_byte_slice(alloc, b"abc")?;
@@ -61,6 +63,15 @@ impl<F: Format, A: Atomicity> Tendril<F, A> {
     pub fn try_from_byte_slice(alloc: Global, bytes: &[u8]) -> Result<Self, Refusal>
         ensures { MakesValidText F.valid bytes.now result }
     {
+        if PIECE < bytes.len() && bytes.len() <= MAX_LEN as usize {
+            if let Some(copy) = copy_valid::<F>(alloc, bytes) {
+                return Ok(Tendril {
+                    storage: Storage::from_vec(alloc, copy)?,
+                    format: PhantomData,
+                });
+            }
+        }
+        // Long bytes can be valid here too, such as WTF-8 in which a piece ends between two surrogates.
         if !F::validate(bytes) {
             return Err(Refusal::Invalid);
         }
