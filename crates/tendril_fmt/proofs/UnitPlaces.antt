@@ -5,8 +5,7 @@ use Rattle.std.proofs.Common.{arith, inl, inr, count_ones, replicate, sym, take,
 use Rattle.std.specs.Int.{to_le_bytes}
 use Rattle.std.specs.Simd.Lanes.{mask_l, pick_l, zip2}
 use Rattle.tendril_fmt.proofs.Lanes.{div, rem}
-use Rattle.std.proofs.lemmas.Bool.{and_parts, cases_lt}
-use Rattle.std.proofs.lemmas.Bool.Decides.{nat_tests}
+use Rattle.std.proofs.lemmas.Bool.{and_parts, cases_lt, eqb-true, ltb-true}
 use Rattle.std.proofs.lemmas.List.{get_or-take, length-map}
 use Rattle.std.proofs.lemmas.Nat.{ones_le_self}
 use Rattle.std.proofs.lemmas.Simd.{mask_l-lt, ones-mask_l_cons}
@@ -40,16 +39,13 @@ are_same [] (y ∷ ys) = false
 are_same (x ∷ xs) [] = false
 are_same (x ∷ xs) (y ∷ ys) = eqb x y && are_same xs ys
 
-equal : (x y : ℕ) → eqb x y ≡ true → x ≡ y
-equal x y e = grind (arith, nat_tests)
-
 same_from : (xs ys : List ℕ) → are_same xs ys ≡ true → xs ≡ ys
 same_from [] [] e = refl
 same_from [] (y ∷ ys) e = absurd (cc)
 same_from (x ∷ xs) [] e = absurd (cc)
 same_from (x ∷ xs) (y ∷ ys) e =
     let both = and_parts (eqb x y) (are_same xs ys) e in
-    ap₂ (λ z l. z ∷ l) (equal x y both.0) (same_from xs ys both.1)
+    ap₂ (λ z l. z ∷ l) (eqb-true x y both.0) (same_from xs ys both.1)
 
 abbrev are_below : ℕ → List ℕ → Bool
 are_below n [] = true
@@ -58,10 +54,7 @@ are_below n (x ∷ xs) = ltb x n && are_below n xs
 below_from : (n : ℕ) (xs : List ℕ) (k : ℕ) → 0 < n → are_below n xs ≡ true → get_or xs k 0 < n
 below_from n [] k some e = some
 below_from n (x ∷ xs) zero some e =
-    let both = and_parts (ltb x n) (are_below n xs) e in less x n both.0
-  where
-    less : (x n : ℕ) → ltb x n ≡ true → x < n
-    less x n e = grind (arith, nat_tests)
+    ltb-true x n (and_parts (ltb x n) (are_below n xs) e).0
 below_from n (x ∷ xs) (suc k) some e = below_from n xs k some (and_parts (ltb x n) (are_below n xs) e).1
 
 abbrev row_is : ℕ → Bool

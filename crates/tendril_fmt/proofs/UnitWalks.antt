@@ -5,8 +5,7 @@ use Rattle.std.proofs.Common.{append-nil, inl, inr, take, drop, ◌-◌}
 use Rattle.std.proofs.lemmas.List.{get_or-take, length-take-le}
 use Rattle.std.proofs.lemmas.Simd.{length-chunk}
 use Rattle.std.specs.Simd.Lanes.{chunk}
-use Rattle.std.proofs.lemmas.Bool.{cases_lt, cond-true, cond-false}
-use Rattle.std.proofs.lemmas.Bool.Decides.{nat_tests}
+use Rattle.std.proofs.lemmas.Bool.{cases_lt, cond-true, cond-false, le-ltb, lt-ltb}
 use Rattle.tendril_fmt.specs.Units.{code_of_two, code_of_three, continues, starts, unit_of_bytes_at, unit_of_bytes}
 use Rattle.tendril_fmt.specs.Wtf8.{IsWtf8}
 use Rattle.tendril_fmt.specs.Proved.Units.{one_unit}
@@ -14,19 +13,17 @@ use Rattle.tendril_fmt.proofs.UnitFronts.{IsFront, block_byte, first_from, front
 use Rattle.tendril_fmt.proofs.UnitSplits.{SplitsAt}
 
 unit_one : (a b c : ℕ) → a < 0x80 → unit_of_bytes a b c ≡ a
-unit_one a b c low = let small : ltb a 0x80 ≡ true = grind (arith, nat_tests) in cond-true (ltb a 0x80) a _ small
+unit_one a b c low = cond-true (ltb a 0x80) a _ (lt-ltb a 0x80 low)
 
 unit_two : (a b c : ℕ) → 0x80 ≤ a → a < 0xE0 → unit_of_bytes a b c ≡ code_of_two a b
 unit_two a b c low high =
-    let large : ltb a 0x80 ≡ false = grind (arith, nat_tests) in
-    let small : ltb a 0xE0 ≡ true = grind (arith, nat_tests) in
-    cond-false (ltb a 0x80) a _ large ∙ cond-true (ltb a 0xE0) (code_of_two a b) (code_of_three a b c) small
+    cond-false (ltb a 0x80) a _ (le-ltb a 0x80 low)
+    ∙ cond-true (ltb a 0xE0) (code_of_two a b) (code_of_three a b c) (lt-ltb a 0xE0 high)
 
 unit_three : (a b c : ℕ) → 0xE0 ≤ a → unit_of_bytes a b c ≡ code_of_three a b c
 unit_three a b c low =
-    let large : ltb a 0x80 ≡ false = grind (arith, nat_tests) in
-    let larger : ltb a 0xE0 ≡ false = grind (arith, nat_tests) in
-    cond-false (ltb a 0x80) a _ large ∙ cond-false (ltb a 0xE0) (code_of_two a b) (code_of_three a b c) larger
+    cond-false (ltb a 0x80) a _ (le-ltb a 0x80 (omega (arith, low)))
+    ∙ cond-false (ltb a 0xE0) (code_of_two a b) (code_of_three a b c) (le-ltb a 0xE0 low)
 
 module _ (bytes : List ℕ) (valid : IsWtf8 bytes) (enough : 16 ≤ length bytes)
     (few : (k : ℕ) → k < 8 → slice_index (chunk 0 16 bytes) k < 0xF0) where

@@ -8,8 +8,8 @@ ghost use Rattle.tendril_fmt.specs.CodePoints.{IsContinuation, AreContinuations}
 
 mod decode;
 
-pub(crate) use decode::{decode, split_code_point, split_text};
-use decode::{is_continuation, sequence_len_of};
+use decode::sequence_len_of;
+pub(crate) use decode::{decode, is_continuation, split_code_point, split_text};
 
 /// What a sequence of bytes means, even if only its beginning or its end is there.
 ///

@@ -16,7 +16,6 @@ mod read;
 mod send;
 mod trim;
 mod units;
-mod validated;
 mod view;
 mod write;
 

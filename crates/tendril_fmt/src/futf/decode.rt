@@ -7,7 +7,7 @@ ghost use Rattle.tendril_fmt.specs.Wtf8.{IsWtf8};
 
 use crate::futf::Meaning;
 
-pub(super) fn is_continuation(byte: u8) -> bool
+pub(crate) fn is_continuation(byte: u8) -> bool
     ensures { IsTrue result ↔ IsContinuation byte }
 {
     0x80 <= byte && byte < 0xC0

@@ -4,13 +4,13 @@ ghost use Rattle.tendril_text.specs.Making.{IsTextOf, MakesText, MakesValidText}
 ghost use Rattle.tendril_text.specs.Parts.{Clones};
 ghost use Rattle.tendril_errors.specs.Outcomes.{NoneMust, MemoryMay, Gives};
 
-use crate::tendril::validated::{PIECE, copy_valid};
 use crate::tendril::view::View;
 use crate::tendril::{ByteTendril, StrTendril, Tendril};
 use std::alloc::{AllocError, Global};
 use std::default::MadeWith;
 use std::marker::PhantomData;
 use tendril_block::{Atomicity, INLINE_LEN, MAX_LEN, Refusal};
+use tendril_fmt::copies::{PIECE, copy_if_valid};
 use tendril_fmt::fmt::{Bytes, Format, UTF8};
 use tendril_storage::Storage;
 
@@ -52,8 +52,8 @@ impl<F: Format, A: Atomicity> Tendril<F, A> {
     /// Returns a text with a copy of the bytes if they are valid in the format.
     ///
     /// Returns `Invalid` if they aren't, else `TooLong` if there are more than 4294967295, else `Memory` if an
-    /// allocation fails. Allocates only for more than 8 bytes. More than 4 KB are validated and copied piece by piece,
-    /// while a piece is in the cache; if they are invalid, they are read up to twice.
+    /// allocation fails. Allocates only for more than 8 bytes. More than 1 KB are validated and copied piece by piece,
+    /// so that each piece is read from the cache when it is copied; if they are invalid, they are read up to twice.
     ///
     /// ```
     /// let text = StrTendril::try_from_byte_slice(alloc, b"abc")?;
@@ -64,14 +64,15 @@ impl<F: Format, A: Atomicity> Tendril<F, A> {
         ensures { MakesValidText F.valid bytes.now result }
     {
         if PIECE < bytes.len() && bytes.len() <= MAX_LEN as usize {
-            if let Some(copy) = copy_valid::<F>(alloc, bytes) {
-                return Ok(Tendril {
+            return match copy_if_valid::<F>(alloc, bytes) {
+                Ok(Some(copy)) => Ok(Tendril {
                     storage: Storage::from_vec(alloc, copy)?,
                     format: PhantomData,
-                });
-            }
+                }),
+                Ok(None) => Err(Refusal::Invalid),
+                Err(_) => Err(Refusal::Memory),
+            };
         }
-        // Long bytes can be valid here too, such as WTF-8 in which a piece ends between two surrogates.
         if !F::validate(bytes) {
             return Err(Refusal::Invalid);
         }

@@ -97,7 +97,11 @@ impl<F: Format, A: Atomicity> Tendril<F, A> {
         {
             return false;
         }
-        concatenates::<F>(text, more) && self.storage.try_grow_over(more)
+        let join = F::fixup(text, more);
+        if join.drop_left > 0 || join.insert_len > 0 || join.drop_right > 0 {
+            return false;
+        }
+        self.storage.try_grow_over(more)
     }
 
     /// Reserves capacity for `more` further bytes. The text's bytes don't change.
@@ -187,15 +191,4 @@ impl<A: Atomicity> Tendril<UTF8, A> {
     {
         self.push_bytes_without_validating(more.as_bytes())
     }
-}
-
-/// Returns whether the join of two texts is their concatenation.
-#[inline(always)]
-pub(super) fn concatenates<F: Format>(left: &[u8], right: &[u8]) -> bool
-    requires left_valid { F.valid left.now }
-    requires right_valid { F.valid right.now }
-    ensures { result ≡ true → F.join left.now right.now ≡ left.now ++ right.now }
-{
-    let fixup = F::fixup(left, right);
-    fixup.drop_left == 0 && fixup.insert_len == 0 && fixup.drop_right == 0
 }

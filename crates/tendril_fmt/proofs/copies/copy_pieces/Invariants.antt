@@ -1,5 +1,5 @@
 use Rattle.std.proofs.Common.{◌≡◌, ◌++◌, length}
-use Rattle.tendril_text.proofs.tendril.validated.copy_valid.Given as goal
+use Rattle.tendril_fmt.proofs.copies.copy_pieces.Given as goal
 
 abbrev pub invariant-loop-rest : goal.invariant-loop-rest
 invariant-loop-rest g l = record {
