@@ -13,6 +13,7 @@ use measure::Workload;
 use report::{Page, Run};
 use results::Results;
 use std::error::Error;
+use std::ffi::c_int;
 use std::path::PathBuf;
 use std::process::ExitCode;
 
@@ -108,6 +109,7 @@ fn run(options: &Options) -> Result<(), Box<dyn Error>> {
         }
         return Ok(());
     }
+    keep_memory();
     let run = Run::new(options.rounds, options.size);
     println!("{run}");
     let results = measure(chosen, options.rounds);
@@ -115,6 +117,19 @@ fn run(options: &Options) -> Result<(), Box<dyn Error>> {
         page.write(&run, &results)?;
     }
     Ok(())
+}
+
+unsafe extern "C" {
+    fn mallopt(parameter: c_int, value: c_int) -> c_int;
+}
+
+/// Has glibc's malloc keep what is freed, whatever its size.
+fn keep_memory() {
+    const TRIM_THRESHOLD: c_int = -1;
+    const MMAP_MAX: c_int = -4;
+    // SAFETY: the allocator may be told at any time, and this process has one thread yet.
+    let is_set = unsafe { mallopt(TRIM_THRESHOLD, -1) == 1 && mallopt(MMAP_MAX, 0) == 1 };
+    assert!(is_set, "malloc takes its parameters");
 }
 
 /// Measures the workloads, and prints the results of each when it has them.
