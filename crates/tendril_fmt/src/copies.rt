@@ -5,8 +5,8 @@ use crate::fmt::Format;
 use crate::futf::is_continuation;
 use std::alloc::{AllocError, Global};
 
-/// The maximal length of a piece that is validated and then copied. Pieces of 4 KB can take longer than two passes,
-/// depending on where the bytes and their copy begin in their pages.
+/// The maximal length of a piece that is validated and then copied. By where the bytes and their copy begin in their
+/// pages, pieces can take longer than two passes: those of 4 KB at many places, those of 1 KB at few.
 pub const PIECE: usize = 1024;
 
 /// Returns a copy of the bytes if they are valid. The error says that they are, and that an allocation failed.
@@ -73,6 +73,5 @@ fn concatenates<F: Format>(left: &[u8], right: &[u8]) -> bool
     requires right_valid { F.valid right.now }
     ensures { result ≡ true → F.join left.now right.now ≡ left.now ++ right.now }
 {
-    let fixup = F::fixup(left, right);
-    fixup.drop_left == 0 && fixup.insert_len == 0 && fixup.drop_right == 0
+    F::fixup(left, right).is_nothing()
 }

@@ -97,8 +97,7 @@ impl<F: Format, A: Atomicity> Tendril<F, A> {
         {
             return false;
         }
-        let join = F::fixup(text, more);
-        if join.drop_left > 0 || join.insert_len > 0 || join.drop_right > 0 {
+        if !F::fixup(text, more).is_nothing() {
             return false;
         }
         self.storage.try_grow_over(more)
