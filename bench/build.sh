@@ -92,5 +92,10 @@ fi
 cd "$bench"
 # As the port is compiled.
 export RUSTFLAGS="-C target-cpu=x86-64-v2 ${RUSTFLAGS:-}"
-cargo build --release --features "$features" "${from[@]}"
+# The program with its code at four places, for a page; the one at the first is left for all else.
+mkdir -p target/places
+for place in 48 32 16 00; do
+    PLACE=$place cargo build --release --features "$features" "${from[@]}"
+    cp target/release/tendril_driver "target/places/$place"
+done
 echo "run: $bench/target/release/tendril_driver"

@@ -3,6 +3,7 @@
 mod inputs;
 mod measure;
 mod picture;
+mod places;
 mod port;
 mod report;
 mod results;
@@ -11,18 +12,18 @@ mod workloads;
 use inputs::Inputs;
 use measure::Workload;
 use report::{Page, Run};
-use results::Results;
 use std::error::Error;
 use std::ffi::c_int;
 use std::path::PathBuf;
 use std::process::ExitCode;
 
 const USAGE: &str =
-    "usage: tendril_driver [--rounds N] [--size BYTES] [--page FILE | --alone CONTENDER] [WORD..]
+    "usage: tendril_driver [--rounds N] [--size BYTES] [--page FILE | --times | --alone CONTENDER] [WORD..]
   --rounds  how often each contender runs (15)
   --size    how long the large inputs are (4194304)
-  --page    runs all workloads, and writes the results between the marks of this page and the
-            picture speed.svg beside it
+  --page    runs all workloads in each of the programs of target/places, and writes the results
+            between the marks of this page and the picture speed.svg beside it
+  --times   prints only the seconds of each contender, as --page reads them
   --alone   runs one contender only, and says what the process had in memory at most
   WORD      an id of a workload, or what the ids of several begin with; none: all run";
 
@@ -30,6 +31,7 @@ struct Options {
     rounds: usize,
     size: usize,
     page: Option<PathBuf>,
+    times: bool,
     alone: Option<String>,
     words: Vec<String>,
 }
@@ -40,6 +42,7 @@ impl Options {
             rounds: 15,
             size: 4 << 20,
             page: None,
+            times: false,
             alone: None,
             words: Vec::new(),
         };
@@ -50,6 +53,7 @@ impl Options {
                 }
                 "--size" => options.size = arguments.next()?.parse().ok()?,
                 "--page" => options.page = Some(arguments.next()?.into()),
+                "--times" => options.times = true,
                 "--alone" => options.alone = Some(arguments.next()?),
                 flag if flag.starts_with('-') => return None,
                 _ => options.words.push(word),
@@ -60,7 +64,7 @@ impl Options {
 
     /// Whether a page gets all rows, if one is written.
     fn is_whole(&self) -> bool {
-        self.page.is_none() || self.words.is_empty() && self.alone.is_none()
+        self.page.is_none() || self.words.is_empty() && self.alone.is_none() && !self.times
     }
 
     /// The workloads that the words ask for: a word that is an id means that one alone.
@@ -93,6 +97,7 @@ fn main() -> ExitCode {
 }
 
 fn run(options: &Options) -> Result<(), Box<dyn Error>> {
+    places::keep();
     let page = options.page.as_deref().map(Page::open).transpose()?;
     let inputs = Inputs::new(options.size);
     let ports = port::builds();
@@ -103,6 +108,9 @@ fn run(options: &Options) -> Result<(), Box<dyn Error>> {
     if chosen.is_empty() {
         return Err("no workload has such an id".into());
     }
+    if let Some(page) = page {
+        return write(&page, &chosen, options);
+    }
     if let Some(contender) = &options.alone {
         for mut workload in chosen {
             workload.run_alone(contender, options.rounds);
@@ -110,12 +118,31 @@ fn run(options: &Options) -> Result<(), Box<dyn Error>> {
         return Ok(());
     }
     keep_memory();
-    let run = Run::new(options.rounds, options.size);
-    println!("{run}");
-    let results = measure(chosen, options.rounds);
-    if let Some(page) = page {
-        page.write(&run, &results)?;
+    if !options.times {
+        println!("{}", Run::new(options.rounds, 1, options.size));
     }
+    for mut workload in chosen {
+        let results = workload.measure(options.rounds);
+        if options.times {
+            print!("{}", places::as_lines(&results));
+        } else {
+            print!("{results}");
+        }
+    }
+    Ok(())
+}
+
+/// Measures the workloads in each of the programs, and writes the results into the page.
+fn write(page: &Page, chosen: &[Workload], options: &Options) -> Result<(), Box<dyn Error>> {
+    let programs = places::programs()?;
+    let rounds = places::whole_rounds(options.rounds, programs.len());
+    let run = Run::new(rounds, programs.len(), options.size);
+    println!("{run}");
+    let results = places::measure(chosen, &programs, rounds, options.size)?;
+    for it in &results {
+        print!("{it}");
+    }
+    page.write(&run, &results)?;
     Ok(())
 }
 
@@ -132,12 +159,6 @@ fn keep_memory() {
     assert!(is_set, "malloc takes its parameters");
 }
 
-/// Measures the workloads, and prints the results of each when it has them.
-fn measure(workloads: Vec<Workload>, rounds: usize) -> Vec<Results> {
-    let measured = workloads.into_iter().map(|mut it| it.measure(rounds));
-    measured.inspect(|it| print!("{it}")).collect()
-}
-
 #[cfg(test)]
 mod tests {
     use super::*;
@@ -151,6 +172,7 @@ mod tests {
         assert!(parse("--rounds 11 --page docs/SPEED.md").is_some());
         assert!(parse("--page docs/SPEED.md a1").is_none());
         assert!(parse("--page docs/SPEED.md --alone port").is_none());
+        assert!(parse("--page docs/SPEED.md --times").is_none());
         assert!(parse("--alone port m").is_some());
     }
 

@@ -28,6 +28,16 @@ struct Contender<'a> {
     run: Box<dyn FnMut() -> u64 + 'a>,
 }
 
+impl Contender<'_> {
+    fn timed(&self, seconds: Vec<f64>) -> Timed {
+        Timed {
+            name: self.name.clone(),
+            role: self.role,
+            seconds,
+        }
+    }
+}
+
 pub struct Workload<'a> {
     pub id: &'static str,
     name: &'static str,
@@ -139,7 +149,8 @@ impl<'a> Workload<'a> {
             self.warm_up(at);
             times[at].push(self.time(at));
         }
-        self.results(times)
+        let contenders = self.contenders.iter().zip(times);
+        self.results(contenders.map(|(it, seconds)| it.timed(seconds)).collect())
     }
 
     /// Runs a contender untimed, at least once, so that the timed run finds the heap and the caches
@@ -178,21 +189,21 @@ impl<'a> Workload<'a> {
         took * contender.times
     }
 
-    fn results(&self, times: Vec<Vec<f64>>) -> Results {
-        let contenders = self.contenders.iter().zip(times);
+    fn results(&self, contenders: Vec<Timed>) -> Results {
         Results {
             id: self.id,
             name: self.name,
             details: self.details,
             unit: self.unit,
-            contenders: contenders
-                .map(|(it, seconds)| Timed {
-                    name: it.name.clone(),
-                    role: it.role,
-                    seconds,
-                })
-                .collect(),
+            contenders,
         }
+    }
+
+    /// The results, if each contender's seconds are known, by its name.
+    pub fn results_by(&self, seconds: impl Fn(&str) -> Option<Vec<f64>>) -> Option<Results> {
+        let contenders = self.contenders.iter();
+        let timed = contenders.map(|it| Some(it.timed(seconds(&it.name)?)));
+        Some(self.results(timed.collect::<Option<_>>()?))
     }
 
     /// Runs the contender of this name so many times, and prints what the process had in memory at

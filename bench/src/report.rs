@@ -30,16 +30,19 @@ const INSTEAD: [(Role, &str); 4] = [
 pub struct Run {
     date: String,
     rounds: usize,
+    /// How many programs the rounds are of.
+    programs: usize,
     size: usize,
     processors: usize,
     model: String,
 }
 
 impl Run {
-    pub fn new(rounds: usize, size: usize) -> Run {
+    pub fn new(rounds: usize, programs: usize, size: usize) -> Run {
         Run {
             date: today(),
             rounds,
+            programs,
             size,
             processors: thread::available_parallelism().map_or(1, usize::from),
             model: processor_model(&fs::read_to_string("/proc/cpuinfo").unwrap_or_default()),
@@ -52,14 +55,19 @@ impl Display for Run {
         let Run {
             date,
             rounds,
+            programs,
             size,
             processors,
             model,
         } = self;
+        let places = match programs {
+            1 => String::new(),
+            _ => format!(", with the code at {programs} places"),
+        };
         let compilers = env!("COMPILERS");
         write!(
             out,
-            "Run of {date}: {rounds} rounds, large inputs of {size} bytes. \
+            "Run of {date}: {rounds} rounds{places}, large inputs of {size} bytes. \
              Machine: {processors} processors, {model}. Compilers: {compilers}."
         )
     }
@@ -231,6 +239,7 @@ mod tests {
         Run {
             date: "2026-11-28".into(),
             rounds: 11,
+            programs: 4,
             size: 4096,
             processors: 4,
             model: "Intel(R) Xeon(R)".into(),
@@ -329,9 +338,14 @@ mod tests {
 
     #[test]
     fn a_run_says_where_and_how() {
-        let wanted = "Run of 2026-11-28: 11 rounds, large inputs of 4096 bytes. \
-                      Machine: 4 processors, Intel(R) Xeon(R). Compilers: rustc ";
+        let wanted = "Run of 2026-11-28: 11 rounds, with the code at 4 places, large inputs of \
+                      4096 bytes. Machine: 4 processors, Intel(R) Xeon(R). Compilers: rustc ";
         assert!(run().to_string().starts_with(wanted));
+        let alone = Run {
+            programs: 1,
+            ..run()
+        };
+        assert!(alone.to_string().contains(": 11 rounds, large inputs of"));
     }
 
     #[test]

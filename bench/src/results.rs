@@ -86,12 +86,13 @@ impl Spread {
     fn of(figures: impl Iterator<Item = f64>) -> Spread {
         let mut sorted: Vec<f64> = figures.collect();
         sorted.sort_by(f64::total_cmp);
+        let last = sorted.len() - 1;
         let tenth = sorted.len() / 10;
         Spread {
             least: sorted[0],
-            median: sorted[sorted.len() / 2],
+            median: (sorted[last / 2] + sorted[sorted.len() / 2]) / 2.0,
             low: sorted[tenth],
-            high: sorted[sorted.len() - 1 - tenth],
+            high: sorted[last - tenth],
         }
     }
 }
@@ -180,6 +181,12 @@ mod tests {
             high: 10.0,
         };
         assert_eq!(times.time(), wanted);
+    }
+
+    #[test]
+    fn the_median_of_an_even_number_is_between_the_middle_ones() {
+        assert_eq!(timed(&[4.0, 1.0, 2.0, 9.0]).time().median, 3.0);
+        assert_eq!(timed(&[4.0]).time().median, 4.0);
     }
 
     #[test]
