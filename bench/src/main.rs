@@ -18,13 +18,13 @@ use std::path::PathBuf;
 use std::process::ExitCode;
 
 const USAGE: &str =
-    "usage: tendril_driver [--rounds N] [--size BYTES] [--page FILE | --times | --alone CONTENDER] [WORD..]
+    "usage: tendril_driver [--rounds N] [--size BYTES] [--page FILE | --times | --alone NAME] [WORD..]
   --rounds  how often each contender runs (15)
   --size    how long the large inputs are (4194304)
   --page    runs all workloads in each of the programs of target/places, and writes the results
             between the marks of this page and the picture speed.svg beside it
   --times   prints only the seconds of each contender, as --page reads them
-  --alone   runs one contender only, and says what the process had in memory at most
+  --alone   runs the contender of this name only, and says what the process had in memory at most
   WORD      an id of a workload, or what the ids of several begin with; none: all run";
 
 struct Options {

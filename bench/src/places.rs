@@ -13,22 +13,15 @@ use std::{fs, io};
 
 /// How many bytes stand before the code of this program: build.sh sets `PLACE` for each.
 const PLACE: usize = match option_env!("PLACE") {
-    Some(bytes) => number(bytes.as_bytes()),
+    Some(bytes) => match usize::from_str_radix(bytes, 10) {
+        Ok(place) => place,
+        Err(_) => panic!("PLACE is a number of bytes"),
+    },
     None => 0,
 };
 
 /// How many rounds a program measures before the next one has its turn.
 const ROUNDS: usize = 2;
-
-const fn number(digits: &[u8]) -> usize {
-    let mut sum = 0;
-    let mut at = 0;
-    while at < digits.len() {
-        sum = sum * 10 + (digits[at] - b'0') as usize;
-        at += 1;
-    }
-    sum
-}
 
 global_asm!(
     ".globl bench_place",
