@@ -71,9 +71,10 @@ pub fn measure(
     }
     let results = workloads
         .iter()
-        .map(|it| it.results_by(|name| times.take(it.id, name)));
-    let results: Option<Vec<Results>> = results.collect();
-    Ok(results.ok_or("a program left a contender out")?)
+        .map(|it| it.results_by(|name| times.of(it.id, name)));
+    results
+        .collect::<Option<_>>()
+        .ok_or_else(|| "a program left a contender out".into())
 }
 
 /// What a program prints of its rounds.
@@ -119,7 +120,7 @@ impl Times {
         Ok(())
     }
 
-    fn take(&self, id: &str, name: &str) -> Option<Vec<f64>> {
+    fn of(&self, id: &str, name: &str) -> Option<Vec<f64>> {
         self.all.get(&(id.into(), name.into())).cloned()
     }
 }
@@ -158,9 +159,9 @@ mod tests {
         let mut times = Times::default();
         times.add(&as_lines(&clones(&[0.5, 1e-9]))).unwrap();
         times.add(&as_lines(&clones(&[0.25]))).unwrap();
-        let joined = times.take("d1", "tendril 0.5.1, Atomic");
+        let joined = times.of("d1", "tendril 0.5.1, Atomic");
         assert_eq!(joined, Some(vec![0.5, 1e-9, 0.25]));
-        assert_eq!(times.take("d1", "port"), None);
+        assert_eq!(times.of("d1", "port"), None);
     }
 
     #[test]
