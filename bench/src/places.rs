@@ -1,5 +1,5 @@
 //! The same program with its code at several places. A page has rounds of each, since the place
-//! that a link gives to a loop changes its time by up to a quarter.
+//! that a link gives to a loop changes its time.
 
 use crate::measure::Workload;
 use crate::results::Results;
