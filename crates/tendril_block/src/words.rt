@@ -12,24 +12,24 @@ pub const WORD_LEN: usize = 8;
 
 const _: () = prove!(NODE_CAPACITY == 5 * WORD_LEN);
 
-/// Returns at most 8 bytes as the lowest ones of a word. Each length has its own loads: to read as one word what was
+/// Returns at most 8 bytes as the lowest ones of a word. The first and the last 4 are loaded, or the first and the last
+/// 2: a branch for each number of bytes would be mispredicted where lengths change, and to read as one word what was
 /// just written in pieces would stall the processor.
 #[inline(always)]
 pub fn word_of(bytes: &[u8]) -> u64
     requires { length bytes.now ≤ WORD_LEN }
     ensures { take (length bytes.now) (to_le_bytes w64 result) ≡ bytes.now }
 {
-    match bytes {
-        [] => 0,
-        [a] => u64::from(*a),
-        [a, b] => u64::from_le_bytes([*a, *b, 0, 0, 0, 0, 0, 0]),
-        [a, b, c] => u64::from_le_bytes([*a, *b, *c, 0, 0, 0, 0, 0]),
-        [a, b, c, d] => u64::from_le_bytes([*a, *b, *c, *d, 0, 0, 0, 0]),
-        [a, b, c, d, e] => u64::from_le_bytes([*a, *b, *c, *d, *e, 0, 0, 0]),
-        [a, b, c, d, e, f] => u64::from_le_bytes([*a, *b, *c, *d, *e, *f, 0, 0]),
-        [a, b, c, d, e, f, g] => u64::from_le_bytes([*a, *b, *c, *d, *e, *f, *g, 0]),
-        [a, b, c, d, e, f, g, h, ..] => u64::from_le_bytes([*a, *b, *c, *d, *e, *f, *g, *h]),
+    if let (Some(first), Some(last)) = (bytes.first_chunk::<4>(), bytes.last_chunk::<4>()) {
+        // What is in both is shifted out of the last.
+        let rest = u64::from(u32::from_le_bytes(*last)) >> (8 * (8 - bytes.len()));
+        return u64::from(u32::from_le_bytes(*first)) | rest << 32;
     }
+    if let (Some(first), Some(last)) = (bytes.first_chunk::<2>(), bytes.last_chunk::<2>()) {
+        let rest = u64::from(u16::from_le_bytes(*last)) >> (8 * (4 - bytes.len()));
+        return u64::from(u16::from_le_bytes(*first)) | rest << 16;
+    }
+    bytes.first().map_or(0, |byte| u64::from(*byte))
 }
 
 /// Whether two slices of the same length are equal. 8 to 40 bytes are compared as words.
