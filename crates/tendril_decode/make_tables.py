@@ -9,8 +9,6 @@ from hashlib import sha256
 from pathlib import Path
 
 HERE = Path(__file__).resolve().parent
-BASIS = 0xCBF29CE484222325
-PRIME = 0x100000001B3
 
 # The index of each encoding of one byte, and its sum. x-user-defined has none: its table follows from its definition.
 INDEXES = {
@@ -54,39 +52,6 @@ LARGE = {
 }
 RANGES = "gb18030-ranges"
 RANGES_SUM = "60e4762daebd1c40b74d5696aaff25645e797fe184b5574f68110e5894011e6f"
-
-# The variants of SingleByte, and the table of each.
-VARIANTS = {
-    "Ibm866": "ibm866",
-    "Iso8859_2": "iso-8859-2",
-    "Iso8859_3": "iso-8859-3",
-    "Iso8859_4": "iso-8859-4",
-    "Iso8859_5": "iso-8859-5",
-    "Iso8859_6": "iso-8859-6",
-    "Iso8859_7": "iso-8859-7",
-    "Iso8859_8": "iso-8859-8",
-    "Iso8859_8I": "iso-8859-8",
-    "Iso8859_10": "iso-8859-10",
-    "Iso8859_13": "iso-8859-13",
-    "Iso8859_14": "iso-8859-14",
-    "Iso8859_15": "iso-8859-15",
-    "Iso8859_16": "iso-8859-16",
-    "Koi8R": "koi8-r",
-    "Koi8U": "koi8-u",
-    "Macintosh": "macintosh",
-    "Windows874": "windows-874",
-    "Windows1250": "windows-1250",
-    "Windows1251": "windows-1251",
-    "Windows1252": "windows-1252",
-    "Windows1253": "windows-1253",
-    "Windows1254": "windows-1254",
-    "Windows1255": "windows-1255",
-    "Windows1256": "windows-1256",
-    "Windows1257": "windows-1257",
-    "Windows1258": "windows-1258",
-    "XMacCyrillic": "x-mac-cyrillic",
-    "XUserDefined": USER_DEFINED,
-}
 
 
 def read_pairs(folder, name, total):
@@ -179,33 +144,8 @@ def ranges_file(pairs):
     ]
 
 
-def sum_of(codes):
-    """FNV-1a of the UTF-8 of all 256 bytes, with 0xFF for a byte that has no character."""
-    total = BASIS
-    for code in list(range(128)) + [code or None for code in codes]:
-        for byte in b"\xFF" if code is None else chr(code).encode():
-            total = (total ^ byte) * PRIME % 2**64
-    return total
-
-
-def sums_file(tables):
-    lines = [
-        "//! What the bytes 0x00 to 0xFF decode to in each encoding. Written by make_tables.py.",
-        "",
-        "use crate::single_byte::SingleByte;",
-        "",
-        "/// FNV-1a of the UTF-8 of the 256 characters, with 0xFF for a byte that has none.",
-        "#[rattlefmt::skip]",
-        f"pub(crate) const SUMS: [(SingleByte, u64); {len(VARIANTS)}] = [",
-    ]
-    for variant, name in VARIANTS.items():
-        lines.append(f"    (SingleByte::{variant}, 0x{sum_of(tables[name]):016X}),")
-    return lines + ["];"]
-
-
 def modules_file(names):
     modules = {module_of(name): [f"pub mod {module_of(name)};"] for name in names}
-    modules["sums"] = ["#[cfg(test)]", "pub(crate) mod sums;"]
     lines = ["//! The tables of the encodings. Written by make_tables.py.", ""]
     return lines + [line for module in sorted(modules) for line in modules[module]]
 
@@ -245,10 +185,9 @@ def write(path, lines):
 
 def main():
     folder = Path(sys.argv[1])
-    tables = {name: read_single(folder, name) for name in VARIANTS.values()}
+    tables = {name: read_single(folder, name) for name in (*INDEXES, USER_DEFINED)}
     for name, codes in tables.items():
         write(f"src/tables/{module_of(name)}.rt", table_file(name, codes))
-    write("src/tables/sums.rt", sums_file(tables))
     for name, (total, count, bits) in LARGE.items():
         write(f"src/tables/{module_of(name)}.rt", large_file(name, read_index(folder, name, total, count), bits))
     write(f"src/tables/{module_of(RANGES)}.rt", ranges_file(read_pairs(folder, RANGES, RANGES_SUM)))

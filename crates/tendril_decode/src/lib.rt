@@ -14,8 +14,6 @@ mod iso_2022_jp;
 mod packed;
 mod part;
 mod replacement;
-#[cfg(test)]
-mod sequences;
 mod shift_jis;
 mod single_byte;
 mod steps;

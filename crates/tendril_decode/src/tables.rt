@@ -22,8 +22,6 @@ pub mod jis0212;
 pub mod koi8_r;
 pub mod koi8_u;
 pub mod macintosh;
-#[cfg(test)]
-pub(crate) mod sums;
 pub mod windows_1250;
 pub mod windows_1251;
 pub mod windows_1252;

@@ -7,8 +7,6 @@ ghost use Rattle.tendril_decode.specs.Machines.{DecodesTo, broken_marks};
 ghost use Rattle.tendril_decode.specs.Utf16.{unit_of, utf16};
 
 mod blocks;
-#[cfg(test)]
-mod tests;
 
 use crate::decode::Decode;
 use crate::part::Part;

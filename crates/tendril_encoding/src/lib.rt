@@ -11,8 +11,6 @@ mod pieces;
 mod reading;
 mod search;
 mod slices;
-#[cfg(test)]
-mod tests;
 mod text;
 mod theorems;
 mod whole;

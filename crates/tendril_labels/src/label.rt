@@ -7,9 +7,6 @@ ghost use Rattle.tendril_labels.specs.Table.{labels as table};
 use crate::encoding::Encoding;
 use crate::table::LABELS;
 
-#[cfg(test)]
-mod tests;
-
 /// A label, in lower case, and the encoding that it names.
 #[derive(Clone, Copy, PartialEq, Eq, Debug)]
 pub struct Label {

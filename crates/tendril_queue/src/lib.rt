@@ -4,8 +4,6 @@
 mod eat;
 mod lines;
 mod queue;
-#[cfg(test)]
-mod tests;
 
 pub use crate::eat::EatResult;
 pub use crate::queue::TextQueue;

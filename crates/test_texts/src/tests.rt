@@ -13,6 +13,7 @@ mod joined;
 mod local;
 mod memory;
 mod own_formats;
+mod queues;
 mod runs;
 mod splits;
 mod streams;

@@ -1,13 +1,10 @@
 //! Streams with the texts that they decode to, as the encodings' standards have them.
 
-use crate::lossy::LossyDecoder;
-use crate::mark::BomHandling;
-use crate::whole::Whole;
 use std::alloc::Global;
 use std::test::Fail;
-use tendril_labels::Encoding;
-use tendril_stream::TendrilSink;
-use tendril_text::ByteTendril;
+use tendril::stream::{Accumulate, Event, TendrilSink};
+use tendril::{ByteTendril, StrTendril};
+use tendril_encoding::{BomHandling, Encoding, LossyDecoder};
 
 // A stream in pieces, its text, and whether something in it is malformed.
 #[derive(Drop)]
@@ -44,12 +41,24 @@ const fn marked(
     }
 }
 
-fn holds(alloc: Global, row: &Row) -> Result<bool, Fail> {
-    let mut decoder = LossyDecoder::new_with(alloc, row.encoding, row.bom, Whole::new(alloc));
+// The joined texts that a stream decodes to, and whether something in it is malformed.
+fn decoded(alloc: Global, row: &Row) -> Result<(StrTendril, bool), Fail> {
+    let mut decoder = LossyDecoder::new_with(alloc, row.encoding, row.bom, Accumulate::new(alloc));
     for piece in row.pieces {
         decoder.process(ByteTendril::from_slice(alloc, piece)?)?;
     }
-    let (text, malformed) = decoder.finish()?;
+    let (mut text, mut malformed) = (StrTendril::new(alloc), false);
+    for event in decoder.finish()? {
+        match event {
+            Event::Text(next) => text.push_tendril(&next)?,
+            Event::Error(_) => malformed = true,
+        }
+    }
+    Ok((text, malformed))
+}
+
+fn holds(alloc: Global, row: &Row) -> Result<bool, Fail> {
+    let (text, malformed) = decoded(alloc, row)?;
     Ok(text.eq_str(row.text) && malformed == row.malformed)
 }
 

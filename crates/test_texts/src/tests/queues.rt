@@ -1,8 +1,8 @@
 //! Patterns and lines that are cut between texts, and texts that have blocks.
 
-use crate::{EatResult, TextQueue};
 use std::test::Fail;
-use tendril_text::StrTendril;
+use tendril::StrTendril;
+use tendril_queue::{EatResult, TextQueue};
 
 #[test]
 fn a_pattern_over_three_texts(rt: HostRuntime) -> Result<(), Fail> {

@@ -1,7 +1,6 @@
 //! Labels of the standard, and bytes that are none.
 
-use crate::encoding::Encoding;
-use crate::label::labels;
+use tendril_labels::{Encoding, labels};
 
 // The name of an encoding, and labels of it.
 const STANDARD: &str = "\

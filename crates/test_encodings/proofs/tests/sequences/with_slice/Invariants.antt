@@ -1,5 +1,5 @@
 use Rattle.std.proofs.Common.{◌≡◌, ◌≤◌, length, true}
-use Rattle.tendril_decode.proofs.sequences.with_slice.Given as goal
+use Rattle.test_encodings.proofs.tests.sequences.with_slice.Given as goal
 
 abbrev pub invariant-loop : goal.invariant-loop
 invariant-loop g l = record {

@@ -1,8 +1,9 @@
 #!/usr/bin/env python3
-"""Writes the sums that short streams in the encodings of several bytes are compared with: make_sums.py REFERENCE
+"""Writes the sums that short streams are compared with: make_sums.py REFERENCE
 
 REFERENCE is a file in Python whose function decode(name, bytes) returns the outputs of a stream in the encoding of that
-name: a code point for a character, "E" for a malformed sequence. Written is src/sequences/sums.rt, beside this script.
+name: a code point for a character, "E" for a malformed sequence. Written is src/tests/sequences/sums.rt, beside this
+script.
 """
 import importlib.util
 import sys
@@ -29,6 +30,11 @@ def sum_of(decode, name, streams):
             for byte in b"\xFF" if output == "E" else chr(output).encode():
                 total = (total ^ byte) * PRIME % 2**64
     return total
+
+
+def single_bytes():
+    """Each byte."""
+    return (bytes([byte]) for byte in range(0x100))
 
 
 def pairs():
@@ -85,7 +91,40 @@ JIS_WORDS = [
     b"A\x1B$", b"!\x1B(", b"F|\x1B", b"0!~", b"\\\x0E\x80", b"(B!",
 ]
 
-# The name of each sum, its encoding and its streams.
+# The variants of SingleByte, and the name of each encoding.
+SINGLE_BYTES = {
+    "Ibm866": "IBM866",
+    "Iso8859_2": "ISO-8859-2",
+    "Iso8859_3": "ISO-8859-3",
+    "Iso8859_4": "ISO-8859-4",
+    "Iso8859_5": "ISO-8859-5",
+    "Iso8859_6": "ISO-8859-6",
+    "Iso8859_7": "ISO-8859-7",
+    "Iso8859_8": "ISO-8859-8",
+    "Iso8859_8I": "ISO-8859-8-I",
+    "Iso8859_10": "ISO-8859-10",
+    "Iso8859_13": "ISO-8859-13",
+    "Iso8859_14": "ISO-8859-14",
+    "Iso8859_15": "ISO-8859-15",
+    "Iso8859_16": "ISO-8859-16",
+    "Koi8R": "KOI8-R",
+    "Koi8U": "KOI8-U",
+    "Macintosh": "macintosh",
+    "Windows874": "windows-874",
+    "Windows1250": "windows-1250",
+    "Windows1251": "windows-1251",
+    "Windows1252": "windows-1252",
+    "Windows1253": "windows-1253",
+    "Windows1254": "windows-1254",
+    "Windows1255": "windows-1255",
+    "Windows1256": "windows-1256",
+    "Windows1257": "windows-1257",
+    "Windows1258": "windows-1258",
+    "XMacCyrillic": "x-mac-cyrillic",
+    "XUserDefined": "x-user-defined",
+}
+
+# The name of each other sum, its encoding and its streams.
 SUMS = {
     "EUC_KR_PAIRS": ("EUC-KR", pairs),
     "EUC_KR_RUNS": ("EUC-KR", runs),
@@ -111,10 +150,18 @@ def main():
     lines = [
         "//! FNV-1a of what streams decode to: the UTF-8 of each character, and 0xFF for each malformed sequence.",
         "//! Written by make_sums.py.",
+        "",
+        "use tendril_decode::SingleByte;",
+        "",
+        "#[rattlefmt::skip]",
+        f"pub(crate) const SINGLE_BYTES: [(SingleByte, u64); {len(SINGLE_BYTES)}] = [",
     ]
+    for variant, name in SINGLE_BYTES.items():
+        lines.append(f"    (SingleByte::{variant}, 0x{sum_of(decode, name, single_bytes()):016X}),")
+    lines.append("];")
     for const, (name, streams) in SUMS.items():
         lines += ["", f"pub(crate) const {const}: u64 = 0x{sum_of(decode, name, streams()):016X};"]
-    (HERE / "src/sequences/sums.rt").write_text("\n".join(lines) + "\n")
+    (HERE / "src/tests/sequences/sums.rt").write_text("\n".join(lines) + "\n")
 
 
 main()

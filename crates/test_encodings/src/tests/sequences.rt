@@ -1,16 +1,9 @@
-//! Short streams in the encodings of several bytes, against sums that make_sums.py computed.
+//! Short streams, against sums that make_sums.py computed.
 ghost use Rattle.std.specs.Prelude.{◌≡◌, ◌+◌, ◌<◌, ◌≤◌, length, true};
 
 mod sums;
 
-use crate::big5::Big5;
-use crate::decode::Decode;
-use crate::euc_jp::EucJp;
-use crate::euc_kr::EucKr;
-use crate::gb18030::Gb18030;
-use crate::iso_2022_jp::Iso2022Jp;
-use crate::part::Part;
-use crate::shift_jis::ShiftJis;
+use tendril_decode::{Big5, Decode, EucJp, EucKr, Gb18030, Iso2022Jp, Part, ShiftJis};
 
 const BASIS: u64 = 0xCBF2_9CE4_8422_2325;
 
@@ -72,6 +65,17 @@ fn with_stream<D: Decode>(sum: u64, start: D, input: &[u8], cut: usize) -> u64
     for _ in 0..3 {
         let part = state.end(&mut out);
         sum = with_part(sum, &out, part);
+    }
+    sum
+}
+
+// Each byte.
+fn sum_of_bytes<D: Decode + Copy>(start: D) -> u64
+    requires { D.fits start ≡ true }
+{
+    let mut sum = BASIS;
+    for byte in 0..=0xFF {
+        sum = with_stream(sum, start, &[byte], 0);
     }
     sum
 }
@@ -218,6 +222,13 @@ const JIS_WORDS: [[u8; 3]; 14] = [
     *b"\x1B$B", *b"\x1B$@", *b"\x1B(B", *b"\x1B(J", *b"\x1B(I", *b"\x1B(X", *b"\x1B\x1B(", *b"\x1B$\x1B",
     *b"A\x1B$", *b"!\x1B(", *b"F|\x1B", *b"0!~", *b"\\\x0E\x80", *b"(B!",
 ];
+
+#[test]
+fn single_bytes(rt: HostRuntime) {
+    for (encoding, sum) in sums::SINGLE_BYTES {
+        assert_eq!(rt; sum_of_bytes(encoding), sum, "{encoding:?}");
+    }
+}
 
 #[test]
 fn pairs(rt: HostRuntime) {

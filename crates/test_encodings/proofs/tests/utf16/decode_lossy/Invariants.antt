@@ -1,5 +1,5 @@
 use Rattle.std.proofs.Common.{◌≡◌, ◌≤◌, length, true}
-use Rattle.tendril_decode.proofs.utf16.tests.decode_lossy.Given as goal
+use Rattle.test_encodings.proofs.tests.utf16.decode_lossy.Given as goal
 
 abbrev pub invariant-loop : goal.invariant-loop
 invariant-loop g l = record {

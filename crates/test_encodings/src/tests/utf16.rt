@@ -1,9 +1,9 @@
 //! UTF-16 at its borders, in both byte orders, wherever a stream is cut.
 ghost use Rattle.std.specs.Prelude.{◌≡◌, ◌≤◌, length, true};
 
-use super::*;
 use std::alloc::{AllocError, Global};
 use std::test::Fail;
+use tendril_decode::{Decode, Utf16};
 
 // Units at the borders of ASCII, of UTF-8's lengths and of the surrogates.
 const UNITS: [u16; 12] = [
