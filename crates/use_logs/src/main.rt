@@ -6,8 +6,6 @@ mod count;
 mod record;
 mod report;
 mod tally;
-#[cfg(test)]
-mod tests;
 mod traffic;
 
 use count::count_log;
