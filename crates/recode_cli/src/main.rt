@@ -8,8 +8,6 @@ mod program;
 mod recode;
 mod request;
 mod strict;
-#[cfg(test)]
-mod tests;
 
 use program::program_with_arguments;
 use std::process::ExitCode;

@@ -2,8 +2,6 @@
 #![tactic(auto)]
 
 mod program;
-#[cfg(test)]
-mod tests;
 
 use program::program_with_arguments;
 use std::process::ExitCode;

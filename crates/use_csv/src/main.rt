@@ -6,8 +6,6 @@ mod print;
 mod read;
 mod reader;
 mod record;
-#[cfg(test)]
-mod tests;
 
 use anyhow::Context;
 use print::print_records;

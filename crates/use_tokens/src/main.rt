@@ -5,8 +5,6 @@ mod joined;
 mod markup;
 mod print;
 mod state;
-#[cfg(test)]
-mod tests;
 mod token;
 mod tokenize;
 mod tokenizer;

@@ -1,7 +1,6 @@
 //! Header fields, one `Name: value` per line: texts used as `str`s.
 ghost use Rattle.std.specs.Prelude.{◌≡◌, ◌++◌, codes, IfOk, IfSome};
 
-use std::alloc::AllocError;
 use tendril::block::Refusal;
 use tendril::{ByteSet, Members, StrTendril};
 
@@ -54,11 +53,6 @@ pub fn print_fields(rt: &HostRuntime) -> anyhow::Result<()> {
     Ok(())
 }
 
-/// Returns two clones of the lines, whose texts share their blocks.
-pub fn twice(lines: &Vec<Line>) -> Result<(Vec<Line>, Vec<Line>), AllocError> {
-    Ok((lines.clone()?, lines.clone()?))
-}
-
 /// Reads a line.
 pub fn read_line(line: StrTendril) -> Result<Line, Refusal> {
     if is_blank(&line) {
@@ -86,21 +80,6 @@ pub fn split_field(line: StrTendril) -> Result<Option<Field>, Refusal>
         Ok(Some(Field { name, value }))
     } else {
         Ok(None)
-    }
-}
-
-/// Returns the byte index of the first colon of a line. It fits in `u32`, by the contract of `as_str`.
-pub fn colon(line: &StrTendril) -> Option<u32> {
-    let place = line.as_str().find(':')?;
-    Some(place as u32)
-}
-
-/// Returns what follows the first seven bytes, or the empty string if no character begins there.
-pub fn after_seven(text: &StrTendril) -> &str {
-    if text.is_char_boundary(7) {
-        &text[7..]
-    } else {
-        ""
     }
 }
 

@@ -4,8 +4,6 @@
 mod fields;
 mod parts;
 mod sink;
-#[cfg(test)]
-mod tests;
 
 use fields::print_fields;
 use parts::print_parts;
