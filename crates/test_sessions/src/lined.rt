@@ -3,7 +3,7 @@
 use crate::class::Counting;
 use std::alloc::{AllocError, Global};
 use tendril_block::Refusal;
-use tendril_run::{CommandTable, run_commands};
+use tendril_run::CommandTable;
 
 /// A kind of table that sessions are played on.
 pub trait Lined: CommandTable {
@@ -45,11 +45,6 @@ impl<T: Lined> Player<T> {
     pub fn step(&mut self, command: &T::Command) -> Result<T::Reply, Refusal> {
         self.table.reserve(1)?;
         Ok(self.table.step(command, &self.class))
-    }
-
-    /// Carries out all commands in one call.
-    pub fn run(&mut self, commands: &[T::Command]) -> Result<Vec<T::Reply>, Refusal> {
-        run_commands(&mut self.table, commands, &self.class)
     }
 
     /// Reserves capacity for these many commands. After that none but `text` may allocate.

@@ -1,6 +1,6 @@
 //! Plays sessions: files of rows `LINE => REPLY`. It prints each row whose reply differs, and how much was played.
 //!
-//! - `play FILE..` plays each file in every way in which its lines can be carried out.
+//! - `play FILE..` plays each file over two kinds of block.
 //! - `refuse FILE N` allocates N times, so that the allocation that fails can be chosen by its number, then plays the
 //!   file row by row. It prints how many rows got no memory.
 //! - `worker FILE` plays the file's only session in a worker, and prints how the job ended.
@@ -11,7 +11,6 @@ mod class;
 mod kinds;
 mod lined;
 mod notes;
-mod once;
 mod own;
 mod place;
 mod rope_lines;
@@ -20,12 +19,10 @@ mod slots;
 mod stream;
 mod words;
 mod worker;
-mod workers;
 
-use lined::Lined;
-use once::play_at_once;
+use place::Counts;
 use rope::RopeTable;
-use rows::play_twice;
+use rows::{play_rows, play_twice};
 use std::alloc::{AllocError, Global};
 use std::fs::Files;
 use std::process::ExitCode;
@@ -33,11 +30,10 @@ use std::rt::Env;
 use std::thread::Threads;
 use std::{env, fs, io};
 use stream::play_streams;
-use tendril_block::{AtomicUpTo, Atomicity};
+use tendril_block::AtomicUpTo;
 use tendril_run::Table;
 use tendril_text::{Atomic, NonAtomic};
 use worker::play_in_worker;
-use workers::play_in_threads;
 
 /// What a file is played on, by its first line.
 #[derive(Clone, Copy)]
@@ -123,70 +119,38 @@ fn usage(rt: &impl Eprint) -> u8 {
     2
 }
 
-// Plays a file in all ways. Returns whether each reply was the expected one.
-fn play(rt: &(impl Files + Print + AllocGlobal + Threads), file: &str) -> io::Result<bool> {
+// Plays a file, and prints how much was played. Returns whether each reply was the expected one.
+fn play(rt: &(impl Files + Print + AllocGlobal), file: &str) -> io::Result<bool> {
     let text = fs::read_to_string(rt, file)?;
-    let text = text.as_str();
-    match Kind::of_file(text) {
-        Kind::Texts => {
-            Ok(
-                play_all::<Table<NonAtomic>, Table<Atomic>>(rt, file, text)?
-                    && play_in_threads::<Table<Atomic>>(rt, file, text)?,
-            )
-        }
-        Kind::TextsOverThree => play_all::<Table<Three>, Table<Three>>(rt, file, text),
-        Kind::Ropes => {
-            Ok(
-                play_all::<RopeTable<NonAtomic>, RopeTable<Atomic>>(rt, file, text)?
-                    && play_in_threads::<RopeTable<Atomic>>(rt, file, text)?,
-            )
-        }
-        Kind::RopesOverThree => play_all::<RopeTable<Three>, RopeTable<Three>>(rt, file, text),
-        Kind::Streams => play_decoding::<NonAtomic, Atomic>(rt, file, text),
-        Kind::StreamsOverThree => play_decoding::<Three, Three>(rt, file, text),
-    }
-}
-
-// Plays a file over two kinds of block, row by row and in one call, and prints how much was played.
-fn play_all<T: Lined, U: Lined>(
-    rt: &(impl Print + AllocGlobal),
-    file: &str,
-    text: &str,
-) -> io::Result<bool> {
-    let counts = play_twice::<T, U>(rt, file, text)?;
+    let counts = play_text(rt, file, text.as_str())?;
     counts.print_played(rt, file)?;
-    Ok(
-        counts.all_right()
-            && play_twice::<U, T>(rt, file, text)?.all_right()
-            && play_at_once::<T>(rt, file, text)?
-            && play_at_once::<U>(rt, file, text)?,
-    )
+    Ok(counts.all_right())
 }
 
-// Plays a file of streams over two kinds of block, and prints how much was played.
-fn play_decoding<A: Atomicity, B: Atomicity>(
+fn play_text(
     rt: &(impl Files + Print + AllocGlobal),
     file: &str,
     text: &str,
-) -> io::Result<bool> {
-    let counts = play_streams::<A>(rt, file, text)?;
-    counts.print_played(rt, file)?;
-    Ok(counts.all_right() && play_streams::<B>(rt, file, text)?.all_right())
+) -> io::Result<Counts> {
+    match Kind::of_file(text) {
+        Kind::Texts => play_twice::<Table<NonAtomic>, Table<Atomic>>(rt, file, text),
+        Kind::TextsOverThree => play_rows::<Table<Three>>(rt, file, text),
+        Kind::Ropes => play_twice::<RopeTable<NonAtomic>, RopeTable<Atomic>>(rt, file, text),
+        Kind::RopesOverThree => play_rows::<RopeTable<Three>>(rt, file, text),
+        Kind::Streams => {
+            let mut counts = play_streams::<NonAtomic>(rt, file, text)?;
+            counts.add_again(play_streams::<Atomic>(rt, file, text)?);
+            Ok(counts)
+        }
+        Kind::StreamsOverThree => play_streams::<Three>(rt, file, text),
+    }
 }
 
-// Plays a file row by row after `count` allocations, and prints how many rows got no memory.
+// Plays a file after `count` allocations, and prints how many rows got no memory.
 fn refuse(rt: &(impl Files + Print + AllocGlobal), file: &str, count: u32) -> io::Result<bool> {
     let text = fs::read_to_string(rt, file)?;
-    let text = text.as_str();
     make_requests(rt.alloc(), count)?;
-    let counts = match Kind::of_file(text) {
-        Kind::Texts => play_twice::<Table<NonAtomic>, Table<Atomic>>(rt, file, text)?,
-        Kind::TextsOverThree => play_twice::<Table<Three>, Table<Three>>(rt, file, text)?,
-        Kind::Ropes => play_twice::<RopeTable<NonAtomic>, RopeTable<Atomic>>(rt, file, text)?,
-        Kind::RopesOverThree => play_twice::<RopeTable<Three>, RopeTable<Three>>(rt, file, text)?,
-        Kind::Streams => play_streams::<NonAtomic>(rt, file, text)?,
-        Kind::StreamsOverThree => play_streams::<Three>(rt, file, text)?,
-    };
+    let counts = play_text(rt, file, text.as_str())?;
     counts.print_refused(rt, file)?;
     Ok(counts.all_right())
 }

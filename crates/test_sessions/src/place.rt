@@ -3,18 +3,17 @@
 use std::fmt::Display;
 use std::io;
 
-/// A row of a file, and the way in which it is played.
+/// A row of a file.
 #[derive(Clone, Copy)]
 pub struct Place<'a> {
     pub file: &'a str,
     pub line: usize,
-    pub way: &'static str,
 }
 
 impl<'a> Place<'a> {
     /// The first row of a file.
-    pub fn first(file: &'a str, way: &'static str) -> Self {
-        Place { file, line: 1, way }
+    pub fn first(file: &'a str) -> Self {
+        Place { file, line: 1 }
     }
 
     /// The place that is `lines` further down.
@@ -139,5 +138,5 @@ pub fn wrong<D: Display + Drop>(
 }
 
 fn print_place(rt: &impl Print, place: Place) -> io::Result<()> {
-    println!(rt; "{}:{} ({})", place.file, place.line, place.way)
+    println!(rt; "{}:{}", place.file, place.line)
 }

@@ -4,39 +4,23 @@ use crate::lined::{Lined, Player};
 use crate::notes::Notes;
 use crate::own::own_reply;
 use crate::place::{Counts, Place, Row, compare, wrong};
-use std::alloc::Global;
+use std::alloc::{AllocError, Global};
 use std::fmt::{self, Display, Formatter};
 use std::io;
 use tendril_block::Refusal;
 use tendril_lines::parse;
 
-const WAY: &str = "row by row";
-
-/// How a command is carried out.
-#[derive(Clone, Copy)]
-enum Call {
-    /// A step of the table.
-    Step,
-    /// A run of one command. It allocates its replies, so on a silent table a step is made instead.
-    Run,
-}
-
-/// Plays all sessions of a file by steps on tables of one kind, and again by runs on tables of another kind. The tables
-/// must hold the same after each row.
+/// Plays all sessions of a file on tables of one kind, and again on tables of another kind. The tables must hold the
+/// same after each row.
 pub fn play_twice<T: Lined, U: Lined>(
     rt: &(impl Print + AllocGlobal),
     file: &str,
     text: &str,
 ) -> io::Result<Counts> {
-    let mut play = Play {
-        call: Call::Step,
-        notes: Notes::new(rt.alloc())?,
-        counts: Counts::none(),
-    };
+    let mut play = Play::new(rt.alloc())?;
     play.file::<T>(rt, file, text)?;
     let mut counts = play.counts;
     if counts.all_right() {
-        play.call = Call::Run;
         play.notes.play_again();
         play.counts = Counts::none();
         play.file::<U>(rt, file, text)?;
@@ -45,15 +29,32 @@ pub fn play_twice<T: Lined, U: Lined>(
     Ok(counts)
 }
 
+/// Plays all sessions of a file.
+pub fn play_rows<T: Lined>(
+    rt: &(impl Print + AllocGlobal),
+    file: &str,
+    text: &str,
+) -> io::Result<Counts> {
+    let mut play = Play::new(rt.alloc())?;
+    play.file::<T>(rt, file, text)?;
+    Ok(play.counts)
+}
+
 /// A file that is played row by row.
 #[derive(Drop)]
 struct Play {
-    call: Call,
     notes: Notes,
     counts: Counts,
 }
 
 impl Play {
+    fn new(alloc: Global) -> Result<Self, AllocError> {
+        Ok(Play {
+            notes: Notes::new(alloc)?,
+            counts: Counts::none(),
+        })
+    }
+
     // Plays each session of a file on a table of its own.
     fn file<T: Lined>(
         &mut self,
@@ -61,7 +62,7 @@ impl Play {
         file: &str,
         text: &str,
     ) -> io::Result<()> {
-        let mut place = Place::first(file, WAY);
+        let mut place = Place::first(file);
         for session in text.split("\n\n") {
             self.session::<T>(rt, place, session)?;
             place = place.after(session);
@@ -153,9 +154,7 @@ impl Play {
         else {
             return reply_to_other(alloc, player, line).map_err(why_unplayed);
         };
-        let mut commands = Vec::new(alloc);
-        commands.push(command).map_err(|_| Unplayed::NoMemory)?;
-        let reply = match carry_out(player, commands.as_slice(), self.call) {
+        let reply = match carry_out(player, &command) {
             Ok(reply) => reply,
             Err(_) if player.is_silent() && !line.starts_with("text ") => {
                 return Err(Unplayed::Allocated);
@@ -170,6 +169,11 @@ impl Play {
             }
         }
     }
+}
+
+/// The error of the player itself, for a call that it needs. Such a call fails only without memory.
+pub fn out_of_memory(_refusal: Refusal) -> io::Error {
+    io::Error::from(io::ErrorKind::OutOfMemory)
 }
 
 /// Why a line has no reply.
@@ -199,17 +203,9 @@ fn why_unplayed(refusal: Refusal) -> Unplayed {
     }
 }
 
-// The reply to one command. A reply that it got no memory is returned as the error Memory.
-fn carry_out<T: Lined>(
-    player: &mut Player<T>,
-    commands: &[T::Command],
-    call: Call,
-) -> Result<T::Reply, Refusal> {
-    let reply = match (call, commands) {
-        (Call::Step, [command]) => player.step(command)?,
-        (Call::Run, [command]) if player.is_silent() => player.step(command)?,
-        _ => player.run(commands)?.pop().ok_or(Refusal::Invalid)?,
-    };
+// The reply to a command. A reply that it got no memory is returned as the error Memory.
+fn carry_out<T: Lined>(player: &mut Player<T>, command: &T::Command) -> Result<T::Reply, Refusal> {
+    let reply = player.step(command)?;
     if T::got_no_memory(&reply) {
         return Err(Refusal::Memory);
     }

@@ -2,8 +2,8 @@
 
 use crate::class::Counting;
 use crate::lined::Lined;
-use crate::once::{Rows, add, compare_all, out_of_memory};
-use crate::place::{Place, Row, wrong};
+use crate::place::{Place, Row, compare, wrong};
+use crate::rows::out_of_memory;
 use crate::slots::write_slots;
 use std::alloc::Global;
 use std::fs::Files;
@@ -12,10 +12,9 @@ use std::sync::atomic::{AtomicBool, Ordering};
 use std::thread::Threads;
 use std::{fs, io};
 use tendril_block::Refusal;
-use tendril_run::{Gate, Job, Outcome, Reply, Table, run, run_tables};
+use tendril_lines::{Command, parse};
+use tendril_run::{CommandTable, Gate, Job, Outcome, Reply, Table, run, run_tables};
 use tendril_text::Atomic;
-
-const WAY: &str = "in a worker";
 
 /// Notes that the worker began a command.
 #[derive(Drop)]
@@ -28,6 +27,9 @@ impl Gate for Begun {
 }
 
 type Work = Job<Counting, Begun>;
+
+/// Rows with their index in the file.
+type Rows<'a> = Vec<(usize, Row<'a>)>;
 
 /// The state before the worker was started.
 #[derive(Drop)]
@@ -56,7 +58,7 @@ pub fn play_in_worker(
     file: &str,
 ) -> io::Result<bool> {
     let text = fs::read_to_string(rt, file)?;
-    let place = Place::first(file, WAY);
+    let place = Place::first(file);
     let begun = Arc::new(rt.alloc(), AtomicBool::new(false))?;
     let mut before = Before {
         table: Vec::new(rt.alloc()),
@@ -93,16 +95,32 @@ fn add_row<'a>(
     rows: &mut Rows<'a>,
 ) -> io::Result<()> {
     if job.table.len() > 0 {
-        add::<Table<Atomic>>(alloc, index, row, rows, &mut job.commands)?;
+        add(alloc, index, row, rows, &mut job.commands)?;
         return Ok(());
     }
     let mut commands = Vec::new(alloc);
-    add::<Table<Atomic>>(alloc, index, row, rows, &mut commands)?;
+    add(alloc, index, row, rows, &mut commands)?;
     rows.clear();
     match run(&mut job.table, commands.as_slice(), &job.class) {
         Ok(_) if job.table.len() == 1 => Ok(()),
         _ => Err(out_of_memory(Refusal::Memory)),
     }
+}
+
+// Adds a row and its command.
+fn add<'a>(
+    alloc: Global,
+    index: usize,
+    row: Row<'a>,
+    rows: &mut Rows<'a>,
+    commands: &mut Vec<Command>,
+) -> io::Result<()> {
+    match parse::<Command>(alloc, row.line.as_bytes()).map_err(out_of_memory)? {
+        Some(command) => commands.push(command)?,
+        None => return Err(io::Error::from(io::ErrorKind::InvalidData)),
+    }
+    rows.push((index, row))?;
+    Ok(())
 }
 
 // How a job ended, None if that isn't permitted.
@@ -179,13 +197,11 @@ fn done(
 ) -> io::Result<Option<&'static str>> {
     let refused = replies.iter().position(got_no_memory);
     let count = refused.unwrap_or(replies.len());
-    let right = replies.len() == rows.len()
-        && compare_all::<Table<Atomic>>(
-            rt,
-            place,
-            rows.get(..count).unwrap_or(&[]),
-            replies.get(..count).unwrap_or(&[]),
-        )?;
+    let mut right = replies.len() == rows.len();
+    for ((index, row), reply) in rows.iter().zip(replies).take(count) {
+        let reply = Table::<Atomic>::print(rt.alloc(), reply).map_err(out_of_memory)?;
+        right = compare(rt, place.down(*index), *row, reply.as_str())? && right;
+    }
     let ending = match refused {
         Some(_) => "no memory for a command",
         None => "done",

@@ -1,9 +1,10 @@
-//! Tests of formats, texts, blocks and streams that no line of a session can express; and `Notes`, in which a test
-//! notes the first difference from the expected, to fail with it at its end.
+//! Tests of texts and streams that run for long, or whose memory is watched; and what these share with the tests that
+//! aren't proved.
 #![tactic(auto)]
 
-mod notes;
+pub mod characters;
+pub mod line;
+pub mod made;
+pub mod notes;
 #[cfg(test)]
 mod tests;
-
-pub use notes::Notes;

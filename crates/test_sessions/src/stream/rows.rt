@@ -1,15 +1,13 @@
 //! Sessions of streams, row by row. A row that gets no memory is played again; if the decoder's sink got none, so is
 //! the session.
 
-use crate::once::out_of_memory;
 use crate::place::{Counts, Place, Row, compare, wrong};
+use crate::rows::out_of_memory;
 use crate::stream::Stream;
 use crate::stream::reply::Reply;
 use std::fs::Files;
 use std::io;
 use tendril_block::{Atomicity, Refusal};
-
-const WAY: &str = "row by row";
 
 /// Plays all sessions of a file, each on a stream of its own.
 pub fn play_streams<A: Atomicity>(
@@ -21,7 +19,7 @@ pub fn play_streams<A: Atomicity>(
         reply: Reply::new(rt.alloc())?,
         counts: Counts::none(),
     };
-    let mut place = Place::first(file, WAY);
+    let mut place = Place::first(file);
     for session in text.split("\n\n") {
         play.session::<A>(rt, place, session)?;
         place = place.after(session);

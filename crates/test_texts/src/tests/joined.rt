@@ -1,50 +1,16 @@
-//! What a join changes at its seam.
+//! What the join of each pair of surrogates changes.
 
 use crate::notes::Notes;
 use std::test::Fail;
-use tendril::fmt::{ASCII, Bytes, Fixup, Format, Latin1, UTF8, WTF8, laws};
+use tendril::fmt::{Fixup, Format, WTF8};
 
 // The fixup of two texts, if they are valid.
-fn fixup_of<F: Format>(left: &[u8], right: &[u8]) -> Option<Fixup> {
-    if F::validate(left) && F::validate(right) {
-        Some(F::fixup(left, right))
+fn fixup_of(left: &[u8], right: &[u8]) -> Option<Fixup> {
+    if WTF8::validate(left) && WTF8::validate(right) {
+        Some(WTF8::fixup(left, right))
     } else {
         None
     }
-}
-
-// Whether the join changes nothing.
-fn is_plain<F: Format>(left: &[u8], right: &[u8]) -> bool {
-    fixup_of::<F>(left, right) == Some(Fixup::default())
-}
-
-const LEAD: &[u8] = b"a\xED\xA0\xBD";
-
-const TRAIL: &[u8] = b"\xED\xB2\xA9z";
-
-#[test]
-fn surrogates_that_meet(_rt: HostRuntime) -> Result<(), Fail> {
-    let mut notes = Notes::new();
-    let pair = Some(Fixup {
-        drop_left: 3,
-        drop_right: 3,
-        insert_len: 4,
-        insert_bytes: [0xF0, 0x9F, 0x92, 0xA9],
-    });
-    notes.same(0, fixup_of::<WTF8>(&LEAD[1..], &TRAIL[..3]), pair);
-    notes.same(1, fixup_of::<WTF8>(LEAD, TRAIL), pair);
-    // A trail before a lead, a lead before a lead, one side without a surrogate, empty sides.
-    notes.holds(
-        2,
-        is_plain::<WTF8>(&TRAIL[..3], &LEAD[1..]),
-        "no byte changes",
-    );
-    notes.holds(3, is_plain::<WTF8>(LEAD, &LEAD[1..]), "no byte changes");
-    notes.holds(4, is_plain::<WTF8>(LEAD, &TRAIL[3..]), "no byte changes");
-    notes.holds(5, is_plain::<WTF8>(&LEAD[..1], TRAIL), "no byte changes");
-    notes.holds(6, is_plain::<WTF8>(&[], TRAIL), "no byte changes");
-    notes.holds(7, is_plain::<WTF8>(LEAD, &[]), "no byte changes");
-    notes.end()
 }
 
 // Whether the surrogates of a character past FFFF, joined, are its encoding.
@@ -64,7 +30,7 @@ fn is_met(code: u32, character: char) -> bool {
         insert_len: 4,
         insert_bytes,
     };
-    fixup_of::<WTF8>(&left, &right) == Some(expected)
+    fixup_of(&left, &right) == Some(expected)
 }
 
 #[test]
@@ -79,16 +45,5 @@ fn every_pair_is_joined_to_its_character(_rt: HostRuntime) -> Result<(), Fail> {
             );
         }
     }
-    notes.end()
-}
-
-#[test]
-fn the_other_formats_keep_their_bytes(_rt: HostRuntime) -> Result<(), Fail> {
-    laws();
-    let mut notes = Notes::new();
-    notes.holds(0, is_plain::<Bytes>(LEAD, TRAIL), "no byte changes");
-    notes.holds(1, is_plain::<Latin1>(LEAD, TRAIL), "no byte changes");
-    notes.holds(2, is_plain::<ASCII>(b"ab", b"c"), "no byte changes");
-    notes.holds(3, is_plain::<UTF8>(b"ab", b"c"), "no byte changes");
     notes.end()
 }

@@ -1,40 +1,9 @@
-//! The size of a text, whether it shares memory, and the memory of the process.
+//! The memory of the process.
 
 use crate::notes::Notes;
-use std::alloc::Global;
 use std::fs::{self, Files};
 use std::test::Fail;
-use tendril::block::Refusal;
-use tendril::fmt::{Bytes, UTF8};
-use tendril::{Atomic, Atomicity, ByteTendril, NonAtomic, Tendril, slice_to_tendril};
-
-#[test]
-fn a_text_is_three_words(_rt: HostRuntime) -> Result<(), Fail> {
-    let mut notes = Notes::new();
-    notes.same(0, size_of::<Tendril<Bytes, NonAtomic>>(), 24);
-    notes.same(1, size_of::<Tendril<Bytes, Atomic>>(), 24);
-    notes.same(2, align_of::<ByteTendril>(), 8);
-    notes.end()
-}
-
-// Whether a text may share its block, before and after it is made compact. Its clone was dropped.
-fn compact_marks<A: Atomicity>(alloc: Global) -> Result<(bool, bool), Refusal> {
-    let mut text = Tendril::<UTF8, A>::from_slice(alloc, "another rather long string")?;
-    drop(text.clone()?);
-    let before = text.is_shared();
-    text.compact()?;
-    Ok((before, text.is_shared()))
-}
-
-#[test]
-fn a_compact_text_is_not_shared(rt: HostRuntime) -> Result<(), Fail> {
-    let mut notes = Notes::new();
-    let local = notes.or(0, compact_marks::<NonAtomic>(rt.alloc()), (false, true));
-    notes.same(1, local, (true, false));
-    let counted = notes.or(2, compact_marks::<Atomic>(rt.alloc()), (false, true));
-    notes.same(3, counted, (true, false));
-    notes.end()
-}
+use tendril::{ByteTendril, Tendril, slice_to_tendril};
 
 // The resident memory of the process in pages, as Linux reports it, else 0.
 fn resident_pages(rt: &(impl Files + AllocGlobal)) -> u64 {

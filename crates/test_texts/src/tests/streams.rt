@@ -1,11 +1,5 @@
-//! Sinks, decoders, reads, and streams in pieces.
+//! Streams in pieces.
 
 mod broken;
 mod cuttings;
-mod files;
-mod line;
-mod once;
-mod readers;
-mod sinks;
 mod slow;
-mod whole_lines;

@@ -1,9 +1,9 @@
-//! Which bytes are valid in which format.
+//! Which bytes are valid in UTF-8 and WTF-8.
 
 use crate::notes::Notes;
 use crate::tests::table::{is_utf8, is_wtf8};
 use std::test::Fail;
-use tendril::fmt::{ASCII, Bytes, Format, Latin1, SubsetOf, UTF8, WTF8};
+use tendril::fmt::{Format, UTF8, WTF8};
 
 /// The bytes next to the bounds in the table's rows.
 const BORDERS: [u8; 20] = [
@@ -44,46 +44,5 @@ fn what_the_table_accepts(_rt: HostRuntime) -> Result<(), Fail> {
             );
         }
     }
-    notes.end()
-}
-
-#[test]
-fn pairs_and_small_formats(_rt: HostRuntime) -> Result<(), Fail> {
-    let mut notes = Notes::new();
-    notes.same(0, WTF8::validate(b"\xED\xA0\xBD\xED\xB2\xA9"), false);
-    notes.same(1, WTF8::validate(b"\xC5\x91\x91"), false);
-    notes.same(2, WTF8::validate(b"\xED\xB2\xA9\xED\xA0\xBD"), true);
-    notes.same(3, UTF8::validate(b"\xED\xA0\xBD"), false);
-    notes.same(4, Bytes::validate(b"\x00\x7F\x80\xFF"), true);
-    notes.same(5, Latin1::validate(b"\x00\x7F\x80\xFF"), true);
-    notes.same(6, ASCII::validate(b"\x00\x7F"), true);
-    notes.end()
-}
-
-#[test]
-fn a_byte_past_ascii_is_found_anywhere(_rt: HostRuntime) -> Result<(), Fail> {
-    let mut notes = Notes::new();
-    let mut bytes = [0x61; 40];
-    notes.same(40, ASCII::validate(&bytes), true);
-    for index in 0..bytes.len() {
-        bytes[index] = 0x80;
-        notes.same(index, ASCII::validate(&bytes), false);
-        bytes[index] = 0x61;
-    }
-    notes.end()
-}
-
-fn is_in_subset<S: SubsetOf<T>, T: Format>(bytes: &[u8]) -> bool {
-    S::revalidate_subset(bytes)
-}
-
-#[test]
-fn texts_of_a_superset(_rt: HostRuntime) -> Result<(), Fail> {
-    let mut notes = Notes::new();
-    notes.same(0, is_in_subset::<ASCII, UTF8>(b"x"), true);
-    notes.same(1, is_in_subset::<ASCII, UTF8>(b"x\xC5\x91"), false);
-    notes.same(2, is_in_subset::<ASCII, Latin1>(b"x\xA0"), false);
-    notes.same(3, is_in_subset::<UTF8, WTF8>(b"x\xC5\x91"), true);
-    notes.same(4, is_in_subset::<UTF8, WTF8>(b"\xED\xA0\xBD"), false);
     notes.end()
 }

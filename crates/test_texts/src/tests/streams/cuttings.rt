@@ -1,7 +1,7 @@
 //! All streams of at most four bytes out of a set of ten, cut into pieces in every way.
 
+use crate::line::Line;
 use crate::notes::Notes;
-use crate::tests::streams::line::Line;
 use crate::tests::streams::slow::{slow_decode, write_stream};
 use std::alloc::Global;
 use std::test::Fail;

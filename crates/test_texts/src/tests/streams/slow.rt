@@ -1,6 +1,6 @@
 //! A slow decoder that reads Unicode's table.
 
-use crate::tests::streams::line::Line;
+use crate::line::Line;
 use crate::tests::utf8_table::{Front, front_of};
 
 /// The ten bytes of short streams: each begins or continues some row of the table.

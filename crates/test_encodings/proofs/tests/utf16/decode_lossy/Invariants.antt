@@ -1,8 +1,0 @@
-use Rattle.std.proofs.Common.{◌≡◌, ◌≤◌, length, true}
-use Rattle.test_encodings.proofs.tests.utf16.decode_lossy.Given as goal
-
-abbrev pub invariant-loop : goal.invariant-loop
-invariant-loop g l = record {
-  fits : g.D.Decode.fits l.state ≡ true;
-  short : length l.rest ≤ 200;
-}

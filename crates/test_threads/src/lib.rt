@@ -1,0 +1,5 @@
+//! Tests of texts and blocks in several threads.
+#![tactic(auto)]
+
+#[cfg(test)]
+mod tests;
