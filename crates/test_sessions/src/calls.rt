@@ -33,13 +33,14 @@ mod making;
 mod parts;
 mod reading;
 
-use crate::own::{add, number};
+use crate::own::add;
 use std::alloc::Global;
 use std::fmt::Display;
 use tendril_block::{Atomicity, Refusal};
 use tendril_run::{Slot, Table};
 use tendril_text::fmt::{Bytes, UTF8};
 use tendril_text::{ByteSet, Tendril};
+use test_rows::words::number;
 
 /// Returns the reply to a line for a call, or None for another line. An error other than Memory is a reply.
 pub fn reply<A: Atomicity>(

@@ -14,13 +14,13 @@
 use crate::calls;
 use crate::lined::{Lined, Player};
 use crate::slots::{equal_clones, filled, is_shared, text_of};
-use crate::words::Runs;
 use std::alloc::Global;
 use std::fmt::Write;
 use tendril_block::{Atomicity, Refusal};
 use tendril_lines::{bytes, parse};
 use tendril_run::{Slot, Table};
 use tendril_text::Tendril;
+use test_rows::words::{Runs, number};
 
 /// The reply to a line of the player's own, None for another line.
 pub fn own_reply<T: Lined>(
@@ -54,11 +54,6 @@ pub fn reply_by_texts<A: Atomicity>(
         _ => return calls::reply(alloc, table, verb, words),
     };
     Ok(Some(reply))
-}
-
-/// The number that a word spells.
-pub fn number(word: &str) -> Result<u32, Refusal> {
-    word.parse::<u32>().map_err(|_| Refusal::Invalid)
 }
 
 /// The slot whose number a word spells.

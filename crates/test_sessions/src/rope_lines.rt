@@ -8,13 +8,13 @@
 //! | `split R N` | splits N bytes off a clone of the rope | the pieces of both, as `ab\|c and d` |
 //! | `decode H H ..` | decodes these bytes, piece by piece, to a rope | its pieces |
 
-use crate::own::number;
 use rope::{Rope, RopeTable, decode_rope};
 use std::alloc::Global;
 use tendril_block::{Atomicity, Refusal};
 use tendril_lines::{Reply, bytes, print_reply};
 use tendril_text::Tendril;
 use tendril_text::fmt::Bytes;
+use test_rows::words::number;
 
 /// The reply to such a line, None for another line.
 pub fn reply_by_ropes<A: Atomicity>(

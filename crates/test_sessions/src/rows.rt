@@ -3,12 +3,12 @@
 use crate::lined::{Lined, Player};
 use crate::notes::Notes;
 use crate::own::own_reply;
-use crate::place::{Counts, Place, Row, compare, wrong};
 use std::alloc::{AllocError, Global};
 use std::fmt::{self, Display, Formatter};
 use std::io;
 use tendril_block::Refusal;
 use tendril_lines::parse;
+use test_rows::place::{Counts, Place, Row, compare, wrong};
 
 /// Plays all sessions of a file on tables of one kind, and again on tables of another kind. The tables must hold the
 /// same after each row.
@@ -17,8 +17,7 @@ pub fn play_twice<T: Lined, U: Lined>(
     file: &str,
     text: &str,
 ) -> io::Result<Counts> {
-    let mut play = Play::new(rt.alloc())?;
-    play.file::<T>(rt, file, text)?;
+    let mut play = played::<T>(rt, file, text)?;
     let mut counts = play.counts;
     if counts.all_right() {
         play.notes.play_again();
@@ -35,9 +34,14 @@ pub fn play_rows<T: Lined>(
     file: &str,
     text: &str,
 ) -> io::Result<Counts> {
+    Ok(played::<T>(rt, file, text)?.counts)
+}
+
+// Plays all sessions of a file for the first time.
+fn played<T: Lined>(rt: &(impl Print + AllocGlobal), file: &str, text: &str) -> io::Result<Play> {
     let mut play = Play::new(rt.alloc())?;
     play.file::<T>(rt, file, text)?;
-    Ok(play.counts)
+    Ok(play)
 }
 
 /// A file that is played row by row.
@@ -169,11 +173,6 @@ impl Play {
             }
         }
     }
-}
-
-/// The error of the player itself, for a call that it needs. Such a call fails only without memory.
-pub fn out_of_memory(_refusal: Refusal) -> io::Error {
-    io::Error::from(io::ErrorKind::OutOfMemory)
 }
 
 /// Why a line has no reply.

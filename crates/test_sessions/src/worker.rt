@@ -2,8 +2,6 @@
 
 use crate::class::Counting;
 use crate::lined::Lined;
-use crate::place::{Place, Row, compare, wrong};
-use crate::rows::out_of_memory;
 use crate::slots::write_slots;
 use std::alloc::Global;
 use std::fs::Files;
@@ -15,6 +13,8 @@ use tendril_block::Refusal;
 use tendril_lines::{Command, parse};
 use tendril_run::{CommandTable, Gate, Job, Outcome, Reply, Table, run, run_tables};
 use tendril_text::Atomic;
+use test_rows::place::{Place, Row, compare, wrong};
+use test_rows::player::out_of_memory;
 
 /// Notes that the worker began a command.
 #[derive(Drop)]

@@ -1,5 +1,5 @@
-//! Tests of texts and streams that run for long, or whose memory is watched; and what these share with the tests that
-//! aren't proved.
+//! Tests of texts and streams that run for long, whose memory is watched, or that use threads; and what these share
+//! with the tests that aren't proved.
 #![tactic(auto)]
 
 pub mod characters;

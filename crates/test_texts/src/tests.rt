@@ -4,10 +4,12 @@
 //! A test notes its first failure, continues, and reports it at its end: each early return would be one more path to
 //! prove.
 
+mod blocks;
 mod characters;
 mod joined;
 mod memory;
 mod queues;
+mod sent;
 mod streams;
 mod table;
 mod utf8_table;

@@ -1,13 +1,13 @@
 //! Calls that extend a text by items, or create it from texts.
 
 use crate::calls::{byte_text, slot_and_words, str_text, strings_of};
-use crate::own::number as number_of;
 use std::alloc::Global;
 use std::cell::Cell;
 use tendril_block::{Atomicity, Refusal};
 use tendril_fmt::fmt::{Bytes, Format, UTF8};
 use tendril_run::{Slot, Table};
 use tendril_text::Tendril;
+use test_rows::words::number as number_of;
 
 /// A clone of a text that is extended by the call of this name.
 pub fn extend<A: Atomicity>(

@@ -1,13 +1,13 @@
 //! Calls that split a text, send it, view it or change it.
 
 use crate::calls::{byte_text, set_of, slot_and_words, str_text, string_of};
-use crate::own::number as number_of;
 use std::fmt::{self, Write};
 use std::io;
 use tendril_block::{Atomicity, Refusal};
 use tendril_fmt::fmt::{ASCII, Bytes, UTF8};
 use tendril_run::{Slot, Table};
 use tendril_text::{SendTendril, Tendril};
+use test_rows::words::number as number_of;
 
 /// Returns what the call of this name makes of a clone of a text, `Slot::Gone` for nothing.
 pub fn part<A: Atomicity>(
