@@ -55,9 +55,8 @@ fn play_all(
 fn refuse_first(
     rt: &(impl Files + Print + Eprint + AllocGlobal),
     player: &impl Plays,
-    words: Skip<Args>,
+    mut words: Skip<Args>,
 ) -> io::Result<Option<bool>> {
-    let mut words = words;
     let file = words.next();
     let count = words.next().map(|count| count.as_str().parse::<u32>());
     let (Some(file), Some(Ok(count))) = (file, count) else {
@@ -67,15 +66,17 @@ fn refuse_first(
     Ok(Some(right))
 }
 
-/// The exit status: 0 if each reply was the expected one, else 3. For unknown words it is 2, and the usage is printed.
-pub fn status_of(rt: &impl Eprint, right: Option<bool>, usage: &str) -> u8 {
-    match right {
-        Some(true) => 0,
-        Some(false) => 3,
-        None => {
+/// The exit status: 0 if each reply was the expected one, else 3; 2 for unknown words, for which the usage is printed;
+/// 1 for an error of the player itself, which is printed already.
+pub fn status_of(rt: &impl Eprint, outcome: io::Result<Option<bool>>, usage: &str) -> u8 {
+    match outcome {
+        Ok(Some(true)) => 0,
+        Ok(Some(false)) => 3,
+        Ok(None) => {
             let _ = eprintln!(rt; "usage: {usage}");
             2
         }
+        Err(_) => 1,
     }
 }
 

@@ -41,11 +41,7 @@ impl Plays for Streams {
 }
 
 fn main(rt: HostRuntime) -> ExitCode {
-    match run(&rt) {
-        Ok(right) => ExitCode::from(status_of(&rt, right, USAGE)),
-        // The error is printed already.
-        Err(_) => ExitCode::from(1),
-    }
+    ExitCode::from(status_of(&rt, run(&rt), USAGE))
 }
 
 // Returns whether each reply was the expected one, or None for unknown words.

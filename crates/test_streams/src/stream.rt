@@ -1,4 +1,4 @@
-//! Lines that decode and read, for files that begin with `# with streams`.
+//! Lines that decode and read.
 //!
 //! | Line | Effect and reply |
 //! |---|---|

@@ -1,25 +1,18 @@
 //! One block with references in many threads.
 
+use super::sent::Anything;
 use crate::notes::Notes;
 use std::alloc::Global;
 use std::sync::Arc;
 use std::sync::atomic::{AtomicU64, Ordering};
 use std::test::Fail;
 use std::thread;
-use std::thread::{Promise, PromisedHandle, Threads, yield_now};
+use std::thread::{PromisedHandle, Threads, yield_now};
 use tendril::block::{Atomic, AtomicUpTo, Atomicity, Refusal};
 
 const TWENTY: &[u8] = b"01234567890123456789";
 
 type ThreeHolders = AtomicUpTo<3>;
-
-/// A promise that says nothing about what a thread returns.
-#[derive(Clone, Copy)]
-struct Anything;
-
-impl<T> Promise<T> for Anything {
-    ghost kept_by = { λ _ _. Unit {0} };
-}
 
 fn made<A: Atomicity>(alloc: Global) -> Result<A::Block, Fail> {
     let bytes = Vec::from_slice(alloc, TWENTY)?;

@@ -17,7 +17,7 @@ const LETTERS: &str = "abcdefghijklmnopqrstuvwxyzabcdefghijklmnopqrstuvwxyz";
 
 /// A promise that says nothing about what a thread returns.
 #[derive(Clone, Copy)]
-struct Anything;
+pub(super) struct Anything;
 
 impl<T> Promise<T> for Anything {
     ghost kept_by = { λ _ _. Unit {0} };
